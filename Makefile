@@ -1,4 +1,4 @@
-.PHONY: help demo test check deps service service-test service-race service-engines service-soak service-audit service-clients cluster cluster-status cluster-stop link link-emulated dist install install-library install-ctlog fuzz load sweep wrong sources serve serve-witness programs release reproduce bare container pages
+.PHONY: help demo test check deps service service-test service-race service-engines service-soak histories service-audit service-clients cluster cluster-status cluster-stop link link-emulated dist install install-library install-ctlog fuzz load sweep wrong sources serve serve-witness programs release reproduce bare container pages
 
 SECONDS ?= 60
 RUNS ?= 20
@@ -70,6 +70,11 @@ service-audit: ## has ctserve audit look for MINUTES=60 at a log on a folder tha
 service-soak: ## runs two logs for HOURS=2 while nodes, programs, engines, disks and clients go wrong at random, and judges them every twelve minutes and at the end
 	@checks/needs.sh service
 	@PYTHONDONTWRITEBYTECODE=1 tests/soak.py $(if $(MINUTES),--minutes $(MINUTES),--hours $(or $(HOURS),2)) $(if $(SEED),--seed $(SEED))
+
+# SIM_FIRST=SEED begins at another seed: the output names those that are done. GOMAXPROCS=1 leaves the other processors alone.
+histories: ## simulates HISTORIES=1000000 histories of nodes (internal/sim/README.md), in some two hours of one processor
+	@checks/needs.sh service-test
+	@SIM_HISTORIES=$(or $(HISTORIES),1000000) cmd/build.sh test internal/sim -timeout 24h -v -run '^TestHistories$$'
 
 service-clients: ## has certspotter, Google's client library, x/mod's tlog and ctwatch use a log of ctserve over HTTP, those of them that are installed
 	@checks/needs.sh service

@@ -147,7 +147,7 @@ ELSEWHERE = {
 # The targets that the pages name in their text, also in README.md's tables.
 TARGETS = {
     "make help": HERE, "make test": GATE, "make test TURN=0": GATE, "make sources": GATE, "make service-test": GATE, "make link-emulated": GATE, "make bare": "itself", "make container": "itself", "make pages": "itself",
-    **dict.fromkeys(("make check", "make wrong CRATE=ct_guard", "make service-race", "make service-soak", "make load", "make sweep", "make service-audit", "make service-audit MINUTES=60", "make dist"), LONG),
+    **dict.fromkeys(("make check", "make wrong CRATE=ct_guard", "make service-race", "make service-soak", "make histories", "make load", "make sweep", "make service-audit", "make service-audit MINUTES=60", "make dist"), LONG),
     **dict.fromkeys(("make deps", "make serve", "make demo", "make install", "make release", "make programs", "make link", "make service", "make service-clients",
                      "make service-engines", "make serve-witness", "make cluster", "make fuzz", "make reproduce"), PAGES),
 }

@@ -131,20 +131,8 @@ func (a *auditFlags) options(address string) (options probe.Options, err error) 
 	options = probe.Options{SubmissionURL: address, MonitoringURL: a.monitoring, Schedule: a.schedule,
 		Bounds: probe.Bounds{Availability: a.availability / 100, Latency: a.latency}}
 	options.Schedule.Slow = time.Minute
-	for name, given := range map[string]string{"URL": address, "--monitoring-url": a.monitoring} {
-		if at, err := url.Parse(given); given != "" && (err != nil || at.Scheme != "https" && at.Scheme != "http" ||
-			at.Host == "") {
-			return options, fmt.Errorf("%s %q is no address (write https://HOST/PATH)", name, given)
-		}
-	}
-	for name, given := range map[string]time.Duration{"for": a.schedule.For, "poll-interval": a.schedule.Poll,
-		"submit-interval": a.schedule.Submit, "max-latency": a.latency} {
-		if err := settingsfile.Positive(name, given); err != nil {
-			return options, err
-		}
-	}
-	if !isPercentage(a.availability) {
-		return options, fmt.Errorf("--min-availability %v is no percentage", a.availability)
+	if err := a.check(address); err != nil {
+		return options, err
 	}
 	if options.Submitter, err = a.submitter(); err != nil {
 		return options, err
@@ -159,22 +147,48 @@ func (a *auditFlags) options(address string) (options probe.Options, err error) 
 		}
 		options.Roots = roots.Certificates()
 	}
+	err = a.expects(address, &options)
+	return options, err
+}
+
+// check returns an error if an address or a number among the flags is none.
+func (a *auditFlags) check(address string) error {
+	for name, given := range map[string]string{"URL": address, "--monitoring-url": a.monitoring} {
+		if at, err := url.Parse(given); given != "" && (err != nil || at.Scheme != "https" && at.Scheme != "http" ||
+			at.Host == "") {
+			return fmt.Errorf("%s %q is no address (write https://HOST/PATH)", name, given)
+		}
+	}
+	for name, given := range map[string]time.Duration{"for": a.schedule.For, "poll-interval": a.schedule.Poll,
+		"submit-interval": a.schedule.Submit, "max-latency": a.latency} {
+		if err := settingsfile.Positive(name, given); err != nil {
+			return err
+		}
+	}
+	if !isPercentage(a.availability) {
+		return fmt.Errorf("--min-availability %v is no percentage", a.availability)
+	}
+	return nil
+}
+
+// expects reads what a log list says of the log.
+func (a *auditFlags) expects(address string, options *probe.Options) error {
 	if a.listEntry == "" {
-		return options, nil
+		return nil
 	}
 	content, err := os.ReadFile(a.listEntry)
 	if err != nil {
-		return options, fmt.Errorf("--list-entry: %w", err)
+		return fmt.Errorf("--list-entry: %w", err)
 	}
 	expected, err := probe.ReadExpected(content)
 	if err != nil {
-		return options, fmt.Errorf("--list-entry %s: %w", a.listEntry, err)
+		return fmt.Errorf("--list-entry %s: %w", a.listEntry, err)
 	}
 	options.Expected, options.Source = &expected, a.listEntry
 	if strings.TrimRight(address, "/") == "https://"+expected.Origin {
 		options.MonitoringURL = cmp.Or(a.monitoring, expected.URL)
 	}
-	return options, nil
+	return nil
 }
 
 // submitter returns what makes the chains.

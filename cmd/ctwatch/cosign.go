@@ -54,7 +54,7 @@ func runCosign(ctx context.Context, words []string, out io.Writer) error {
 	if err != nil {
 		return err
 	}
-	asks := witness.Client{One: one, HTTP: &http.Client{Timeout: witnessWithin, CheckRedirect: noRedirect,
+	asks := witness.Client{One: one, HTTP: &http.Client{Timeout: witnessWithin,
 		Transport: &http.Transport{Proxy: http.ProxyFromEnvironment,
 			TLSClientConfig: &tls.Config{MinVersion: tls.VersionTLS12}}}}
 	cosigned, err := audit.Cosign(ctx, reader, head, asks)
@@ -73,9 +73,6 @@ func runCosign(ctx context.Context, words []string, out io.Writer) error {
 	_, err = fmt.Fprintf(out, "%d leaves are cosigned by %s\n", head.TreeSize, alert.Safe(one.Name))
 	return err
 }
-
-// noRedirect refuses a redirect: another host's answer is not the witness's.
-func noRedirect(*http.Request, []*http.Request) error { return http.ErrUseLastResponse }
 
 // acceptedHead returns the head of a log that was accepted last, from the store.
 func acceptedHead(folder string, log watch.Log) (head watch.Head, err error) {

@@ -140,33 +140,15 @@ var (
 // is on the way to the extension is read, so a certificate with odd names is audited as well. That the timestamps are
 // of this certificate, their signatures decide.
 func extension(certificate []byte, id asn1.ObjectIdentifier) (value, tbs []byte, found bool, err error) {
-	const extensionsTag = 3
 	der := cryptobyte.String(certificate)
-	var whole, inner, wrapped, list cryptobyte.String
-	var tbsElement cryptobyte.String
-	if !der.ReadASN1(&whole, cryptobyte_asn1.SEQUENCE) || !der.Empty() || !whole.ReadASN1Element(&tbsElement,
-		cryptobyte_asn1.SEQUENCE) {
+	var whole, element cryptobyte.String
+	if !der.ReadASN1(&whole, cryptobyte_asn1.SEQUENCE) || !der.Empty() ||
+		!whole.ReadASN1Element(&element, cryptobyte_asn1.SEQUENCE) {
 		return nil, nil, false, ErrCertificate
 	}
-	tbs = tbsElement
-	if !tbsElement.ReadASN1(&inner, cryptobyte_asn1.SEQUENCE) {
-		return nil, nil, false, ErrCertificate
-	}
-	for !inner.Empty() {
-		var tag cryptobyte_asn1.Tag
-		var field cryptobyte.String
-		if !inner.ReadAnyASN1(&field, &tag) {
-			return nil, nil, false, ErrCertificate
-		}
-		if tag == cryptobyte_asn1.Tag(extensionsTag).ContextSpecific().Constructed() {
-			wrapped = field
-		}
-	}
-	if wrapped == nil {
-		return nil, tbs, false, nil
-	}
-	if !wrapped.ReadASN1(&list, cryptobyte_asn1.SEQUENCE) {
-		return nil, nil, false, ErrCertificate
+	list, err := extensionsIn(element)
+	if err != nil {
+		return nil, nil, false, err
 	}
 	for !list.Empty() {
 		var one, content cryptobyte.String
@@ -176,10 +158,33 @@ func extension(certificate []byte, id asn1.ObjectIdentifier) (value, tbs []byte,
 			return nil, nil, false, ErrCertificate
 		}
 		if of.Equal(id) {
-			return content, tbs, true, nil
+			return content, element, true, nil
 		}
 	}
-	return nil, tbs, false, nil
+	return nil, element, false, nil
+}
+
+// extensionsIn returns the list of extensions of a TBSCertificate, which is empty if there is none.
+func extensionsIn(tbs cryptobyte.String) (list cryptobyte.String, err error) {
+	const extensionsTag = 3
+	var inner, wrapped cryptobyte.String
+	if !tbs.ReadASN1(&inner, cryptobyte_asn1.SEQUENCE) {
+		return nil, ErrCertificate
+	}
+	for !inner.Empty() {
+		var tag cryptobyte_asn1.Tag
+		var field cryptobyte.String
+		if !inner.ReadAnyASN1(&field, &tag) {
+			return nil, ErrCertificate
+		}
+		if tag == cryptobyte_asn1.Tag(extensionsTag).ContextSpecific().Constructed() {
+			wrapped = field
+		}
+	}
+	if wrapped != nil && !wrapped.ReadASN1(&list, cryptobyte_asn1.SEQUENCE) {
+		return nil, ErrCertificate
+	}
+	return list, nil
 }
 
 // CertificateSCTs returns the timestamps in a certificate in DER (RFC 6962, section 3.3). The error is nil, or wraps

@@ -4,6 +4,7 @@ import (
 	"bytes"
 	"crypto/rsa"
 	"crypto/x509"
+	"crypto/x509/pkix"
 	"encoding/asn1"
 	"encoding/csv"
 	"fmt"
@@ -81,6 +82,30 @@ func TestRootsOfOneName(t *testing.T) {
 	if _, err := c.Certificate([][]byte{signedBy(t, authority("leaf"), authority("root"), &other.PublicKey,
 		other)}); RefusalOf(err) != UnknownRoot {
 		t.Errorf("of none: %v", err)
+	}
+}
+
+// TestForgedIssuersAreNotRead: an issuer that no root signed is refused for that, before crypto/x509 reads it. It would
+// refuse this one, since one of its extensions is there thousands of times.
+func TestForgedIssuersAreNotRead(t *testing.T) {
+	key, forger := newKey(t), newKey(t)
+	root := signedBy(t, authority("root"), authority("root"), &key.PublicKey, key)
+	roots, err := ParseRoots(inPEM(root))
+	if err != nil {
+		t.Fatal(err)
+	}
+	issuer := authority("forged")
+	for range 8000 {
+		issuer.ExtraExtensions = append(issuer.ExtraExtensions, pkix.Extension{Id: asn1.ObjectIdentifier{1, 2, 3}})
+	}
+	chain := [][]byte{signedBy(t, authority("leaf"), issuer, &forger.PublicKey, forger),
+		signedBy(t, issuer, authority("root"), &forger.PublicKey, forger)}
+	c := NewChecker(roots, Rules{}, byASN1{})
+	if _, err := c.Certificate(chain); RefusalOf(err) != UnknownRoot {
+		t.Errorf("an issuer that the root did not sign: %v, and not %s", err, UnknownRoot)
+	}
+	if made := testing.AllocsPerRun(3, func() { _, _ = c.Certificate(chain) }); made > 1000 {
+		t.Errorf("a chain with a forged issuer takes %v allocations", made)
 	}
 }
 

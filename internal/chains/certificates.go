@@ -13,13 +13,13 @@ import (
 	tags "golang.org/x/crypto/cryptobyte/asn1"
 )
 
-// certificate has the fields of a submitted certificate that a log needs (RFC 5280, section 4.1): the issuer, the end
-// of its validity, its extensions, the signed bytes and the signature. It ignores all other fields. So a certificate
-// with a name, an address, a key or an extension that crypto/x509 refuses is logged too.
+// certificate has the fields of a submitted certificate that a log needs (RFC 5280, section 4.1): the issuer, the
+// subject, the validity, its extensions, the signed bytes and the signature. It ignores all other fields. So a
+// certificate with a name, an address, a key or an extension that crypto/x509 refuses is logged too.
 type certificate struct {
-	raw    []byte
-	tbs    []byte
-	issuer []byte
+	raw             []byte
+	tbs             []byte
+	issuer, subject []byte
 	// notBefore and notAfter are the beginning and the end of its validity.
 	notBefore, notAfter time.Time
 	extensions          []extension
@@ -48,8 +48,8 @@ func identifierOf(oid asn1.ObjectIdentifier) []byte {
 // certificateOf returns of an issuer's certificate what is read of the first one of a chain.
 func certificateOf(issuer *x509.Certificate) *certificate {
 	c := &certificate{
-		raw: issuer.Raw, tbs: issuer.RawTBSCertificate, issuer: issuer.RawIssuer, notBefore: issuer.NotBefore,
-		notAfter:  issuer.NotAfter,
+		raw: issuer.Raw, tbs: issuer.RawTBSCertificate, issuer: issuer.RawIssuer, subject: issuer.RawSubject,
+		notBefore: issuer.NotBefore, notAfter: issuer.NotAfter,
 		algorithm: issuer.SignatureAlgorithm, signature: issuer.Signature,
 	}
 	for _, of := range issuer.Extensions {
@@ -123,22 +123,20 @@ func readCertificate(der []byte) (*certificate, error) {
 // readTBS reads the fields of a TBSCertificate. Its signature algorithm must be the one beside it (RFC 5280, section
 // 4.1.1.2), which no signature covers. Otherwise one certificate could be submitted in many forms.
 func (c *certificate) readTBS(tbs, algorithm cryptobyte.String) error {
-	var fields, inner, issuer, validity, ignored, explicit, extensions cryptobyte.String
+	var fields, inner, issuer, validity, subject, explicit cryptobyte.String
 	var has bool
-	if !tbs.ReadASN1(&fields, tags.SEQUENCE) || !fields.SkipOptionalASN1(tagVersion) ||
-		!fields.SkipASN1(tags.INTEGER) ||
+	if !tbs.ReadASN1(&fields, tags.SEQUENCE) || !skipNumbers(&fields) ||
 		!fields.ReadASN1Element(&inner, tags.SEQUENCE) || !fields.ReadASN1Element(&issuer, tags.SEQUENCE) ||
-		!fields.ReadASN1(&validity, tags.SEQUENCE) || !fields.SkipASN1(tags.SEQUENCE) ||
+		!fields.ReadASN1(&validity, tags.SEQUENCE) || !fields.ReadASN1Element(&subject, tags.SEQUENCE) ||
 		!fields.SkipASN1(tags.SEQUENCE) ||
-		!fields.ReadOptionalASN1(&ignored, &has, tagIssuerUnique) ||
-		!fields.ReadOptionalASN1(&ignored, &has, tagSubjectUnique) ||
+		!skipIdentifiers(&fields) ||
 		!fields.ReadOptionalASN1(&explicit, &has, tagExtensions) || !fields.Empty() {
 		return noDER("a TBSCertificate's field")
 	}
 	if !bytes.Equal(inner, algorithm) {
 		return fmt.Errorf("%w: the signature's algorithm differs from the TBSCertificate's", NoCertificate)
 	}
-	c.issuer = issuer
+	c.issuer, c.subject = issuer, subject
 	var err error
 	if c.notBefore, c.notAfter, err = readValidity(validity); err != nil {
 		return err
@@ -146,10 +144,21 @@ func (c *certificate) readTBS(tbs, algorithm cryptobyte.String) error {
 	if !has {
 		return nil
 	}
-	if !explicit.ReadASN1(&extensions, tags.SEQUENCE) || !explicit.Empty() {
-		return noDER("a list of extensions")
+	extensions, err := listIn(explicit)
+	if err != nil {
+		return err
 	}
 	return c.readExtensions(extensions)
+}
+
+// skipNumbers skips the version and the serial number of a TBSCertificate.
+func skipNumbers(fields *cryptobyte.String) bool {
+	return fields.SkipOptionalASN1(tagVersion) && fields.SkipASN1(tags.INTEGER)
+}
+
+// skipIdentifiers skips the unique identifiers of a TBSCertificate.
+func skipIdentifiers(fields *cryptobyte.String) bool {
+	return fields.SkipOptionalASN1(tagIssuerUnique) && fields.SkipOptionalASN1(tagSubjectUnique)
 }
 
 // readValidity returns the beginning and the end of a validity.

@@ -185,28 +185,32 @@ func inDER(issuers []*x509.Certificate) [][]byte {
 
 // check reads a chain. It returns its first certificate and the issuers, the last of which is a root of the log. There
 // are no issuers if the first certificate is a root. It checks signatures from the root down, so it uses only keys that
-// a root has certified.
+// a root has certified. Only then does crypto/x509 read an issuer, which takes a hundred times as long as its signature
+// if it has thousands of extensions.
 func (c *Checker) check(chain [][]byte) (*certificate, []*x509.Certificate, error) {
-	first, issuers, err := parse(chain)
+	all, err := parse(chain)
 	if err != nil {
 		return nil, nil, err
 	}
+	first, last := all[0], len(all)-1
 	if err := c.rules.check(first, time.Now()); err != nil {
 		return nil, nil, err
 	}
-	below := []*certificate{first}
-	for i, issuer := range issuers {
-		if !bytes.Equal(below[i].issuer, issuer.RawSubject) {
+	for i := range last {
+		if !bytes.Equal(all[i].issuer, all[i+1].subject) {
 			return nil, nil, fmt.Errorf("%w: certificate %d", NotIssuedByNext, i)
 		}
-		below = append(below, certificateOf(issuer))
 	}
-	root, err := c.rootOf(below[len(issuers)])
+	root, err := c.rootOf(all[last])
 	if err != nil {
 		return nil, nil, err
 	}
-	for i := len(issuers) - 1; i >= 0; i-- {
-		if err := c.issued(below[i], issuers[i]); err != nil {
+	issuers := make([]*x509.Certificate, last)
+	for i := last - 1; i >= 0; i-- {
+		if issuers[i], err = x509.ParseCertificate(all[i+1].raw); err != nil {
+			return nil, nil, fmt.Errorf("%w: certificate %d: %v", NoCertificate, i+1, err)
+		}
+		if err := c.issued(all[i], issuers[i]); err != nil {
 			return nil, nil, fmt.Errorf("%w: of certificate %d", err, i)
 		}
 	}
@@ -216,37 +220,33 @@ func (c *Checker) check(chain [][]byte) (*certificate, []*x509.Certificate, erro
 	return first, issuers, nil
 }
 
-// parse reads the certificates of a chain, within the bounds: the first as far as a log needs it, and its issuers.
-func parse(chain [][]byte) (*certificate, []*x509.Certificate, error) {
+// parse reads the certificates of a chain, within the bounds, as far as a log needs them.
+func parse(chain [][]byte) ([]*certificate, error) {
 	if len(chain) == 0 {
-		return nil, nil, fmt.Errorf("%w: no certificate", EmptyChain)
+		return nil, fmt.Errorf("%w: no certificate", EmptyChain)
 	}
 	if len(chain) > MaxCertificates {
-		return nil, nil, fmt.Errorf("%w: %d certificates", ChainTooLong, len(chain))
+		return nil, fmt.Errorf("%w: %d certificates", ChainTooLong, len(chain))
 	}
 	total := 0
 	for i, der := range chain {
 		if len(der) > LongestCertificate {
-			return nil, nil, fmt.Errorf("%w: certificate %d of %d bytes", CertificateTooLong, i, len(der))
+			return nil, fmt.Errorf("%w: certificate %d of %d bytes", CertificateTooLong, i, len(der))
 		}
 		total += len(der)
 	}
 	if total > MaxBytes {
-		return nil, nil, fmt.Errorf("%w: %d bytes", ChainTooLong, total)
+		return nil, fmt.Errorf("%w: %d bytes", ChainTooLong, total)
 	}
-	first, err := readCertificate(chain[0])
-	if err != nil {
-		return nil, nil, fmt.Errorf("%w: certificate 0", err)
-	}
-	issuers := make([]*x509.Certificate, 0, len(chain))
-	for i, der := range chain[1:] {
-		issuer, err := x509.ParseCertificate(der)
+	all := make([]*certificate, 0, len(chain))
+	for i, der := range chain {
+		one, err := readCertificate(der)
 		if err != nil {
-			return nil, nil, fmt.Errorf("%w: certificate %d: %v", NoCertificate, i+1, err)
+			return nil, fmt.Errorf("%w: certificate %d", err, i)
 		}
-		issuers = append(issuers, issuer)
+		all = append(all, one)
 	}
-	return first, issuers, nil
+	return all, nil
 }
 
 // rootOf returns the root that issued the last certificate of a chain; nil where it is a root itself.

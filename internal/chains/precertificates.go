@@ -142,11 +142,19 @@ func fieldsOf(fields cryptobyte.String) (before, behind []byte, extensions crypt
 		}
 	}
 	var explicit cryptobyte.String
-	if !fields.ReadASN1(&explicit, tagExtensions) || !fields.Empty() ||
-		!explicit.ReadASN1(&extensions, tags.SEQUENCE) || !explicit.Empty() {
+	if !fields.ReadASN1(&explicit, tagExtensions) || !fields.Empty() {
 		return nil, nil, nil, noDER("a list of extensions")
 	}
-	return before, behind, extensions, nil
+	extensions, err = listIn(explicit)
+	return before, behind, extensions, err
+}
+
+// listIn returns the list that is all of an explicit tag.
+func listIn(explicit cryptobyte.String) (list cryptobyte.String, err error) {
+	if !explicit.ReadASN1(&list, tags.SEQUENCE) || !explicit.Empty() {
+		return nil, noDER("a list of extensions")
+	}
+	return list, nil
 }
 
 // extensionsOf returns the extensions with the authority key identifier of the final issuer, one after the other.

@@ -208,17 +208,9 @@ func (f *folder) note(text string) (head, error) {
 	if err != nil || len(root) != 32 || base64.StdEncoding.EncodeToString(root) != lines[2] {
 		return head{}, wrong("no root")
 	}
-	words := strings.Split(signed[0], " ")
-	if len(words) != 3 || words[0] != "—" || words[1] != lines[0] {
-		return head{}, wrong("the signature is not the origin's")
-	}
-	blob, err := base64.StdEncoding.Strict().DecodeString(words[2])
-	if err != nil || len(blob) < 13 || base64.StdEncoding.EncodeToString(blob) != words[2] {
-		return head{}, wrong("no signature")
-	}
-	id := sha256.Sum256(append([]byte(lines[0]+"\n\x05"), f.logID[:]...))
-	if !bytes.Equal(id[:4], blob[:4]) {
-		return head{}, wrong("the signature is another key's")
+	blob, err := f.signature(lines[0], signed[0])
+	if err != nil {
+		return head{}, err
 	}
 	h := head{size: size, timestamp: binary.BigEndian.Uint64(blob[4:12]), signature: blob[12:]}
 	copy(h.root[:], root)
@@ -226,6 +218,23 @@ func (f *folder) note(text string) (head, error) {
 	message = binary.BigEndian.AppendUint64(message, h.timestamp)
 	message = binary.BigEndian.AppendUint64(message, h.size)
 	return h, f.signed(append(message, root...), h.signature)
+}
+
+// signature reads a line of a signature, which must be the log's.
+func (f *folder) signature(origin, line string) ([]byte, error) {
+	words := strings.Split(line, " ")
+	if len(words) != 3 || words[0] != "—" || words[1] != origin {
+		return nil, wrong("the signature is not the origin's")
+	}
+	blob, err := base64.StdEncoding.Strict().DecodeString(words[2])
+	if err != nil || len(blob) < 13 || base64.StdEncoding.EncodeToString(blob) != words[2] {
+		return nil, wrong("no signature")
+	}
+	id := sha256.Sum256(append([]byte(origin+"\n\x05"), f.logID[:]...))
+	if !bytes.Equal(id[:4], blob[:4]) {
+		return nil, wrong("the signature is another key's")
+	}
+	return blob, nil
 }
 
 // signed checks a DigitallySigned of ECDSA with SHA-256.
@@ -299,45 +308,66 @@ func (f *folder) judgeTiles(size uint64) (count int, err error) {
 		if !strings.HasPrefix(name, "tile/") {
 			continue
 		}
-		words := tileForm.FindStringSubmatch(name)
-		if words == nil {
-			return 0, wrong("%s: that is no tile's name", name)
-		}
-		index, err := strconv.ParseUint(strings.NewReplacer("x", "", "/", "").Replace(words[2]), 10, 40)
+		of, err := tileNamed(name)
 		if err != nil {
-			return 0, wrong("%s: it has no index", name)
+			return 0, err
 		}
-		width := uint64(256)
-		if words[3] != "" {
-			if width, err = strconv.ParseUint(words[3], 10, 8); err != nil || width == 0 {
-				return 0, wrong("%s: it has no width", name)
-			}
-		}
-		if nameOf(words[1], index, width) != name {
-			return 0, wrong("%s is written otherwise", name)
-		}
-		level, defined := 0, []byte(nil)
-		if words[1] != "data" {
-			if level, err = strconv.Atoi(words[1]); err != nil || level > 7 || strconv.Itoa(level) != words[1] {
-				return 0, wrong("%s: it has no level", name)
-			}
-		}
-		if 256*index+width > size>>uint(8*level) {
+		if 256*of.index+of.width > size>>uint(8*of.level) {
 			return 0, wrong("%s has more than the %d leaves of the last head", name, size)
 		}
-		for at := 256 * index; at < 256*index+width; at++ {
-			if words[1] == "data" {
-				defined = append(defined, f.leaves[at].inTile...)
-			} else {
-				defined = append(defined, f.rows[8*level][at][:]...)
-			}
-		}
-		if !bytes.Equal(content, defined) {
+		if !bytes.Equal(content, f.defined(of)) {
 			return 0, wrong("%s is not the tile of the tree", name)
 		}
 		count++
 	}
 	return count, nil
+}
+
+// named is what a tile's name says: a data tile's level is 0.
+type named struct {
+	isData       bool
+	level        int
+	index, width uint64
+}
+
+// tileNamed reads a tile's name, of which there is one form.
+func tileNamed(name string) (of named, err error) {
+	words := tileForm.FindStringSubmatch(name)
+	if words == nil {
+		return of, wrong("%s: that is no tile's name", name)
+	}
+	of = named{isData: words[1] == "data", width: 256}
+	of.index, err = strconv.ParseUint(strings.NewReplacer("x", "", "/", "").Replace(words[2]), 10, 40)
+	if err != nil {
+		return of, wrong("%s: it has no index", name)
+	}
+	if words[3] != "" {
+		if of.width, err = strconv.ParseUint(words[3], 10, 8); err != nil || of.width == 0 {
+			return of, wrong("%s: it has no width", name)
+		}
+	}
+	if nameOf(words[1], of.index, of.width) != name {
+		return of, wrong("%s is written otherwise", name)
+	}
+	if of.isData {
+		return of, nil
+	}
+	if of.level, err = strconv.Atoi(words[1]); err != nil || of.level > 7 || strconv.Itoa(of.level) != words[1] {
+		return of, wrong("%s: it has no level", name)
+	}
+	return of, nil
+}
+
+// defined returns the content of a tile as the leaves define it.
+func (f *folder) defined(of named) (content []byte) {
+	for at := 256 * of.index; at < 256*of.index+of.width; at++ {
+		if of.isData {
+			content = append(content, f.leaves[at].inTile...)
+		} else {
+			content = append(content, f.rows[8*of.level][at][:]...)
+		}
+	}
+	return content
 }
 
 // judgeIssuers sees that every issuer is there, under its own hash.

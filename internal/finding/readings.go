@@ -36,13 +36,13 @@ func isPlain(name wagtenib.Name) bool {
 		text = text[bytes.LastIndexByte(text, '@')+1:]
 	}
 	text, _ = bytes.CutPrefix(text, []byte("*."))
-	for _, one := range text {
-		isLetter := 'a' <= one && one <= 'z' || 'A' <= one && one <= 'Z' || '0' <= one && one <= '9'
-		if !isLetter && one != '.' && one != '-' && one != '_' {
-			return false
-		}
-	}
-	return true
+	return bytes.IndexFunc(text, isNoHostByte) < 0
+}
+
+// isNoHostByte reports whether a name with this sign may be read otherwise.
+func isNoHostByte(one rune) bool {
+	isLetter := 'a' <= one && one <= 'z' || 'A' <= one && one <= 'Z' || '0' <= one && one <= '9'
+	return !isLetter && one != '.' && one != '-' && one != '_'
 }
 
 // readings returns how a name of a certificate may be read as a host beside the library's reading: with the letters

@@ -62,6 +62,17 @@ type Figures struct {
 	// Entries is the size of the newest published head, and HeadAge its age by the machine's clock.
 	Entries uint64
 	HeadAge time.Duration
+	Rounds
+	Answers
+	Janitor
+	Damages
+	Faulting
+	// Witnesses has the state of each witness that cosigns the log's heads.
+	Witnesses []Witness
+}
+
+// Rounds are the figures of the rounds of a node, and of the steps in them.
+type Rounds struct {
 	// Unpublished is the number of entries of the newest known state that are not published yet. SinceRound is the time
 	// since the last successful round. A node without submissions makes a round each second.
 	Unpublished uint64
@@ -69,20 +80,28 @@ type Figures struct {
 	// Steps counts swaps that were won, LostSwaps those that another node was faster with, Unknown those whose outcome
 	// had to be settled by reading the register.
 	Steps, LostSwaps, Unknown uint64
+	// Written counts the bytes that steps put, in their bundles and as objects.
+	Written uint64
+	// Phases are the parts of a step, in their order, and Batches how many submissions steps took in.
+	Phases  []Phase
+	Batches Batches
+}
+
+// Answers are the figures of what a node does without a step of its own, and of its signer.
+type Answers struct {
 	// Repeats counts submissions that were answered with an existing entry. Helped counts the heads of other nodes that
 	// this node published. HandedOver counts submissions that another node answered.
 	Repeats, Helped, HandedOver uint64
 	// SignerStarts counts how often the signer was started, or was found, and WrongSignatures how many of its replies
 	// had a wrong signature.
 	SignerStarts, WrongSignatures uint64
+}
+
+// Janitor are the figures of what is deleted and read again beside the node.
+type Janitor struct {
 	// Swept counts deleted partial tiles, SweptHeads deleted old heads, and Scrubbed data tiles that were read again
 	// and were right.
 	Swept, SweptHeads, Scrubbed uint64
-	// Written counts the bytes that steps put, in their bundles and as objects.
-	Written uint64
-	// Phases are the parts of a step, in their order, and Batches how many submissions steps took in.
-	Phases  []Phase
-	Batches Batches
 	// SweptBundles counts bundles of steps that were deleted since nobody needs them, and Staged is how many there were
 	// when they were listed last.
 	SweptBundles, Staged uint64
@@ -93,6 +112,10 @@ type Figures struct {
 	// SweptTo is up to how many entries no partial tile is left below the full ones, by what this node knows, and
 	// ReadNext is the data tile that it reads again next.
 	SweptTo, ReadNext uint64
+}
+
+// Damages are the figures of objects that are not the log's.
+type Damages struct {
 	// Damaged is the number of data tiles that were missing, unreadable or wrong when they were last read, or have such
 	// a hash tile above them. The log continues. Damage describes one of them in a line.
 	Damaged int
@@ -103,9 +126,11 @@ type Figures struct {
 	// says which was last.
 	Mended     uint64
 	LastMended string
-	// Witnesses has the state of each witness that cosigns the log's heads.
-	Witnesses []Witness
-	// Fault is what keeps the log from going on, in one line; empty where nothing does.
+}
+
+// Faulting are the figures of what keeps the log from going on.
+type Faulting struct {
+	// Fault is what does, in one line; empty where nothing does.
 	Fault string
 	// Faults counts how often something began to keep it from that, and LastFault is the last of it: one may be over
 	// before anybody looks.

@@ -4,7 +4,6 @@ import (
 	"context"
 	"errors"
 	"fmt"
-	"strings"
 	"time"
 
 	"wagtenib/internal/stores"
@@ -78,52 +77,19 @@ func (n *Node) readPublished(ctx context.Context, isBrief bool) (stores.Publishe
 	return n.config.Stores.Lock.Published(ctx)
 }
 
-// headAt reads the head that is published. If no head has that timestamp, it is the newest one of that size, whose
-// timestamp is published now.
+// headAt reads the head that is published. The error is stores.ErrAbsent if none is, or if it was deleted.
 func (n *Node) headAt(ctx context.Context, published stores.Published) (Head, error) {
+	// If nothing is published yet, this is the name of no head. A later head may be in the store already.
 	name := headName(published.Size, published.Timestamp)
-	head, err := Head{}, error(stores.ErrAbsent)
-	if published.Timestamp > 0 {
-		head, err = n.readHead(ctx, name)
-	}
-	if errors.Is(err, stores.ErrAbsent) {
-		if name, err = n.newestOf(ctx, published.Size); err == nil {
-			head, err = n.readHead(ctx, name)
-		}
-	}
-	switch {
-	case err != nil:
+	head, err := n.readHead(ctx, name)
+	if err != nil {
 		return Head{}, err
-	case headName(head.Size, head.Timestamp) != name:
+	}
+	if headName(head.Size, head.Timestamp) != name {
 		return Head{}, fmt.Errorf("%w: %s has the head of %d entries at %d ms", ErrDamaged, name, head.Size,
 			head.Timestamp)
-	case head.published().Before(published):
-		return Head{}, fmt.Errorf("%w: the published head of %d entries at %d ms is missing", ErrDamaged,
-			published.Size, published.Timestamp)
 	}
 	return head, nil
-}
-
-// newestOf returns the name of the newest head of a size.
-func (n *Node) newestOf(ctx context.Context, size uint64) (string, error) {
-	newest, prefix := "", fmt.Sprintf("%s%020d-", headsPrefix, size)
-	for after := prefix; ; after = newest {
-		names, err := n.config.Stores.Objects.List(ctx, headsPrefix, after, stores.MaxListed)
-		if err != nil {
-			return "", fmt.Errorf("node: the heads: %w", err)
-		}
-		ours := 0
-		for ; ours < len(names) && strings.HasPrefix(names[ours], prefix); ours++ {
-			newest = names[ours]
-		}
-		if ours < stores.MaxListed {
-			break
-		}
-	}
-	if newest == "" {
-		return "", fmt.Errorf("node: no head of %d entries is published: %w", size, stores.ErrAbsent)
-	}
-	return newest, nil
 }
 
 // Signature returns the DigitallySigned over the TreeHeadSignature (RFC 6962, section 3.5) of a head, which its note

@@ -25,7 +25,6 @@ const (
 	kindHashTile   = "hash tile"
 	kindDataTile   = "data tile"
 	kindIssuer     = "issuer"
-	kindListed     = "log.v3.json"
 	kindSTH        = "get-sth"
 )
 

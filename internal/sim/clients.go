@@ -4,11 +4,9 @@ import (
 	"crypto/sha256"
 	"errors"
 	"fmt"
-	"strings"
 	"time"
 
 	"wagtenib/internal/node"
-	"wagtenib/internal/signer"
 	"wagtenib/internal/step"
 )
 
@@ -47,6 +45,7 @@ func (w *world) submit(m *machine, number int) error {
 	if !answered {
 		return errUnreachable
 	}
+	w.judge.alarms(m, err)
 	return err
 }
 
@@ -126,40 +125,6 @@ func (w *world) client(c Client, done func()) {
 			w.log("client", fmt.Sprintf("entry %d", number), fmt.Sprintf("%s: %v", w.machines[at].name, err), "")
 			at = w.random.Intn(len(w.machines))
 			w.wait(time.Duration(w.random.Intn(2000))*time.Millisecond, nil)
-		}
-	}
-}
-
-// reader reads the head that each machine shows, now and then.
-func (w *world) reader() {
-	type seen struct {
-		of   *process
-		head signer.Head
-	}
-	last := make([]seen, len(w.machines))
-	for {
-		w.wait(time.Duration(20+w.random.Intn(400))*time.Millisecond, nil)
-		for i, m := range w.machines {
-			if m.process != last[i].of {
-				last[i] = seen{of: m.process}
-			}
-			if m.node == nil || m.node.Snapshot() == nil {
-				continue
-			}
-			now := m.node.Snapshot().Head
-			if w.plan.Janitors && !w.excuses.missing {
-				// A reader may still read a head that it saw before.
-				w.judge.treeOf(now.Head, m.name+" shows a head whose tree is not whole")
-			}
-			if now.Head != last[i].head {
-				if line := cells(m.node.Snapshot().Line + "\nnode -\nsalt " + strings.Repeat("0", 32) +
-					"\n"); line == nil || line.size != now.Size || line.timestamp != now.Timestamp {
-					w.judge.breaks("a reader sees a head with its state",
-						"%s shows the head of %d entries at %d ms with another state", m.name, now.Size, now.Timestamp)
-				}
-				w.judge.read(m, now.Head, string(now.Note), last[i].head)
-			}
-			last[i].head = now.Head
 		}
 	}
 }

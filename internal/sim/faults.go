@@ -2,6 +2,8 @@ package sim
 
 import (
 	"bytes"
+	"crypto/sha256"
+	"encoding/base64"
 	"fmt"
 	"sort"
 	"strings"
@@ -16,11 +18,20 @@ func (w *world) befalls(m *machine, f Fault, store string) *Fault {
 		// A disk of the machine's own either works or fails.
 		f.Kind = CallFails
 	}
-	happened := true
-	switch f.Kind {
-	case CallFails, CallHangs, DoneSaysFailed, AnswersLate, DoneLate, KilledBefore, KilledAfter:
+	if f.Kind <= KilledAfter {
 		w.judge.counts[f.Kind]++
 		return &f
+	}
+	if w.happens(m, f) {
+		w.judge.counts[f.Kind]++
+		w.log("world", f.String(), "", "")
+	}
+	return nil
+}
+
+// happens has a fault happen that is not one call's, and reports whether there was something that it could change.
+func (w *world) happens(m *machine, f Fault) bool {
+	switch f.Kind {
 	case Paused:
 		m.process.pausedUntil = w.now + f.Long
 	case Away:
@@ -36,20 +47,17 @@ func (w *world) befalls(m *machine, f Fault, store string) *Fault {
 		m.offset -= f.Long
 		w.excuses.clock = true
 	case WitnessSays:
-		if happened = len(w.observers) > 0; happened {
-			o := w.observers[f.Count%len(w.observers)]
-			o.says, o.which = 1+f.Count%4, f.Count
+		if len(w.observers) == 0 {
+			return false
 		}
+		o := w.observers[f.Count%len(w.observers)]
+		o.says, o.which = 1+f.Count%4, f.Count
 	case WitnessRolledBack:
-		happened = w.mayRoll() && w.observers[f.Count%len(w.observers)].rollBack(1+f.Count/2)
+		return w.mayRoll() && w.observers[f.Count%len(w.observers)].rollBack(1+f.Count/2)
 	default:
-		happened = w.loses(m, f)
+		return w.loses(m, f)
 	}
-	if happened {
-		w.judge.counts[f.Kind]++
-		w.log("world", f.String(), "", "")
-	}
-	return nil
+	return true
 }
 
 // loses has a store lose what it acknowledged, and reports whether there was something to lose.
@@ -61,10 +69,15 @@ func (w *world) loses(m *machine, f Fault) bool {
 		w.events.losesNext, w.excuses.loss = true, true
 	case NewestLost:
 		happened = w.losesNewest()
+		w.bentAt = w.now
 	case ObjectBent:
-		happened = w.bends(f.Count, "tile/", "staging/")
+		happened = w.bends(f.Count)
 	case HeadForged:
-		happened = w.bends(1, "heads/")
+		happened = w.forgesHead(f.Count)
+		if happened && w.isPublished() {
+			// The newest staged batch has what is signed, so the log must go on.
+			return true
+		}
 	case HeadSwapped:
 		happened = w.swapsHead(f.Count)
 	case EdgeBent:
@@ -95,35 +108,70 @@ func (w *world) losesNewest() bool {
 	for i := len(changes) - 1; i >= 0; i-- {
 		if _, ok := w.stores.objects[changes[i].name]; ok {
 			delete(w.stores.objects, changes[i].name)
-			w.excuses.missing, w.bentAt = true, w.now
+			w.excuses.missing = true
 			return true
 		}
 	}
 	return false
 }
 
-// bends changes a byte of an object.
-func (w *world) bends(which int, prefixes ...string) bool {
-	var names []string
-	for _, prefix := range prefixes {
-		names = append(names, w.stores.list(prefix, "")...)
-	}
+// bends changes a byte of an object that is no head.
+func (w *world) bends(which int) bool {
+	names := append(w.stores.list("tile/", ""), w.stores.list("staging/", "")...)
 	if len(names) == 0 {
 		return false
 	}
 	name := names[len(names)-1-(which-1)%len(names)]
-	content := bytes.Clone(w.stores.objects[name])
-	at := len(content) - 4
-	if strings.HasPrefix(name, "heads/") {
-		// A byte of the signature, so that all else of the head is right.
-		at = bytes.Index(content, []byte("\n\n")) + 2
-		at += bytes.IndexByte(content[at:], '\n') - 11
-	}
+	at := len(w.stores.objects[name]) - 4
 	if at < 0 {
 		return false
 	}
+	w.bendsByte(name, at)
+	return true
+}
+
+// bendsByte changes a byte of an object.
+func (w *world) bendsByte(name string, at int) {
+	content := bytes.Clone(w.stores.objects[name])
 	content[at] ^= 1
 	w.stores.objects[name] = content
+	w.excuses.missing, w.bentAt = true, w.now
+}
+
+// forgesHead has the newest head of the store be one that the log's key never signed, in one of three ways.
+func (w *world) forgesHead(which int) bool {
+	names := w.stores.list("heads/", "")
+	if len(names) < 2 {
+		// A store all of whose heads are another key's is one of another log.
+		return false
+	}
+	name := names[len(names)-1]
+	content := string(w.stores.objects[name])
+	text, signatures, _ := strings.Cut(content, "\n\n")
+	first, others, _ := strings.Cut(signatures, "\n")
+	switch which % 3 {
+	case 0:
+		w.bendsByte(name, len(text)+2+len(first)-11)
+		return true
+	case 1:
+		lines := strings.Split(text, "\n")
+		root := sha256.Sum256([]byte(lines[2]))
+		lines[2] = base64.StdEncoding.EncodeToString(root[:])
+		text = strings.Join(lines, "\n")
+	default:
+		blob, err := base64.StdEncoding.DecodeString(strings.TrimPrefix(first, "— "+Origin+" "))
+		if err != nil {
+			return false
+		}
+		// The key's number, and all of its signature but the timestamp.
+		for i := range blob {
+			if i < 4 || i >= 12 {
+				blob[i] ^= 1
+			}
+		}
+		first = "— " + Origin + " " + base64.StdEncoding.EncodeToString(blob)
+	}
+	w.stores.objects[name] = []byte(text + "\n\n" + first + "\n" + others)
 	w.excuses.missing, w.bentAt = true, w.now
 	return true
 }
@@ -145,10 +193,8 @@ func (w *world) swapsHead(which int) bool {
 
 // bendsEdge changes a byte of a partial tile of the newest head's tree.
 func (w *world) bendsEdge() bool {
-	size, timestamp := w.judge.newest.Size, w.judge.newest.Timestamp
-	if w.stores.published != (stores.Published{Size: size, Timestamp: timestamp}) {
-		// A node may not put another content over the tile of a state that is not published: the lock may have been
-		// rolled back.
+	size := w.judge.newest.Size
+	if !w.isPublished() {
 		return false
 	}
 	name := fmt.Sprintf("tile/data/%03d.p/%d", size/256, size%256)
@@ -158,11 +204,27 @@ func (w *world) bendsEdge() bool {
 		// The newest step had no entries, so its staged batch does not have the tile.
 		return false
 	}
-	content = bytes.Clone(content)
-	content[len(content)-4] ^= 1
-	w.stores.objects[name] = content
-	w.excuses.missing, w.bentAt = true, w.now
+	w.edge = bentEdge{name, content}
+	w.bendsByte(name, len(content)-4)
 	return true
+}
+
+// isPublished reports whether the newest head is published by the lock. A node may not put another content over an
+// object of a state that is not: the lock may have been rolled back.
+func (w *world) isPublished() bool {
+	newest := stores.Published{Size: w.judge.newest.Size, Timestamp: w.judge.newest.Timestamp}
+	return w.stores.published == newest
+}
+
+// bentEdge is a partial tile that the store has bent, and its right content.
+type bentEdge struct {
+	name    string
+	content []byte
+}
+
+// isBent reports whether the store still has it bent.
+func (b bentEdge) isBent(s *memory) bool {
+	return b.name != "" && !bytes.Equal(s.objects[b.name], b.content)
 }
 
 // losesPlaces rolls the index back, and nothing else. An identity whose place is lost may get one more entry.

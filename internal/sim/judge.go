@@ -15,6 +15,7 @@ import (
 	"github.com/transparency-dev/merkle/compact"
 	"github.com/transparency-dev/merkle/rfc6962"
 
+	"wagtenib/internal/node"
 	"wagtenib/internal/signer"
 	"wagtenib/internal/stores"
 )
@@ -47,9 +48,15 @@ func (e *excuses) allows(identity [32]byte) bool {
 
 // Stats are the numbers of a history.
 type Stats struct {
-	Calls, Switches, Heads, Cosigned, Entries, Answers, Repeats, Reads, Starts, Checkpoints int
+	Calls, Switches, Starts int
+	Published
+	// Answers and Repeats count what clients got, and Reads what readers got.
+	Answers, Repeats, Reads int
 	Tidied
 }
+
+// Published counts what was published.
+type Published struct{ Heads, Cosigned, Entries, Checkpoints int }
 
 // Tidied counts what the janitors deleted and read again.
 type Tidied struct{ Deleted, Partials, OldHeads, Staged, Reread int }
@@ -169,7 +176,7 @@ func (j *judge) signs(head signer.Head) {
 
 // swaps judges a step on which the lock decides: it is made of the text before, whose head is published, and its staged
 // batch is in the store.
-func (j *judge) swaps(old, new string) {
+func (j *judge) swaps(by *process, old, new string) {
 	before, after := cells(old), cells(new)
 	if before == nil || after == nil {
 		j.breaks("a step is staged", "the lock gets the text %.60q", new)
@@ -187,6 +194,21 @@ func (j *judge) swaps(old, new string) {
 		!before.isBegin() && !j.w.excuses.missing {
 		j.breaks("a step is made of a published state",
 			"the lock gets the text of %d entries, and the state before has no head", after.size)
+	}
+	j.takes(by, before, after)
+}
+
+// takes judges whether the process that swaps the lock may take a step. A node that started since the log was rolled
+// back with its machines may not, since the witnesses saw more.
+func (j *judge) takes(by *process, before, after *cell) {
+	if j.w.excuses.signed && !by.dead && !before.isBegin() && before.size < j.newest.Size {
+		j.breaks("an old log takes nothing", "the lock gets the text of %d entries, and a head of %d was published",
+			after.size, j.newest.Size)
+	}
+	if after.size == before.size && j.w.edge.isBent(&j.w.stores) {
+		// A node that has the tile in its memory makes a step without entries. The newest staged batch has the tile no
+		// more, so a node that has to read it cannot go on until a step has entries.
+		j.w.excuses.loss = true
 	}
 }
 
@@ -243,6 +265,19 @@ func (j *judge) answered(m *machine, number int, index, timestamp uint64, signed
 	if !j.w.excuses.loss && j.w.stores.published.Size <= index {
 		j.breaks("a promise is under a published head", "%s, and %d entries are published", what,
 			j.w.stores.published.Size)
+	}
+}
+
+// alarms judges why a node does not start, or refuses a submission: it must not say that the log lost something, or was
+// rolled back, if no store lost anything and no witness says so.
+func (j *judge) alarms(m *machine, err error) {
+	if j.w.excuses.loss || j.w.excuses.missing || j.counts[WitnessSays] > 0 {
+		return
+	}
+	for _, of := range []error{node.ErrRolledBack, node.ErrDamaged, node.ErrIndex, signer.ErrState} {
+		if errors.Is(err, of) {
+			j.breaks("no false alarm", "%s says: %v", m.name, err)
+		}
 	}
 }
 

@@ -46,7 +46,8 @@ const (
 	PutLost
 	// NewestLost: the newest object of the store is gone.
 	NewestLost
-	// ObjectBent: an object has another content. HeadForged: a head has a signature that is not the key's.
+	// ObjectBent: an object has another content. HeadForged: the newest head is one that the key never signed: a byte of
+	// its signature is another one, or its root is, or another key signed it.
 	ObjectBent
 	HeadForged
 	// HeadSwapped: the newest head has the content of another head. EdgeBent: a tile at the edge of the newest head's
@@ -87,11 +88,14 @@ func (k Kind) String() string { return kindNames[k] }
 
 // Fault happens at one call of the history.
 type Fault struct {
-	// At is the number of the call, from 1 on, of all calls of all nodes. On is how the call begins: the fault happens
-	// at the first such call from At on.
-	At   int
-	On   string
-	Kind Kind
+	// At is the number of the call, from 1 on, of all calls of all nodes. On is how the call begins, and Of is the number
+	// of the machine that makes it, from 1 on, or 0 if any may. The fault happens at the first such call from At on, and
+	// not before the time After.
+	At    int
+	On    string
+	Of    int
+	After time.Duration
+	Kind  Kind
 	// Long is for how long it lasts, or by how much a clock is set, and Count for how many calls, in tens, a store is
 	// rolled back, or which object is meant.
 	Long  time.Duration
@@ -99,7 +103,14 @@ type Fault struct {
 }
 
 func (f Fault) String() string {
-	return fmt.Sprintf("%s from call %d on, at the first %q (%v, %d)", f.Kind, f.At, f.On, f.Long, f.Count)
+	text := fmt.Sprintf("%s from call %d on, at the first %q", f.Kind, f.At, f.On)
+	if f.Of > 0 {
+		text += fmt.Sprintf(" of node %d", f.Of)
+	}
+	if f.After > 0 {
+		text += fmt.Sprintf(" after %v", f.After)
+	}
+	return fmt.Sprintf("%s (%v, %d)", text, f.Long, f.Count)
 }
 
 // Client submits one after the other. A number that another client or an earlier one had is a repeated chain.
@@ -152,32 +163,10 @@ func NewPlan(seed int64) Plan {
 	for range random.Intn(10) {
 		plan.Faults = append(plan.Faults, newFault(random, Kind(random.Intn(int(PutLost))), 50+60*plan.Machines))
 	}
-	switch random.Intn(10) {
-	case 0, 1, 2, 3:
-		plan.Faults = append(plan.Faults, newFault(random, PutLost+Kind(random.Intn(int(kinds-PutLost))),
-			50+60*plan.Machines))
-	case 4:
-		plan.pausesOne(random)
-	case 5:
-		plan.misplacesOne(random)
-	case 6:
-		plan.rollsAllBack(random)
-	case 7:
-		plan.restarts(random)
+	if plan.special(random) {
+		return plan
 	}
-	next := 0
-	for range 1 + random.Intn(4) {
-		c := Client{Begins: time.Duration(random.Intn(6000)) * time.Millisecond, Machine: random.Intn(plan.Machines)}
-		for range 1 + random.Intn(5) {
-			if next > 0 && random.Intn(4) == 0 {
-				c.Numbers = append(c.Numbers, random.Intn(next))
-				continue
-			}
-			c.Numbers = append(c.Numbers, next)
-			next++
-		}
-		plan.Clients = append(plan.Clients, c)
-	}
+	next := plan.submits(random)
 	if random.Intn(40) == 0 {
 		return plan.clockIsSlow(random)
 	}
@@ -188,12 +177,50 @@ func NewPlan(seed int64) Plan {
 	return plan
 }
 
-// fillsTile has more entries submitted than a tile has, after a few that make partial tiles. Janitors get fewer faults,
-// so that most of these logs go on.
-func (p *Plan) fillsTile(random *rand.Rand, next int) {
-	if p.Janitors {
-		p.Faults = p.Faults[:len(p.Faults)/3]
+// special adds a loss, or faults that belong together, and reports whether the plan is whole with them.
+func (p *Plan) special(random *rand.Rand) bool {
+	switch random.Intn(10) {
+	case 0, 1, 2, 3:
+		p.Faults = append(p.Faults, newFault(random, PutLost+Kind(random.Intn(int(kinds-PutLost))), 50+60*p.Machines))
+	case 4:
+		p.pausesOne(random)
+	case 5:
+		p.misplacesOne(random)
+	case 6:
+		p.rollsAllBack(random)
+	case 7:
+		p.restarts(random)
+	case 8:
+		if random.Intn(4) == 0 {
+			p.looksFirst(random)
+			return true
+		}
 	}
+	return false
+}
+
+// submits adds clients with new entries and repeated ones, and returns the number of the next new one.
+func (p *Plan) submits(random *rand.Rand) (next int) {
+	for range 1 + random.Intn(4) {
+		c := Client{Begins: time.Duration(random.Intn(6000)) * time.Millisecond, Machine: random.Intn(p.Machines)}
+		for range 1 + random.Intn(5) {
+			if next > 0 && random.Intn(4) == 0 {
+				c.Numbers = append(c.Numbers, random.Intn(next))
+				continue
+			}
+			c.Numbers = append(c.Numbers, next)
+			next++
+		}
+		p.Clients = append(p.Clients, c)
+	}
+	return next
+}
+
+// fillsTile has more entries submitted than a tile has, after a few that make partial tiles. Janitors get fewer faults,
+// so that most of these logs go on. A third of these logs lose the full tile when it is put, so that its partial ones are
+// what is left of it. In another third, a node stands still from before the tile is full until its partial ones are
+// deleted, and has then to answer what it knows under the head before.
+func (p *Plan) fillsTile(random *rand.Rand, next int) {
 	burst := Client{Begins: time.Duration(1000+random.Intn(3000)) * time.Millisecond,
 		Machine: random.Intn(p.Machines), Burst: true}
 	for range 250 + random.Intn(25) {
@@ -202,6 +229,21 @@ func (p *Plan) fillsTile(random *rand.Rand, next int) {
 	}
 	p.Clients = append(p.Clients, burst, Client{Begins: burst.Begins + 6*time.Second, Machine: random.Intn(p.Machines),
 		Numbers: []int{0, next, next + 1}})
+	if !p.Janitors {
+		return
+	}
+	p.Faults = p.Faults[:len(p.Faults)/3]
+	switch random.Intn(3) {
+	case 0:
+		p.Faults = []Fault{{At: 1, On: "objects: put tile/data/000 (", Kind: PutLost}}
+	case 1:
+		p.Machines = max(p.Machines, 2)
+		still := (burst.Machine + 1) % p.Machines
+		p.Faults = []Fault{{At: 1, On: "lock: read", Of: still + 1, After: burst.Begins - 900*time.Millisecond,
+			Kind: Paused, Long: 7 * time.Second}}
+		p.Clients = append(p.Clients, Client{Machine: burst.Machine, Numbers: []int{0, 1, 2}},
+			Client{Begins: burst.Begins + 2*time.Second, Machine: still, Numbers: []int{0, 1, 2}, Burst: true})
+	}
 }
 
 // pausesOne pauses a node, and then rolls stores back to about that time. So the state that the node saw last is the
@@ -237,8 +279,8 @@ func (p *Plan) pausesOne(random *rand.Rand) {
 // again.
 func (p *Plan) restarts(random *rand.Rand) {
 	p.Machines = 1 + random.Intn(2)
-	lost := Fault{At: 50 + 30*p.Machines + random.Intn(80), Kind: []Kind{IndexLost, HeadSwapped, EdgeBent,
-		GuardRolledBack, LockRolledBack}[random.Intn(5)], Count: 1 + random.Intn(6)}
+	lost := Fault{At: 50 + 30*p.Machines + random.Intn(80), Kind: []Kind{IndexLost, HeadSwapped, HeadForged, EdgeBent,
+		GuardRolledBack, LockRolledBack}[random.Intn(6)], Count: 1 + random.Intn(6)}
 	lost.On = "lock: read"
 	p.Faults = append(p.Faults[:len(p.Faults)/4], lost)
 	for i := range p.Machines {
@@ -248,6 +290,24 @@ func (p *Plan) restarts(random *rand.Rand) {
 	for i := range p.Machines {
 		p.Clients = append(p.Clients, Client{Machine: i, Numbers: []int{2000 + 10*i, 2001 + 10*i,
 			2002 + 10*i, 2003 + 10*i}})
+	}
+}
+
+// looksFirst has one node publish the first heads of a log, and another one look at a head for the first time after the
+// store lost that one.
+func (p *Plan) looksFirst(random *rand.Rand) {
+	p.Machines, p.Witnesses = 2, Witnesses{}
+	at := 40 + random.Intn(70)
+	p.Faults = []Fault{
+		{At: at, On: "lock: raise", Kind: []Kind{HeadSwapped, HeadForged}[random.Intn(2)], Count: 1 + random.Intn(6)},
+		{At: at, On: "lock: raise", Kind: KilledAfter},
+	}
+	for i := range 2 {
+		c := Client{Begins: time.Duration(100*i+random.Intn(300)) * time.Millisecond}
+		for n := range 2 + random.Intn(3) {
+			c.Numbers = append(c.Numbers, 10*i+n)
+		}
+		p.Clients = append(p.Clients, c)
 	}
 }
 

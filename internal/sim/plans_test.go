@@ -23,12 +23,12 @@ func TestResumedStepReplacesWrongPlace(t *testing.T) {
 		plan := sim.Plan{
 			Seed: int64(which), Machines: 1,
 			Faults: []sim.Fault{
-				{At: 60, On: "lock: read", Kind: sim.IndexWrong, Count: which},
-				{At: 61, On: "index: replace", Kind: sim.KilledBefore},
+				{After: 5 * time.Second, On: "lock: read", Kind: sim.IndexWrong, Count: which},
+				{After: 5 * time.Second, On: "index: replace", Kind: sim.KilledBefore},
 			},
 			Clients: []sim.Client{
-				{Numbers: numbers(0, 4), Burst: true},
-				{Begins: 6 * time.Second, Numbers: numbers(0, 4)},
+				{Begins: 2 * time.Second, Numbers: numbers(0, 4), Burst: true},
+				{Begins: 8 * time.Second, Numbers: numbers(0, 4)},
 				{Begins: 20 * time.Second, Numbers: numbers(0, 4)},
 			},
 		}

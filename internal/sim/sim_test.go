@@ -19,34 +19,56 @@ import (
 // proved are the proved decisions.
 var proved = node.Proved{Decider: decider.New(), Steps: step.New(sim.Origin)}
 
-// count returns how many histories are run: those of the environment's variable, or so many.
-func count(t *testing.T, normal int) int {
+// number returns the number that a variable of the environment has, or the one that counts if it is not set.
+func number(t *testing.T, variable string, normal int64) int64 {
 	t.Helper()
-	text := os.Getenv("SIM_HISTORIES")
+	text := os.Getenv(variable)
 	if text == "" {
 		return normal
 	}
-	n, err := strconv.Atoi(text)
-	if err != nil || n <= 0 {
-		t.Fatalf("SIM_HISTORIES: %q is no number above 0", text)
+	n, err := strconv.ParseInt(text, 10, 64)
+	if err != nil || n < 0 {
+		t.Fatalf("%s: %q is no number of at least 0", variable, text)
 	}
 	return n
 }
+
+// block is how many histories run before the test says how far it is, so that a later run can begin there.
+const block = 10_000
 
 // TestHistories runs the histories of many seeds, on all processors, and explains one that breaks a rule. It prints how
 // often each kind of fault happened.
 func TestHistories(t *testing.T) {
 	began := time.Now()
-	histories := count(t, 300)
+	first, histories := number(t, "SIM_FIRST", 0), number(t, "SIM_HISTORIES", 300)
+	var total sim.Totals
+	for from, end := first, first+histories; from < end && !t.Failed(); from += block {
+		to := min(from+block, end)
+		runHistories(t, from, to, &total)
+		t.Logf("the histories of the seeds %d to %d are run, %.1f a second", first, to-1,
+			float64(to-first)/time.Since(began).Seconds())
+	}
+	t.Logf("%v", &total)
+	if missing := total.Missing(); histories >= 300 && len(missing) > 0 {
+		t.Errorf("faults that never happened: %v", missing)
+	}
+	if s := total.Stats; histories >= 300 &&
+		(s.Partials == 0 || s.OldHeads == 0 || s.Staged == 0 || s.Reread == 0 || s.Cosigned == 0 || s.Checkpoints == 0) {
+		t.Errorf("janitors, witnesses or checkpoints did nothing of a kind: %+v", s)
+	}
+}
+
+// runHistories runs the histories of the seeds up to an end, and adds them to the totals.
+func runHistories(t *testing.T, from, end int64, total *sim.Totals) {
 	var next atomic.Int64
+	next.Store(from)
 	var all sync.WaitGroup
 	var mu sync.Mutex
-	var total sim.Totals
 	for range runtime.GOMAXPROCS(0) {
 		all.Add(1)
 		go func() {
 			defer all.Done()
-			for seed := next.Add(1) - 1; seed < int64(histories) && !t.Failed(); seed = next.Add(1) - 1 {
+			for seed := next.Add(1) - 1; seed < end && !t.Failed(); seed = next.Add(1) - 1 {
 				plan := sim.NewPlan(seed)
 				result := sim.Run(plan, proved, false)
 				if result.Violation != nil {
@@ -63,27 +85,14 @@ func TestHistories(t *testing.T) {
 		}()
 	}
 	all.Wait()
-	t.Logf("%d histories, %.1f a second\n%v", histories, float64(histories)/time.Since(began).Seconds(), &total)
-	if missing := total.Missing(); histories >= 300 && len(missing) > 0 {
-		t.Errorf("faults that never happened: %v", missing)
-	}
-	if s := total.Stats; histories >= 300 &&
-		(s.Partials == 0 || s.OldHeads == 0 || s.Staged == 0 || s.Reread == 0 || s.Cosigned == 0 || s.Checkpoints == 0) {
-		t.Errorf("janitors, witnesses or checkpoints did nothing of a kind: %+v", s)
-	}
 }
 
 // TestOneHistory prints the whole history of one seed, whether a rule is broken or not.
 func TestOneHistory(t *testing.T) {
-	text := os.Getenv("SIM_SEED")
-	if text == "" {
+	if os.Getenv("SIM_SEED") == "" {
 		t.Skip("SIM_SEED says which seed's history is printed")
 	}
-	seed, err := strconv.ParseInt(text, 10, 64)
-	if err != nil {
-		t.Fatalf("SIM_SEED: %q is no number", text)
-	}
-	plan := sim.NewPlan(seed)
+	plan := sim.NewPlan(number(t, "SIM_SEED", 0))
 	result := sim.Run(plan, proved, true)
 	t.Logf("%v\n%s", plan, strings.Join(result.Lines, "\n"))
 	if result.Violation != nil {

@@ -15,18 +15,12 @@ func (w *world) refuses(m *machine) string {
 	if k == nil || w.stores.text == "" {
 		return ""
 	}
+	if why := w.isBehindGuard(k); why != "" {
+		return why
+	}
 	of := fmt.Sprintf("the lock has %d entries at %d ms", k.size, k.timestamp)
 	ahead := func(size, timestamp uint64) bool { return size > k.size || timestamp > k.timestamp }
-	var listed signer.Head
-	if heads := w.stores.list("heads/", ""); len(heads) > 0 {
-		// A name that cannot be read is no head's, so both stay 0.
-		_, _ = fmt.Sscanf(heads[len(heads)-1], "heads/%020d-%020d", &listed.Size, &listed.Timestamp)
-	}
-	guard, err := signer.ReadState(w.stores.guard)
-	if err != nil {
-		return ""
-	}
-	last, published, seen := guard.Last(), w.stores.published, m.remembered
+	listed, published, seen := w.listed(), w.stores.published, m.remembered
 	switch {
 	case ahead(listed.Size, listed.Timestamp):
 		return fmt.Sprintf("%s, and the store has a head of %d at %d ms", of, listed.Size, listed.Timestamp)
@@ -34,13 +28,37 @@ func (w *world) refuses(m *machine) string {
 		return fmt.Sprintf("%s, and %d at %d ms are published", of, published.Size, published.Timestamp)
 	case seen != nil && ahead(seen.Size, seen.Timestamp):
 		return fmt.Sprintf("%s, and the machine remembers %d at %d ms", of, seen.Size, seen.Timestamp)
-	case last != nil && ahead(last.Size, last.Timestamp):
-		return fmt.Sprintf("%s, and %d at %d ms were signed", of, last.Size, last.Timestamp)
-	case last == nil && listed.Timestamp > 0, last != nil &&
-		(last.Size < listed.Size || last.Timestamp < listed.Timestamp):
-		return fmt.Sprintf("the guard is older than the head of %d entries at %d ms", listed.Size, listed.Timestamp)
 	case w.lacksNewest(k, published):
 		return fmt.Sprintf("the index lacks the newest entry, %d", k.size-1)
+	}
+	return ""
+}
+
+// listed returns the size and the timestamp of the newest head in the store, by its name.
+func (w *world) listed() (head signer.Head) {
+	if heads := w.stores.list("heads/", ""); len(heads) > 0 {
+		// A name that cannot be read is no head's, so both stay 0.
+		_, _ = fmt.Sscanf(heads[len(heads)-1], "heads/%020d-%020d", &head.Size, &head.Timestamp)
+	}
+	return head
+}
+
+// isBehindGuard says how the lock is older than the guard's state, or how that is older than the heads in the store.
+func (w *world) isBehindGuard(k *cell) string {
+	guard, err := signer.ReadState(w.stores.guard)
+	if err != nil {
+		return ""
+	}
+	last, listed := signer.Head{}, w.listed()
+	if signed := guard.Last(); signed != nil {
+		last = *signed
+	}
+	switch {
+	case last.Size > k.size || last.Timestamp > k.timestamp:
+		return fmt.Sprintf("the lock has %d entries at %d ms, and %d at %d ms were signed", k.size, k.timestamp, last.Size,
+			last.Timestamp)
+	case last.Size < listed.Size || last.Timestamp < listed.Timestamp:
+		return fmt.Sprintf("the guard is older than the head of %d entries at %d ms", listed.Size, listed.Timestamp)
 	}
 	return ""
 }

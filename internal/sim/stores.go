@@ -28,9 +28,7 @@ type memory struct {
 	objects map[string][]byte
 	// checkpoint is the object that readers without a node follow.
 	checkpoint []byte
-	text       string
-	created    bool
-	published  stores.Published
+	lockState
 	// guard is the text of the guard's state, which is another cell of the lock's engine.
 	guard string
 	// index has the places by identities, and leaves by the hashes of leaves.
@@ -40,6 +38,13 @@ type memory struct {
 	call    int
 	changes [parts][]change
 	denied
+}
+
+// lockState is what the lock's engine has: the text, whether it was ever created, and how far the log is published.
+type lockState struct {
+	text      string
+	created   bool
+	published stores.Published
 }
 
 // denied says until when the stores take nothing, and until when they do not even delete.
@@ -239,7 +244,7 @@ func (l lock) Read(ctx context.Context) (text string, err error) {
 }
 
 func (l lock) Swap(ctx context.Context, old, new string) error {
-	s := &l.m.w.stores
+	s, by := &l.m.w.stores, l.m.process
 	return l.m.call(ctx, "lock", "swap "+short(old)+" for "+short(new), true, func() error {
 		switch s.text {
 		case "":
@@ -247,7 +252,7 @@ func (l lock) Swap(ctx context.Context, old, new string) error {
 		case new:
 			return nil
 		case old:
-			l.m.w.judge.swaps(old, new)
+			l.m.w.judge.swaps(by, old, new)
 			s.setLock(new, s.published)
 			return nil
 		}

@@ -60,29 +60,36 @@ func (j *judge) deletes(name string) {
 		}
 		return
 	}
-	stored, isThere := j.w.stores.objects[name]
 	full, _, isPartial := strings.Cut(name, ".p/")
-	switch {
-	case isPartial:
+	isHead := strings.HasPrefix(name, "heads/")
+	if isPartial {
 		j.stats.Partials++
-	case strings.HasPrefix(name, "heads/"):
+		j.leavesRest(name, full)
+	} else if isHead {
 		j.stats.OldHeads++
 	}
-	if put, ok := j.tiles[full]; ok && isPartial && isThere && !j.w.excuses.tiles && j.w.now > j.w.bentAt+readWithin &&
-		!bytes.Equal(put.last(), j.w.stores.objects[full]) {
-		j.breaks("what is left of a damaged tile stays", "%s is deleted, and %s is missing or bent", name, full)
-	}
+	stored, isThere := j.w.stores.objects[name]
 	if put, ok := j.tiles[name]; j.w.excuses.missing || ok && isThere && !bytes.Equal(put.last(), stored) || !isThere {
 		return
 	}
 	why := "it is no partial tile and no head"
-	if strings.HasPrefix(name, "heads/") {
+	if isHead {
 		why = j.keepsHead(name)
 	} else if isPartial {
 		why = j.keepsPartial(name)
 	}
 	if why != "" {
 		j.breaks("published objects stay", "%s is deleted: %s", name, why)
+	}
+}
+
+// leavesRest judges a partial tile that is deleted: its full one must not be missing or bent.
+func (j *judge) leavesRest(name, full string) {
+	put, ok := j.tiles[full]
+	_, isThere := j.w.stores.objects[name]
+	if ok && isThere && !j.w.excuses.tiles && j.w.now >= j.w.bentAt+readWithin &&
+		!bytes.Equal(put.last(), j.w.stores.objects[full]) {
+		j.breaks("what is left of a damaged tile stays", "%s is deleted, and %s is missing or bent", name, full)
 	}
 }
 
@@ -142,12 +149,12 @@ func (j *judge) keepsPartial(name string) string {
 
 // garbage returns the name of an object that nobody needs any more, or nothing.
 func (j *judge) garbage() string {
-	newest := cells(j.w.stores.text)
+	newest, isWhole := cells(j.w.stores.text), j.hasFullTiles()
 	for _, name := range j.w.stores.list("", "") {
 		full, _, isPartial := strings.Cut(name, ".p/")
 		_, hasFull := j.w.stores.objects[full]
 		switch {
-		case isPartial && hasFull:
+		case isPartial && hasFull && isWhole:
 			return name
 		case strings.HasPrefix(name, "heads/") && j.isOld(name):
 			return name
@@ -161,6 +168,17 @@ func (j *judge) garbage() string {
 		}
 	}
 	return ""
+}
+
+// hasFullTiles reports whether the store has each full tile that was put. Otherwise partial tiles may be what is left of
+// one: a data tile cannot be read without the tile of its hashes.
+func (j *judge) hasFullTiles() bool {
+	for name, put := range j.tiles {
+		if !strings.Contains(name, ".p/") && !bytes.Equal(put.last(), j.w.stores.objects[name]) {
+			return false
+		}
+	}
+	return true
 }
 
 // isOld reports whether a head must be gone by now: another one stood for twice as long as heads stay, and some passes.

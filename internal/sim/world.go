@@ -39,8 +39,9 @@ type observed struct {
 	judge   *judge
 	excuses excuses
 	history history
-	// bentAt is when an object was bent or lost last.
+	// bentAt is when an object that could be read was bent or lost last, and edge the tile that was bent at the edge.
 	bentAt time.Duration
+	edge   bentEdge
 	// stopped is why the log stopped in the end.
 	stopped error
 }
@@ -54,10 +55,11 @@ type events struct {
 	losesNext, calm bool
 }
 
-// due returns the faults that happen at a call, once each.
-func (e *events) due(n int, call string) (now []Fault) {
+// due returns the faults that happen at a call of a machine, once each.
+func (e *events) due(m *machine, n int, call string) (now []Fault) {
 	for i := 0; i < len(e.faults); i++ {
-		if f := e.faults[i]; f.At <= n && strings.HasPrefix(call, f.On) {
+		if f := e.faults[i]; f.At <= n && strings.HasPrefix(call, f.On) && (f.Of == 0 || m == m.w.machines[f.Of-1]) &&
+			f.After <= m.w.now {
 			now = append(now, f)
 			e.faults = slices.Delete(e.faults, i, i+1)
 			i--
@@ -109,7 +111,7 @@ var (
 // newWorld returns the world of a plan.
 func newWorld(plan Plan, proved node.Proved, logs bool) *world {
 	w := &world{plan: plan, proved: proved, events: events{faults: slices.Clone(plan.Faults)}, stores: newMemory(),
-		observed: observed{history: history{isKept: logs}}}
+		observed: observed{history: history{isKept: logs}, bentAt: -readWithin}}
 	w.random = rand.New(rand.NewSource(plan.Seed ^ 0x5deece66d))
 	w.judge, w.excuses.again = newJudge(w), map[[32]byte]bool{}
 	w.newObservers()
@@ -156,6 +158,7 @@ func (m *machine) carry() {
 	if err != nil {
 		m.w.log(m.name, "does not start", err.Error(), "")
 		m.refused = err
+		m.w.judge.alarms(m, err)
 		return
 	}
 	m.node, m.refused = n, nil
@@ -238,7 +241,7 @@ func (m *machine) call(ctx context.Context, store, what string, writes bool, do 
 	w.stores.call = n
 	var fate *Fault
 	if !w.events.calm {
-		for _, f := range w.events.due(n, store+": "+what) {
+		for _, f := range w.events.due(m, n, store+": "+what) {
 			if own := w.befalls(m, f, store); own != nil {
 				fate = own
 			}
@@ -259,32 +262,16 @@ func (m *machine) call(ctx context.Context, store, what string, writes bool, do 
 func (m *machine) befallen(ctx *simulated, store, what string, writes bool, fate *Fault,
 	do func() error) (fault string, err error) {
 	w := m.w
-	kind := kinds
 	if fate != nil {
-		kind, fault = fate.Kind, fate.Kind.String()
-	}
-	switch kind {
-	case CallHangs:
-		_ = w.sleep(ctx, forever)
-		return fault, unknown(ctx.Err())
-	case KilledBefore:
-		m.process.dead = true
-		return fault, errAway
-	case DoneLate:
-		w.spawn(nil, func() {
-			w.wait(ctx.left()+fate.Long, nil)
-			if m.takes(store, writes) == nil {
-				// No caller waits for the outcome any more.
-				w.log("store", what, fmt.Sprint(do()), "done late")
-			}
-		})
-		_ = w.sleep(ctx, forever)
-		return fault, unknown(ctx.Err())
+		fault = fate.Kind.String()
+		if isOver, err := m.isKept(ctx, store, what, writes, fate, do); isOver {
+			return fault, err
+		}
 	}
 	if err := w.sleep(ctx, w.latency()); err != nil {
 		return fault, unknown(err)
 	}
-	if kind == CallFails {
+	if fate != nil && fate.Kind == CallFails {
 		return fault, errFails
 	}
 	if err := m.takes(store, writes); err != nil {
@@ -297,6 +284,39 @@ func (m *machine) befallen(ctx *simulated, store, what string, writes bool, fate
 		w.judge.counts[PutLost]++
 		fault = PutLost.String()
 	}
+	return fault, m.outcome(ctx, fate, err)
+}
+
+// isKept reports whether a call does not reach its store before its caller gives up or is killed, and with which error
+// it ends then.
+func (m *machine) isKept(ctx *simulated, store, what string, writes bool, fate *Fault, do func() error) (bool, error) {
+	w := m.w
+	switch fate.Kind {
+	case CallHangs:
+	case KilledBefore:
+		m.process.dead = true
+		return true, errAway
+	case DoneLate:
+		w.spawn(nil, func() {
+			w.wait(ctx.left()+fate.Long, nil)
+			if m.takes(store, writes) == nil {
+				// No caller waits for the outcome any more.
+				w.log("store", what, fmt.Sprint(do()), "done late")
+			}
+		})
+	default:
+		return false, nil
+	}
+	_ = w.sleep(ctx, forever)
+	return true, unknown(ctx.Err())
+}
+
+// outcome returns what the caller learns of a call that was done with an error or without.
+func (m *machine) outcome(ctx *simulated, fate *Fault, err error) error {
+	kind := kinds
+	if fate != nil {
+		kind = fate.Kind
+	}
 	switch kind {
 	case KilledAfter:
 		m.process.dead = true
@@ -304,15 +324,15 @@ func (m *machine) befallen(ctx *simulated, store, what string, writes bool, fate
 		if err == nil {
 			err = unknown(errFails)
 		}
-		return fault, err
+		return err
 	case AnswersLate:
-		_ = w.sleep(ctx, forever)
-		return fault, unknown(ctx.Err())
+		_ = m.w.sleep(ctx, forever)
+		return unknown(ctx.Err())
 	}
-	if late := w.sleep(ctx, w.latency()/2); late != nil {
-		return fault, unknown(late)
+	if late := m.w.sleep(ctx, m.w.latency()/2); late != nil {
+		return unknown(late)
 	}
-	return fault, err
+	return err
 }
 
 // unknown is an error that does not say whether the call was done.

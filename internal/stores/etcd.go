@@ -7,7 +7,6 @@ import (
 
 	"go.etcd.io/etcd/client/v3"
 	"go.uber.org/zap"
-	"golang.org/x/sync/errgroup"
 )
 
 // Etcd has the endpoints of a cluster, and the prefix of a log's keys in it. TLS settings and user names are in the
@@ -16,13 +15,6 @@ type Etcd struct {
 	Config clientv3.Config
 	Prefix string
 }
-
-const (
-	// maxOperations is how many operations go into one transaction: etcd takes 128 by default.
-	maxOperations = 100
-	// maxConcurrent is how many transactions of one call are made at once.
-	maxConcurrent = 4
-)
 
 // open connects a client. The first call of it finds out whether a member answers.
 func (at Etcd) open() (*members, error) {
@@ -48,23 +40,6 @@ func (at Etcd) open() (*members, error) {
 		return nil, fmt.Errorf("stores: etcd: %w", err)
 	}
 	return newMembers(client), nil
-}
-
-// eachBeside processes a list of n in parts, each in a transaction of its own. The first error ends the other parts. It
-// returns after all parts have ended.
-func eachBeside(ctx context.Context, n int, each func(ctx context.Context, from, to int) error) error {
-	all, ctx := errgroup.WithContext(ctx)
-	all.SetLimit(maxConcurrent)
-	_ = parts(n, maxOperations, func(from, to int) error {
-		all.Go(func() error {
-			if err := ctx.Err(); err != nil {
-				return err
-			}
-			return each(ctx, from, to)
-		})
-		return nil
-	})
-	return all.Wait()
 }
 
 // inEtcd keeps the register in two keys: the text, and the size and the timestamp of the published head.

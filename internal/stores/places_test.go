@@ -9,8 +9,6 @@ import (
 	"path/filepath"
 	"reflect"
 	"strings"
-	"sync"
-	"sync/atomic"
 	"testing"
 	"time"
 
@@ -192,68 +190,6 @@ func TestLeavesAreApart(t *testing.T) {
 		finds(t, at.opened(t).Leaves(), asked, map[Identity]Place{identity(2): other.Place,
 			identity(3): placed(3).Place})
 	})
-}
-
-// TestEachBeside: of a list each part is done once, as many at once as there is room for, and no more.
-func TestEachBeside(t *testing.T) {
-	const parts = 3 * maxConcurrent
-	var mu sync.Mutex
-	beside, most, done := 0, 0, map[int]int{}
-	full := make(chan struct{})
-	must(t, eachBeside(limited(t), parts*maxOperations-1, func(ctx context.Context, from, to int) error {
-		mu.Lock()
-		if beside++; beside > most {
-			most = beside
-		}
-		if done[from] = to; len(done) == maxConcurrent {
-			close(full)
-		}
-		mu.Unlock()
-		select {
-		case <-full:
-		case <-ctx.Done():
-			return ctx.Err()
-		}
-		mu.Lock()
-		defer mu.Unlock()
-		beside--
-		return nil
-	}))
-	if most != maxConcurrent || len(done) != parts {
-		t.Errorf("%d parts, %d of them at once", len(done), most)
-	}
-	for from, to := range done {
-		if from%maxOperations != 0 || to != from+maxOperations && to != parts*maxOperations-1 {
-			t.Errorf("a part from %d to %d", from, to)
-		}
-	}
-}
-
-// TestEachBesideFails: eachBeside returns the first error after the parts that it ended have ended. No part begins
-// after an error, or after the end of the context.
-func TestEachBesideFails(t *testing.T) {
-	first := errors.New("the first")
-	var begun, ended atomic.Int64
-	err := eachBeside(limited(t), 3*maxConcurrent*maxOperations, func(ctx context.Context, from, to int) error {
-		defer ended.Add(1)
-		if begun.Add(1) == maxConcurrent {
-			return first
-		}
-		<-ctx.Done()
-		return ctx.Err()
-	})
-	if err != first || begun.Load() != maxConcurrent || ended.Load() != maxConcurrent {
-		t.Errorf("%v, with %d begun and %d ended", err, begun.Load(), ended.Load())
-	}
-	gone, cancel := context.WithCancel(context.Background())
-	cancel()
-	err = eachBeside(gone, maxOperations, func(context.Context, int, int) error {
-		t.Error("one begins")
-		return nil
-	})
-	if !errors.Is(err, context.Canceled) {
-		t.Errorf("behind the end: %v", err)
-	}
 }
 
 // TestSQLiteEndsWithItsContext: also where another process doesn't let it write.

@@ -111,22 +111,13 @@ func (b *Bucket) ServeHTTP(w http.ResponseWriter, r *http.Request) {
 func (b *Bucket) answer(w http.ResponseWriter, r *http.Request, body []byte) {
 	bucket, name, _ := strings.Cut(strings.TrimPrefix(r.URL.Path, "/"), "/")
 	of, there := b.objects[name]
-	match := r.Header.Get("If-Match")
 	switch {
 	case bucket != Name:
 		fault(w, http.StatusNotFound, "NoSuchBucket")
 	case name == "":
 		b.list(w, r)
-	case r.Method == http.MethodPut && there && b.Conditional && r.Header.Get("If-None-Match") == "*":
-		fault(w, http.StatusPreconditionFailed, "PreconditionFailed")
-	case r.Method == http.MethodPut && b.Matching && match != "" && !there:
-		fault(w, http.StatusNotFound, "NoSuchKey")
-	case r.Method == http.MethodPut && b.Matching && match != "" && match != of.ETag():
-		fault(w, http.StatusPreconditionFailed, "PreconditionFailed")
 	case r.Method == http.MethodPut:
-		put := Object{body, r.Header.Get("Content-Type"), r.Header.Get("Content-Encoding"), r.Header.Get("Cache-Control")}
-		b.objects[name] = put
-		w.Header().Set("ETag", put.ETag())
+		b.put(w, r, name, body)
 	case r.Method == http.MethodDelete:
 		delete(b.objects, name)
 		w.WriteHeader(http.StatusNoContent)
@@ -143,6 +134,25 @@ func (b *Bucket) answer(w http.ResponseWriter, r *http.Request, body []byte) {
 		}
 		// A recorder takes all.
 		_, _ = w.Write(of.Content)
+	}
+}
+
+// put answers a PUT, by its conditions.
+func (b *Bucket) put(w http.ResponseWriter, r *http.Request, name string, body []byte) {
+	of, there := b.objects[name]
+	match := r.Header.Get("If-Match")
+	isMatched := b.Matching && match != ""
+	switch {
+	case there && b.Conditional && r.Header.Get("If-None-Match") == "*":
+		fault(w, http.StatusPreconditionFailed, "PreconditionFailed")
+	case isMatched && !there:
+		fault(w, http.StatusNotFound, "NoSuchKey")
+	case isMatched && match != of.ETag():
+		fault(w, http.StatusPreconditionFailed, "PreconditionFailed")
+	default:
+		put := Object{body, r.Header.Get("Content-Type"), r.Header.Get("Content-Encoding"), r.Header.Get("Cache-Control")}
+		b.objects[name] = put
+		w.Header().Set("ETag", put.ETag())
 	}
 }
 

@@ -5,6 +5,8 @@ import (
 	"errors"
 	"net/http"
 	"time"
+
+	"wagtenib/internal/log"
 )
 
 // healthz says that the process answers.
@@ -54,48 +56,53 @@ func (f *Front) unready(ctx context.Context) error {
 func (f *Front) Tell(ctx context.Context, every time.Duration) {
 	timer := time.NewTicker(every)
 	defer timer.Stop()
-	var fault, damage string
-	var tiles, issuers int
-	var mended, failures, faults, wrong uint64
-	more := map[string]bool{}
+	var before log.Figures
+	seenMore := map[string]bool{}
 	for {
-		figures := f.log.Figures()
-		for _, w := range figures.Witnesses {
-			if w.SeenMore && !more[w.Name] {
-				f.options.Lines.Error("witness-seen-more", "witness", w.Name, "detail", w.Fault)
-			}
-			more[w.Name] = w.SeenMore
-		}
-		if figures.Fault != fault {
-			f.tellOf("fault", fault, figures.Fault)
-		}
-		if figures.Fault == "" && figures.Faults != faults {
-			// (it came and went since the look before)
-			f.tellOf("fault", "", figures.LastFault)
-			f.tellOf("fault", figures.LastFault, "")
-		}
-		if figures.Damage != damage || damage != "" && (figures.Damaged != tiles || figures.DamagedIssuers != issuers) {
-			f.tellOf("damage", damage, figures.Damage, "tiles", figures.Damaged, "issuers", figures.DamagedIssuers)
-		}
-		if figures.TendFailures != failures {
-			f.options.Lines.Warn("tend", "failures", figures.TendFailures-failures, "detail", figures.TendFailure)
-			failures = figures.TendFailures
-		}
-		if figures.WrongSignatures != wrong {
-			f.options.Lines.Error("wrong-signature", "replies", figures.WrongSignatures-wrong)
-			wrong = figures.WrongSignatures
-		}
-		if figures.Mended != mended {
-			f.options.Lines.Warn("made-again", "objects", figures.Mended-mended, "last", figures.LastMended)
-		}
-		fault, damage, tiles, issuers, mended = figures.Fault, figures.Damage, figures.Damaged,
-			figures.DamagedIssuers, figures.Mended
-		faults = figures.Faults
+		now := f.log.Figures()
+		f.tellWitnesses(seenMore, now.Witnesses)
+		f.tellChanges(&before, &now)
+		before = now
 		select {
 		case <-timer.C:
 		case <-ctx.Done():
 			return
 		}
+	}
+}
+
+// tellWitnesses logs which witnesses have seen more since the look before.
+func (f *Front) tellWitnesses(seenMore map[string]bool, witnesses []log.Witness) {
+	for _, w := range witnesses {
+		if w.SeenMore && !seenMore[w.Name] {
+			f.options.Lines.Error("witness-seen-more", "witness", w.Name, "detail", w.Fault)
+		}
+		seenMore[w.Name] = w.SeenMore
+	}
+}
+
+// tellChanges logs what is another thing than at the look before.
+func (f *Front) tellChanges(before, now *log.Figures) {
+	if now.Fault != before.Fault {
+		f.tellOf("fault", before.Fault, now.Fault)
+	}
+	if now.Fault == "" && now.Faults != before.Faults {
+		// (it came and went since the look before)
+		f.tellOf("fault", "", now.LastFault)
+		f.tellOf("fault", now.LastFault, "")
+	}
+	isOther := now.Damaged != before.Damaged || now.DamagedIssuers != before.DamagedIssuers
+	if now.Damage != before.Damage || before.Damage != "" && isOther {
+		f.tellOf("damage", before.Damage, now.Damage, "tiles", now.Damaged, "issuers", now.DamagedIssuers)
+	}
+	if now.TendFailures != before.TendFailures {
+		f.options.Lines.Warn("tend", "failures", now.TendFailures-before.TendFailures, "detail", now.TendFailure)
+	}
+	if now.WrongSignatures != before.WrongSignatures {
+		f.options.Lines.Error("wrong-signature", "replies", now.WrongSignatures-before.WrongSignatures)
+	}
+	if now.Mended != before.Mended {
+		f.options.Lines.Warn("made-again", "objects", now.Mended-before.Mended, "last", now.LastMended)
 	}
 }
 

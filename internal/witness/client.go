@@ -23,13 +23,16 @@ type Client struct {
 func (c Client) Verifier() note.Verifier { return OfCosigner(c.Name, c.Key) }
 
 // AddCheckpoint posts the body of an add-checkpoint request, and returns the status and the beginning of the answer's
-// body. It waits as long as the context lasts.
+// body. It waits as long as the context lasts. It returns a redirect as it is: if it followed one, a witness could have
+// the machine of a log ask any address.
 func (c Client) AddCheckpoint(ctx context.Context, body []byte) (status int, answer string, err error) {
 	q, err := http.NewRequestWithContext(ctx, http.MethodPost, c.URL+"/add-checkpoint", bytes.NewReader(body))
 	if err != nil {
 		return 0, "", fmt.Errorf("witness: %s: %w", c.Name, err)
 	}
-	response, err := c.HTTP.Do(q)
+	asks := *c.HTTP
+	asks.CheckRedirect = func(*http.Request, []*http.Request) error { return http.ErrUseLastResponse }
+	response, err := asks.Do(q)
 	if err != nil {
 		return 0, "", fmt.Errorf("witness: %s: %w", c.Name, err)
 	}

@@ -9,6 +9,7 @@ import (
 	"net/http/httptest"
 	"strconv"
 	"strings"
+	"sync/atomic"
 	"testing"
 	"time"
 
@@ -40,6 +41,28 @@ func TestClientAsksOnce(t *testing.T) {
 	cancel()
 	if _, _, err := c.AddCheckpoint(ended, request(3, nil, signed)); !errors.Is(err, context.Canceled) {
 		t.Errorf("after the context's end: %v", err)
+	}
+}
+
+// TestClientFollowsNoRedirect: a witness that redirects a client has it ask no other address, by no status.
+func TestClientFollowsNoRedirect(t *testing.T) {
+	var asked atomic.Int64
+	elsewhere := httptest.NewServer(http.HandlerFunc(func(http.ResponseWriter, *http.Request) { asked.Add(1) }))
+	defer elsewhere.Close()
+	for _, status := range []int{http.StatusMovedPermanently, http.StatusFound, http.StatusSeeOther,
+		http.StatusTemporaryRedirect, http.StatusPermanentRedirect} {
+		over := httptest.NewServer(http.HandlerFunc(func(w http.ResponseWriter, r *http.Request) {
+			http.Redirect(w, r, elsewhere.URL, status)
+		}))
+		c := Client{One{URL: over.URL, Name: "w.example"}, over.Client()}
+		got, _, err := c.AddCheckpoint(limited(t), []byte("old 0\n"))
+		over.Close()
+		if got != status || err != nil {
+			t.Errorf("a redirect by %d: %d, %v", status, got, err)
+		}
+	}
+	if n := asked.Load(); n != 0 {
+		t.Errorf("the other address was asked %d times", n)
 	}
 }
 

@@ -352,14 +352,15 @@ func (l *Log) Figures() log.Figures {
 	defer l.mutex.Unlock()
 	figures := log.Figures{
 		Queue: len(l.waiting), MaxQueue: l.MaxQueue, Entries: l.tree.head.TreeSize,
-		HeadAge: time.Since(time.UnixMilli(int64(l.tree.head.Timestamp))), LostSwaps: 3, Unpublished: 18,
-		SinceRound: 2500 * time.Millisecond,
-		Swept:      4, SweptHeads: 8, Scrubbed: 5, Damaged: 6, Damage: l.Damage, SignerStarts: 7, WrongSignatures: 22,
-		Written: 16, Phases: []log.Phase{{Name: "stage", Count: 17, Took: 1500 * time.Millisecond}}, SweptBundles: 11,
-		Staged: 12, TendFailures: 13, TendFailure: "nothing is deleted",
-		DamagedIssuers: 9, Mended: 10, LastMended: "issuer/07", SweptTo: 512, ReadNext: 19, Faults: l.faults,
-		LastFault: l.lastFault,
-		Batches:   log.Batches{Steps: 20, Submissions: 21, AtMost: map[int]uint64{1: 18, 8: 20}},
+		HeadAge: time.Since(time.UnixMilli(int64(l.tree.head.Timestamp))),
+		Rounds: log.Rounds{LostSwaps: 3, Unpublished: 18, SinceRound: 2500 * time.Millisecond, Written: 16,
+			Phases:  []log.Phase{{Name: "stage", Count: 17, Took: 1500 * time.Millisecond}},
+			Batches: log.Batches{Steps: 20, Submissions: 21, AtMost: map[int]uint64{1: 18, 8: 20}}},
+		Answers: log.Answers{SignerStarts: 7, WrongSignatures: 22},
+		Janitor: log.Janitor{Swept: 4, SweptHeads: 8, Scrubbed: 5, SweptBundles: 11, Staged: 12, TendFailures: 13,
+			TendFailure: "nothing is deleted", SweptTo: 512, ReadNext: 19},
+		Damages:  log.Damages{Damaged: 6, Damage: l.Damage, DamagedIssuers: 9, Mended: 10, LastMended: "issuer/07"},
+		Faulting: log.Faulting{Faults: l.faults, LastFault: l.lastFault},
 		Witnesses: []log.Witness{{Name: "w.example", Missed: 14, Cosigned: 15, SeenMore: true,
 			Fault: "it has seen 7 entries"}},
 	}

@@ -1,0 +1,43 @@
+package logclient_test
+
+import (
+	"bytes"
+	"encoding/binary"
+	"net/http"
+	"testing"
+
+	"wagtenib/bindings/go/wagtenib"
+	"wagtenib/internal/chains"
+	"wagtenib/internal/logclient"
+	"wagtenib/internal/serve"
+)
+
+// TestReadsTheLargestDataTile reads a full data tile of which each entry has as many bytes as a log of ctserve takes, and
+// as many issuers, and has the library split it.
+func TestReadsTheLargestDataTile(t *testing.T) {
+	var largest []byte
+	for index := range uint64(logclient.TileWidth) {
+		largest = binary.BigEndian.AppendUint64(largest, 1_800_000_000_000+index)
+		largest = append(largest, 0, 0, byte(serve.MaxEntry>>16), byte(serve.MaxEntry>>8&0xff), byte(serve.MaxEntry&0xff))
+		largest = append(largest, bytes.Repeat([]byte{byte(index)}, serve.MaxEntry)...)
+		// The extension leaf_index (C2SP static-ct-api).
+		largest = append(largest, 0, 8, 0, 0, 5)
+		largest = append(largest, binary.BigEndian.AppendUint64(nil, index)[3:]...)
+		largest = binary.BigEndian.AppendUint16(largest, uint16(32*chains.MaxCertificates))
+		largest = append(largest, make([]byte, 32*chains.MaxCertificates)...)
+	}
+	c := client(t, http.HandlerFunc(func(w http.ResponseWriter, _ *http.Request) { _, _ = w.Write(largest) }),
+		logclient.Options{})
+	read := 0
+	err := c.DataTiles(t.Context(), 0, logclient.TileWidth, func(tile logclient.DataTile, _ bool) error {
+		if !bytes.Equal(tile.Bytes, largest) {
+			t.Errorf("of %d bytes it returns %d, or other ones", len(largest), len(tile.Bytes))
+		}
+		entries, err := wagtenib.DataTileLeaves(tile.Bytes)
+		read = len(entries)
+		return err
+	})
+	if err != nil || read != logclient.TileWidth {
+		t.Errorf("a data tile of %d bytes: %d entries, %v", len(largest), read, err)
+	}
+}

@@ -1,0 +1,93 @@
+package sim
+
+import (
+	"fmt"
+	"strings"
+	"time"
+
+	"wagtenib/internal/node"
+	"wagtenib/internal/signer"
+	"wagtenib/internal/stores"
+)
+
+// reading is what readers saw of one run of a node.
+type reading struct {
+	of *process
+	// shown is the head that the node showed last, and newest the one that it returned last as the newest.
+	shown, newest signer.Head
+	// isAsked says that the node is asked for the newest head now.
+	isAsked bool
+}
+
+// askedEach is how many looks at a machine there are for each time that it is asked for the newest head.
+const askedEach = 6
+
+// reader reads the head that each machine shows, now and then, and asks some of them for the newest one.
+func (w *world) reader() {
+	last := make([]*reading, len(w.machines))
+	for {
+		w.wait(time.Duration(20+w.random.Intn(400))*time.Millisecond, nil)
+		for i, m := range w.machines {
+			if last[i] == nil || m.process != last[i].of {
+				last[i] = &reading{of: m.process}
+			}
+			if m.node == nil {
+				continue
+			}
+			if !last[i].isAsked && w.random.Intn(askedEach) == 0 {
+				w.asksNewest(m, last[i])
+			}
+			if now := m.node.Snapshot(); now != nil {
+				w.looksAt(m, *now, last[i])
+			}
+		}
+	}
+}
+
+// looksAt judges the head that a machine shows.
+func (w *world) looksAt(m *machine, now node.Snapshot, last *reading) {
+	w.isWhole(m, now.Head.Head)
+	if now.Head.Head == last.shown {
+		return
+	}
+	if line := cells(now.Line + "\nnode -\nsalt " + strings.Repeat("0", 32) + "\n"); line == nil ||
+		line.size != now.Head.Size || line.timestamp != now.Head.Timestamp {
+		w.judge.breaks("a reader sees a head with its state", "%s shows the head of %d entries at %d ms with another state",
+			m.name, now.Head.Size, now.Head.Timestamp)
+	}
+	w.judge.read(m, now.Head.Head, string(now.Head.Note), last.shown)
+	last.shown = now.Head.Head
+}
+
+// asksNewest asks a machine for the newest head, as who reads the checkpoint over HTTP does, and judges the answer. The
+// answer may be older than what is published only if something went wrong meanwhile.
+func (w *world) asksNewest(m *machine, last *reading) {
+	n := m.node
+	last.isAsked = true
+	w.spawn(m.process, func() {
+		ctx, cancel := within(w.background(), requestWithin)
+		defer cancel()
+		published, counts, isAway := w.stores.published, w.judge.counts, m.away > w.now
+		head, err := n.Newest(ctx)
+		last.isAsked = false
+		if err != nil {
+			return
+		}
+		w.isWhole(m, head.Head)
+		w.judge.read(m, head.Head, string(head.Note), last.newest)
+		last.newest = head.Head
+		isCalm := counts == w.judge.counts && !isAway && !w.excuses.loss
+		if isCalm && (stores.Published{Size: head.Size, Timestamp: head.Timestamp}).Before(published) {
+			w.judge.breaks("a reader gets the newest head", "%s returns the head of %d entries at %d ms, and that of %d at "+
+				"%d ms was published", m.name, head.Size, head.Timestamp, published.Size, published.Timestamp)
+		}
+	})
+}
+
+// isWhole judges whether the tree of a head that a reader gets is in the store, although janitors delete.
+func (w *world) isWhole(m *machine, head signer.Head) {
+	if w.plan.Janitors && !w.excuses.missing {
+		// A reader may still read a head that it saw before.
+		w.judge.treeOf(head, fmt.Sprintf("%s shows a head whose tree is not whole", m.name))
+	}
+}
