@@ -176,7 +176,6 @@ sources: ## looks through the sources, the documents and the scripts of examples
 	@PYTHONDONTWRITEBYTECODE=1 python3 checks/definitions.py
 	@PYTHONDONTWRITEBYTECODE=1 python3 checks/wrong_bodies.py
 	@PYTHONDONTWRITEBYTECODE=1 python3 checks/header.py
-	@PYTHONDONTWRITEBYTECODE=1 python3 checks/layout.py
 	@PYTHONDONTWRITEBYTECODE=1 python3 checks/dist.py --sources
 	@docs/check.sh
 	@PYTHONDONTWRITEBYTECODE=1 python3 tests/scripts.py
