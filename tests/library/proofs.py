@@ -239,6 +239,8 @@ def main():
     try_certificates(comparison, options.calls)
     try_logs(comparison)
     try_made_up(comparison, options.calls)
+    for kind, numbers in ((ROOT, (0,)), (PATH, (0, 0)), (PATH, (8, 7)), (PROOF, (0, 7)), (PROOF, (7, 7))):
+        try_tiles(comparison, kind, numbers, None, lambda contents: contents)
     for kind in (PATH, PROOF):
         comparison.same("the last tile of the largest tree", kind.names(MOST - 1, MOST)[-1], "tile/7/000.p/255")
     comparison.ends(FAULTS)
