@@ -60,16 +60,14 @@ service-engines: ## the same with engines on loopback: those of etcd, PostgreSQL
 service-race: ## the same as service-test, built to tell of data races (go test -race)
 	@cmd/test.sh race
 
-# NODES=2 has two nodes on Ceph's S3 and PostgreSQL behind nginx, which are killed in turn.
 service-audit: ## has ctserve audit look for MINUTES=60 at a log on a folder that is killed each minute
 	@checks/needs.sh service
-	@cmd/build.sh build
-	@tests/audited.sh $(or $(MINUTES),60)
+	@PYTHONDONTWRITEBYTECODE=1 tests/soak.py --folder --kills --minutes $(or $(MINUTES),60)
 
-# As root. HOURS=2 or MINUTES=30, SEED=NUMBER for the choices of another run.
-service-soak: ## runs two logs for HOURS=2 while nodes, programs, engines, disks and clients go wrong at random, and judges them every twelve minutes and at the end
+# SEED=NUMBER repeats the choices of another run.
+service-soak: ## kills and pauses the nodes, the signer, the witnesses and the engines of a log at random for MINUTES=60, and judges the log from outside
 	@checks/needs.sh service
-	@PYTHONDONTWRITEBYTECODE=1 tests/soak.py $(if $(MINUTES),--minutes $(MINUTES),--hours $(or $(HOURS),2)) $(if $(SEED),--seed $(SEED))
+	@PYTHONDONTWRITEBYTECODE=1 tests/soak.py --minutes $(or $(MINUTES),60) $(if $(SEED),--seed $(SEED))
 
 # SIM_FIRST=SEED begins at another seed: the output names those that are done. GOMAXPROCS=1 leaves the other processors alone.
 histories: ## simulates HISTORIES=1000000 histories of nodes (internal/sim/README.md), in some two hours of one processor
@@ -183,7 +181,6 @@ sources: ## looks through the sources, the documents and the scripts of examples
 	@PYTHONDONTWRITEBYTECODE=1 python3 checks/definitions.py
 	@PYTHONDONTWRITEBYTECODE=1 python3 checks/wrong_bodies.py
 	@PYTHONDONTWRITEBYTECODE=1 python3 checks/header.py
-	@PYTHONDONTWRITEBYTECODE=1 python3 checks/layout.py
 	@PYTHONDONTWRITEBYTECODE=1 python3 checks/dist.py --sources
 	@docs/check.sh
 	@PYTHONDONTWRITEBYTECODE=1 python3 tests/scripts.py

@@ -4,8 +4,7 @@
     checking.py [--write]
 
 A page has the claim, its premises, the public contracts as they are in the source, and the text of all definitions that these reach by their imports, leaves
-first (claims.py). Between COUNTED and END of docs/CHECKING.md is a table of numbers of lines; the rest of that page is written by hand. The script prints each
-page that differs from the generated one, and each count that is more than a fifth off, and then ends with status 1. With --write it writes them.
+first (claims.py). The script prints each page that differs from the generated one, and then ends with status 1. With --write it writes them.
 checks/definitions.py runs it too.
 """
 import functools
@@ -17,10 +16,8 @@ from claims import CLAIMS
 from source import CRATES, ROOT, closing, crates, is_for_tests
 from specs import START, body_below, cases
 
-PAGE = ROOT / "docs" / "CHECKING.md"
 PAGES = ROOT / "docs" / "checking"
 MADE = "<!-- Made by checks/checking.py --write: the claims. -->"
-COUNTED = "<!-- Made by checks/checking.py --write: the lines. -->"
 END = "<!-- Made until here. -->"
 
 # A recursion with a bound, which no reader must follow: the laws that are its equations.
@@ -233,53 +230,16 @@ def page(claim):
     return "\n".join([*lines, *definitions(shown), END, ""])
 
 
-# The rows of the table of counts: the name, and a test of the path.
-COUNTS = [
-    ("Specifications: `specs/`, which a reader must believe", lambda path: path.startswith("crates/") and "/specs/" in path),
-    ("Code with its contracts: `src/`", lambda path: re.match(r"crates/(?!\w+_tests/)\w+/src/(?!.*tests\.rt)", path)),
-    ("Proofs: `proofs/`, which the prover checks and nobody must read", lambda path: path.startswith("crates/") and "/proofs/" in path),
-    ("Tests in Rattle", lambda path: path.startswith("crates/") and path.endswith(".rt") and ("_tests/" in path or path.endswith("tests.rt"))),
-    ("Wrong bodies, which the prover refuses", lambda path: path.endswith(".edit")),
-    ("Go that serves, which is not proved", lambda path: path.endswith(".go") and not path.endswith("_test.go")),
-    ("Go that tests it", lambda path: path.endswith("_test.go")),
-    ("Python and shell, which are not proved: examples, tests, checks, measurements", lambda path: path.endswith((".py", ".sh"))),
-]
-
-
-def counts():
-    from documents import files
-
-    sizes = {str(path): sum(1 for line in (ROOT / path).open(errors="replace") if line.strip()) for path in files() if path.suffix in (".rt", ".antt", ".go", ".py", ".sh", ".edit")}
-    lines = ["| Lines that are not empty | |", "|---|---|"]
-    return "\n".join([*lines, *(f"| {what} | {sum(size for path, size in sizes.items() if has(path)):,} |" for what, has in COUNTS)])
-
-
-def between(page, begin):
-    """Returns the page up to this line, the text between it and END, and the rest."""
-    before, line, rest = page.partition(f"{begin}\n")
-    middle, end, behind = rest.partition(f"{END}\n")
-    if not line or not end:
-        sys.exit(f"docs/CHECKING.md lacks the line {begin} or {END}")
-    return before + line, middle, end + behind
-
-
-def near(stands, belongs):
-    """Reports whether two tables of counts have the same rows, and no count is more than a fifth off."""
-    rows = [re.findall(r"^\| (.*) \| ([\d,]+) \|$", text, re.M) for text in (stands, belongs)]
-    numbers = [[int(number.replace(",", "")) for _, number in table] for table in rows]
-    return [what for what, _ in rows[0]] == [what for what, _ in rows[1]] and all(abs(a - b) * 5 <= b for a, b in zip(*numbers))
-
-
 def first_difference(page, stands, belongs):
     ours, theirs = stands.splitlines(), belongs.splitlines()
     for at in range(max(len(ours), len(theirs))):
         pair = [lines[at] if at < len(lines) else "nothing" for lines in (ours, theirs)]
         if pair[0] != pair[1]:
-                return f"{page.relative_to(ROOT)}: {pair[0]}\n  must be: {pair[1]}\n  (checks/checking.py --write writes the page)"
+            return f"{page.relative_to(ROOT)}: {pair[0]}\n  must be: {pair[1]}\n  (checks/checking.py --write writes the page)"
     return f"{page.relative_to(ROOT)} differs in its empty lines (checks/checking.py --write writes the page)"
 
 
-def check_pages(write):
+def check(write):
     """Returns what is wrong with the pages of the claims. With `write` they are written."""
     made = {PAGES / f"{claim.page}.md": page(claim) for claim in CLAIMS}
     found = [f"{path.relative_to(ROOT)} is the page of no claim" for path in sorted(PAGES.glob("*")) if path not in made]
@@ -290,22 +250,6 @@ def check_pages(write):
         return found
     stand = {path: path.read_text() if path.exists() else "" for path in made}
     return found + [first_difference(path, stand[path], text) for path, text in made.items() if stand[path] != text]
-
-
-def check_counts(write):
-    """Returns what is wrong with the table of lines in CHECKING.md. With `write` it is written."""
-    before, stands, after = between(PAGE.read_text(), COUNTED)
-    belongs = f"\n{counts().rstrip()}\n\n"
-    if stands == belongs or near(stands, belongs):
-        return []
-    if not write:
-        return [first_difference(PAGE, stands, belongs)]
-    PAGE.write_text(before + belongs + after)
-    return []
-
-
-def check(write):
-    return check_pages(write) + check_counts(write)
 
 
 def main():

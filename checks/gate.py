@@ -5,12 +5,12 @@
 - ctlog over sessions (tests/sessions.py);
 - all programs while some allocations are refused (tests/sweep.py);
 - a comparison of dist/ with a new build (checks/dist.py);
-- comparisons of the library in dist/ with models (tests/library/guard.py, step.py, witness.py, monitor.py, node.py, names.py, data_tiles.py, texts.py), and
-  of the Rust crate with some of these (tests/library/rust.py);
+- comparisons of the library in dist/ with models (tests/library/guard.py, step.py, witness.py, monitor.py, node.py, names.py, data_tiles.py, texts.py,
+  proofs.py), by the Python package, and of the Rust crate with some of these (tests/library/rust.py);
 - calls of the library without memory (tests/library/refusals.py), with NULL and in many threads (tests/library/replays.py), and over large inputs
   (tests/library/cost.py);
 - a comparison of its build option with the proved code (tests/library/sha_instructions.py);
-- a comparison of the Python package with models (bindings/python/tests/compare.py);
+- a comparison of the Python package with the header (bindings/python/tests/compare.py);
 - the programs in C and the Go, Python and Rust packages for arm64 (tests/library/arm64.py);
 - a crate that the prover must refuse (tests/linear.py);
 - and the parts of the demo (examples/demo.sh).
@@ -68,6 +68,7 @@ OF_DIST = (
     "tests/library/names.py",
     "tests/library/data_tiles.py",
     "tests/library/texts.py",
+    "tests/library/proofs.py",
     "tests/library/refusals.py",
     "tests/library/cost.py",
     "tests/library/replays.py",

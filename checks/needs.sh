@@ -2,14 +2,13 @@
 # Says which tools a target of the Makefile lacks here, and how long it takes on this machine's processors:
 # needs.sh demo|test|check|link|dist|service|service-test. For serve and serve-witness it is needs.sh service-for-serve, and for the service's part of test
 # needs.sh service-for-test. GO=no leaves that part out. deps/fetch.sh fetches what the service lacks; with SETUP=no it only reports it.
-# `needs.sh figures` prints the times on four processors, with which tests/scripts.py compares README.md, and `needs.sh write` writes them there.
 set -u
 cd "$(dirname "$0")/.." || exit
 what=$1
 missing=0
 
 # The processor minutes that a target takes if nothing was proved before: test from a run of the gate, demo from a run of its own, from
-# which link and dist are estimated. After another run, put its figures into this line, and let `needs.sh write` put the times into README.md.
+# which link and dist are estimated. After another run, put its figures into this line, and the times into README.md.
 # shellcheck disable=SC2034
 work_of() { local demo=50 link=50 dist=50 test=180 && echo "${!1}"; }
 
@@ -25,26 +24,6 @@ taken = work if processors == 1 else work * (6 / 5 if what == "test" else 4 / 3)
 print(max(5, math.ceil(round(taken, 3) / 5) * 5))
 END
 }
-
-# The sentence of README.md that says where these times come from.
-whose() { echo "The times are estimates from earlier runs."; }
-
-time_of() { echo "$(minutes "$1" 4) minutes ($(work_of "$1") of one processor)"; }
-
-if [ "$what" = figures ]; then
-  for target in demo test; do
-    echo "make $target: $(time_of $target)"
-  done
-  whose
-  exit
-fi
-if [ "$what" = write ]; then
-  for target in demo test; do
-    sed -i -E "s/^(\| \`make $target\` \|.*\| )[^|]+ \|\$/\1$(time_of $target) |/" README.md
-  done
-  sed -i "s/^The times are estimates .*/$(whose)/" README.md
-  exit
-fi
 
 lacks() {
   echo "make $what lacks $1" >&2
@@ -93,4 +72,4 @@ case $what in
   test) first="everything, from nothing. That" ;;
   *) exit 0 ;;
 esac
-echo "make $what proves $first takes some $(minutes "$what" "$processors") minutes on $on ($(work_of "$what") of one processor), reckoned from earlier runs."
+echo "make $what proves $first takes some $(minutes "$what" "$processors") minutes on $on ($(work_of "$what") of one processor), estimated from earlier runs."

@@ -27,11 +27,15 @@ fail() {
   exit 1
 }
 
-# Says what is proved, in words and by a quotation of the sources, which are on standard input. Nothing is proved of another program.
+# Says what is proved, in words and by a quotation of the sources, whose lines are on standard input. Nothing is proved of another program.
 proved() {
   [ -z "${CTLOG:-}" ] || return 0
   echo "Proved, in $1: $2"
-  sed 's/^/    | /'
+  local line
+  while IFS= read -r line; do
+    grep -qF -- "$line" "$1" || fail "$1 does not say: $line"
+    echo "    | $line"
+  done
 }
 
 # Runs the program on the lines of examples/$2.jsonl with $1 fronts. The replies come to $work/$2, and once more to $work/$2.shown. With several fronts, the

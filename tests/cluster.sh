@@ -1,11 +1,13 @@
 #!/usr/bin/env bash
-# A log on engines, on loopback and in a folder: three members of etcd with its register, PostgreSQL with its index, Ceph's S3 with its objects, NODES=3
-# nodes of ctserve over them, WITNESSES=3 witnesses of its heads (0 for none), a loader and a reader.
+# Runs a log on loopback and in a folder: three members of etcd with its lock, PostgreSQL with its index, Ceph's S3 with its objects, NODES=3 nodes of ctserve
+# over them, WITNESSES=3 witnesses of its heads (0 for none), a loader and a reader.
 #   cluster.sh start FOLDER [PORT]   starts it, or goes on with the one that was stopped there, and says where to look
 #   cluster.sh status FOLDER         says what runs and what it said last
-#   cluster.sh stop FOLDER           ends it; ctcheck judges what it published and answered, and openssl who cosigned its last head
-# RATE=20 is how many submissions the loader sends a second, 0 as many as are answered; LOAD=no starts neither it nor the reader.
-# One signer has the key, for all nodes.
+#   cluster.sh stop FOLDER           ends it; ctcheck judges what it published and answered
+# ENGINES="postgres s3" keeps the lock in PostgreSQL instead, and ENGINES="" keeps all of the log in the folder. FRONT=yes has nginx in front of the nodes, with
+# release/ctserve.nginx.conf. RATE=20 is how many submissions the loader sends a second, 0 as many as are answered; LOAD=no starts neither it nor the reader.
+# BUILD=no takes the programs of cmd/out as they are.
+# One signer has the key, for all nodes. The log accepts the root in root.pem, whose key is in root.key, and the loader's own.
 set -eu
 here=$(cd "$(dirname "$0")" && pwd)
 what=${1:-} folder=${2:-}
@@ -47,14 +49,19 @@ end() {
   kill -KILL "$id"
 }
 
-# addresses: the addresses of the engines, and the arguments by which a node gets them.
+# addresses: the addresses of the engines, and the settings by which a node gets them.
 addresses() {
+  local postgres
   # shellcheck source=/dev/null
   . "$folder/engines/addresses"
-  bucket="${STORES_S3-}/log?tls=no"
-  bucket=${bucket/http:/s3:}
-  register=etcd://${STORES_MEMBERS-}/log
-  places="postgres://log@127.0.0.1:$(sed 's/.*port=\([0-9]*\).*/\1/' <<<"${STORES_POSTGRES-}")/postgres?log=log&sslmode=disable"
+  bucket=$folder/log/objects stores="folder  $folder/log"
+  [ -n "${STORES_S3:-}" ] || return 0
+  bucket="${STORES_S3/http:/s3:}/log?tls=no"
+  postgres="postgres://log@127.0.0.1:$(sed 's/.*port=\([0-9]*\).*/\1/' <<<"$STORES_POSTGRES")/postgres?log=log&sslmode=disable"
+  stores="store  $bucket
+index  $postgres
+lock  ${STORES_MEMBERS:+etcd://$STORES_MEMBERS/log}"
+  [ -n "${STORES_MEMBERS:-}" ] || stores+=$postgres
 }
 
 # numbers KIND: those of the nodes, or of the witnesses.
@@ -78,11 +85,10 @@ nodes-key        $folder/node-$i.key
 nodes-ca         $folder/nodes-ca.pem
 signer-socket    $folder/signer
 roots            $folder/roots.pem
-lock             $register
-index            $places
-store            $bucket
+$stores
 latest-head      $folder/node-$i.latest-head
 max-connections-per-address  500
+trusted-proxies  127.0.0.1
 ${words:+witnesses        $words}
 END_OF_CONF
   chmod 600 "$folder/node-$i.conf"
@@ -108,13 +114,11 @@ END_OF_CONF
 # (the message is after two lines, and its checkpoint after two more: docs/WITNESS.md)
 last_of() { cat "$folder/witness-$1"/*/text | sed -n '3s/^none yet$/0 none/p;6{h;n;H;g;s/\n/ /p;}'; }
 
-# judge: prints which witnesses cosigned the newest published head, and which trees the witnesses cosigned last. It fails if fewer than half of them and one
-# cosigned it, if for fewer it is the last tree, or if one of them cosigned another tree of its size or a larger one.
+# judge: prints which trees the witnesses cosigned last. It fails if for fewer than half of them and one this is the newest published tree, or if one of them
+# cosigned another tree of its size or a larger one.
 judge() {
-  local i head size root at=0 due=$(($(wc -l <"$folder/witnesses") / 2 + 1)) last status=0
-  head=$folder/checkpoint
-  "$here/cosignatures.sh" "$folder/witnesses" "$due" <"$head" || status=1
-  size=$(sed -n 2p "$head") root=$(sed -n 3p "$head")
+  local i size root at=0 due=$(($(wc -l <"$folder/witnesses") / 2 + 1)) last status=0
+  size=$(sed -n 2p "$folder/checkpoint") root=$(sed -n 3p "$folder/checkpoint")
   for i in $(witnesses); do
     last=$(last_of "$i")
     echo "witness-$i cosigned ${last% *} entries last"
@@ -129,13 +133,28 @@ judge() {
   return "$status"
 }
 
+# front PORT: writes nginx's configuration for all nodes. A request goes to another node if one does not answer.
+front() {
+  local i servers="" kind
+  for i in $(nodes); do servers+="server $(sed -n 's/^listen *//p' "$folder/node-$i.conf"); "; done
+  mkdir -p "$folder/nginx"
+  {
+    echo "daemon off; user $(id -un); pid $folder/nginx/pid; error_log $folder/nginx/errors; events {} http {"
+    for kind in client_body proxy fastcgi uwsgi scgi; do echo "${kind}_temp_path $folder/nginx/$kind;"; done
+    sed "/ssl_certificate/d; s/listen 443 ssl http2;/listen 127.0.0.1:$1;/; s/server 127.0.0.1:8618;/$servers/
+      s|proxy_cache_path /var/lib/nginx/ctserve |proxy_cache_path $folder/nginx/tiles |; s/proxy_next_upstream off;/proxy_next_upstream error timeout;/" \
+      "$here/../release/ctserve.nginx.conf"
+    echo "}"
+  } >"$folder/nginx/conf"
+}
+
 start() {
-  local port=${1:-8618} i all="" create="" who nothing roots loaded id words=""
-  "$here/../cmd/build.sh" build
+  local port=${1:-8618} i all="" create="" who nothing roots loaded id words="" engines=${ENGINES-members postgres s3}
+  [ "${BUILD:-}" = no ] || "$here/../cmd/build.sh" build
   mkdir -p "$folder/engines"
-  ENGINES="members postgres s3" PORT=$((port + 30)) "$here/engines.sh" start "$folder/engines"
+  ENGINES=$engines PORT=$((port + 30)) "$here/engines.sh" start "$folder/engines"
   addresses
-  if [ -z "${STORES_MEMBERS:-}" ] || [ -z "${STORES_POSTGRES:-}" ] || [ -z "${STORES_S3:-}" ]; then
+  if [[ $engines == *members* && -z ${STORES_MEMBERS:-} || -n $engines && (-z ${STORES_POSTGRES:-} || -z ${STORES_S3:-}) ]]; then
     "$here/engines.sh" stop "$folder/engines"
     rm -r "$folder/engines"
     exit 1
@@ -145,13 +164,18 @@ start() {
   if [ ! -e "$folder/log.key" ]; then
     (umask 077 && openssl ecparam -name prime256v1 -genkey -noout -out "$folder/log.key")
     openssl ec -in "$folder/log.key" -pubout -out "$folder/log.pem" 2>/dev/null
-    who=${STORES_S3#http://} nothing=$(sha256sum </dev/null | cut -d ' ' -f 1)
-    curl -sS --fail -X PUT --user "${who%@*}" --aws-sigv4 aws:amz:us-east-1:s3 -H "x-amz-content-sha256: $nothing" "http://${who#*@}/log"
+    openssl req -x509 -newkey ec -pkeyopt ec_paramgen_curve:prime256v1 -nodes -days 3650 -subj "/CN=a root" -keyout "$folder/root.key" -out "$folder/root.pem" 2>/dev/null
+    cp "$folder/root.pem" "$folder/roots.pem"
+    if [ -n "${STORES_S3:-}" ]; then
+      who=${STORES_S3#http://} nothing=$(sha256sum </dev/null | cut -d ' ' -f 1)
+      curl -sS --fail -X PUT --user "${who%@*}" --aws-sigv4 aws:amz:us-east-1:s3 -H "x-amz-content-sha256: $nothing" "http://${who#*@}/log"
+    fi
     for i in $(seq 0 $((${WITNESSES:-3} - 1))); do
       made_witness "$i" "$port"
       words+=" http://127.0.0.1:$((port + 7 + i)),$(tail -n 1 "$folder/witnesses")"
     done
     for i in $(seq 0 $((${NODES:-3} - 1))); do node_conf "$i" "$port"; done
+    [ -z "${FRONT:-}" ] || front $((port + 29))
   fi
   for i in $(nodes); do all+=${all:+,}http://$(sed -n 's/^listen *//p' "$folder/node-$i.conf"); done
   if [ "${LOAD:-yes}" = yes ]; then
@@ -162,8 +186,6 @@ start() {
     while [ "$loaded" = no ] && [ "$(stat -c %s "$folder/roots.pem" 2>/dev/null || echo 0)" = "$roots" ]; do sleep 0.05; done
     for i in $(nodes); do ! id=$(process "node-$i") || kill -HUP "$id"; done
   fi
-  # (the loader makes a root of its own)
-  [ -e "$folder/roots.pem" ] || openssl req -x509 -newkey rsa:2048 -nodes -days 3650 -subj "/CN=a root" -keyout "$folder/root.key" -out "$folder/roots.pem" 2>/dev/null
   process signer >/dev/null || rm -f "$folder/signer"
   launch signer "$programs/ctserve" signer --signing-key "$folder/log.key" --guard-state "file:$folder/guard" --listen "$folder/signer" ${create:+"$create"}
   for _ in $(seq 300); do
@@ -184,6 +206,7 @@ start() {
     exit 1
   done
   touch "$folder/made"
+  [ ! -e "$folder/nginx/conf" ] || PATH=$PATH:/usr/sbin launch front nginx -p "$folder/nginx" -c "$folder/nginx/conf"
   [ "${LOAD:-yes}" != yes ] || launch reader "$programs/ctread" --nodes "$all" --origin "$origin" --key "$folder/log.pem"
   cat <<END_OF_TEXT
 A log of ${all//,/, } runs:
@@ -194,8 +217,8 @@ A log of ${all//,/, } runs:
   who reads it  tail -f $folder/reader.log
   who cosigns   $(cut -d + -f 1 "$folder/witnesses" 2>/dev/null | paste -sd ' ')
   the bucket    $bucket
-  etcd          $STORES_MEMBERS
-  PostgreSQL    $STORES_POSTGRES
+  etcd          ${STORES_MEMBERS:-}
+  PostgreSQL    ${STORES_POSTGRES:-}
   a death       kill -9 \$(cut -d ' ' -f 1 $folder/node-0.id); '$0 start $folder' starts what is gone
   its end       $0 stop $folder
 END_OF_TEXT
@@ -210,7 +233,8 @@ is_there() {
 status() {
   local name state names said
   is_there
-  for name in $(nodes | sed 's/^/node-/') $(witnesses | sed 's/^/witness-/') signer loader reader; do
+  for name in $(nodes | sed 's/^/node-/') $(witnesses | sed 's/^/witness-/') signer loader reader front; do
+    [ -e "$folder/$name.id" ] || continue
     state=gone
     ! process "$name" >/dev/null || state=runs
     case $name in
@@ -220,7 +244,7 @@ status() {
     echo "$name $state: $said"
   done
   mapfile -t names <"$folder/engines/names"
-  for name in "${names[@]}"; do
+  for name in ${names[@]+"${names[@]}"}; do
     state=gone
     ! process "engines/$name" >/dev/null || state=runs
     echo "$name $state"
@@ -230,7 +254,13 @@ status() {
 stop() {
   local name status=0 i
   is_there
-  for name in loader reader; do end "$name"; done
+  for name in loader reader; do
+    if [ -e "$folder/$name.id" ] && ! process "$name" >/dev/null; then
+      echo "cluster.sh: the $name ended by itself: $(tail -n 1 "$folder/$name.log")" >&2
+      status=1
+    fi
+    end "$name"
+  done
   rm -f "$folder/checkpoint"
   # (what was submitted last may still come into a head: it is the last one once nothing more is cosigned than is published)
   for _ in $(seq 100); do
@@ -240,7 +270,7 @@ stop() {
     if [ ! -s "$folder/witnesses" ] || [ ! -e "$folder/checkpoint" ] || judge >/dev/null 2>&1; then break; fi
     sleep 0.5
   done
-  for name in $(nodes | sed 's/^/node-/') signer $(witnesses | sed 's/^/witness-/'); do end "$name"; done
+  for name in front $(nodes | sed 's/^/node-/') signer $(witnesses | sed 's/^/witness-/'); do end "$name"; done
   [ ! -s "$folder/witnesses" ] || [ ! -e "$folder/checkpoint" ] || judge || status=1
   tail -qn 1 "$folder/loader.log" "$folder/reader.log" 2>/dev/null || true
   addresses

@@ -73,6 +73,23 @@ class Ranges:
         return self.proof(first, half, end, False) + [self.root(begin, half)]
 
 
+class Tree(Ranges):
+    """The tree of a list of leaves with these hashes. It computes the root of each subtree once."""
+
+    def __init__(self, hashes):
+        self.hashes, self.known = list(hashes), {}
+
+    def root(self, begin, end):
+        """MTH(D[begin : end])."""
+        if (begin, end) not in self.known:
+            if end - begin < 2:
+                self.known[begin, end] = self.hashes[begin] if end > begin else sha256(b"")
+            else:
+                half = begin + split(end - begin)
+                self.known[begin, end] = node_hash(self.root(begin, half), self.root(half, end))
+        return self.known[begin, end]
+
+
 def includes(leaf, index, size, hashes, wanted):
     """Whether the path leads from the leaf at that index to the wanted root (section 2.1.3.2)."""
     if index >= size:

@@ -1,5 +1,5 @@
 #!/usr/bin/env python3
-"""The line that bench_work prints of steps, with only hashlib (tests/tiles/step.py): the last of crates/bench_work/stdout is that of 1000 30 2.
+"""The line that bench_work prints of steps, with only hashlib (tests/tiles/log.py): the last of crates/bench_work/stdout is that of 1000 30 2.
 
     line.py SIZE COUNT STEPS
 """
@@ -9,20 +9,21 @@ import sys
 TESTS = pathlib.Path(__file__).resolve().parent.parent.parent / "tests"
 sys.path += [str(TESTS / "tiles"), str(TESTS)]
 
-from trees import digest  # noqa: E402
 from leaves import Submission  # noqa: E402
+from log import Log  # noqa: E402
+from merkle import sha256  # noqa: E402
 from states import State, written  # noqa: E402
-from step import LEVELS, edge_root, stepped  # noqa: E402
 
 MOMENT, CERTIFICATE, ENTRY = 1000, 1500, 1590
 
 
 def made_up(size):
-    """The line of so many leaves, and the contents of its edge."""
-    rows = [[digest(bytes([level, place])) for place in range((size >> 8 * level) % 256)] for level in LEVELS]
-    data = bytes([7]) * (ENTRY * (size % 256))
-    state = State(size, MOMENT, edge_root(rows), bytes(32), digest(data), bytes(32))
-    return written(state), [b"".join(row) for row in rows if row] + ([data] if size % 256 else [])
+    """A log of so many leaves, of which only the edge exists."""
+    log = Log("", MOMENT, size)
+    log.known = {(level, 256 * index + place): sha256(bytes([level, place])) for level, index, width in log.edge() if level != "data" for place in range(width)}
+    log.data = bytes([7]) * (ENTRY * (size % 256))
+    log.line = written(State(size, MOMENT, log.root(0, size), bytes(32), sha256(log.data), bytes(32)))
+    return log
 
 
 def submission(number):
@@ -32,13 +33,11 @@ def submission(number):
 
 def main():
     size, count, steps = map(int, sys.argv[1:])
-    line, edge = made_up(size)
-    last = line
-    for step in range(steps):
-        batch = [submission(step * count + place) for place in range(count)]
-        _, _, after = stepped(line, edge, MOMENT + 1 + step, batch)
-        last = written(after)
-    print(last)
+    log = made_up(size)
+    # (each step is from the made-up state)
+    if steps:
+        log.step([submission((steps - 1) * count + place) for place in range(count)], MOMENT + steps)
+    print(log.line)
 
 
 if __name__ == "__main__":

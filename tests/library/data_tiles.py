@@ -1,36 +1,22 @@
 #!/usr/bin/env python3
 """Compares the entries that libwagtenib reads of data tiles, and its comparison of a tile with its name, as gcc makes it of dist/, with a model over random tiles.
 
-    data_tiles.py [--calls 100000] [--seed 1]
+    data_tiles.py [--calls 50000] [--seed 1]
 
 The model is written from C2SP static-ct-api ("Log Entries") and RFC 6962 (section 3.4). Most tiles are damaged in one of many ways. The entries, or the first fault and
-the index of its entry, must be the model's, and the memory after a call must be as include/wagtenib.h says. Each fault must come at least once. Without gcc for this
-processor it says so.
+the index of its entry, must be the model's. Each fault must come at least once. Without gcc for this processor it says so.
 """
-import argparse
-import collections
-import ctypes
-import pathlib
-import platform
-import random
 import re
-import shutil
-import sys
 
-ROOT = pathlib.Path(__file__).resolve().parents[2]
-sys.path.insert(0, str(ROOT / "bindings" / "python"))
-# (the folder above is on the path only now)
-import wagtenib  # noqa: E402
-from wagtenib import Code, _library  # noqa: E402
+from comparing import Fault, begin, wagtenib
 
+# The faults of an entry, and those of a tile and its name. Each must come at least once.
 FAULTS = {"TRUNCATED", "BAD_ENTRY_TYPE", "EMPTY_VECTOR", "PARTIAL_FINGERPRINT"}
-FILL, UNTOUCHED = b"\x5a", 12345
-# The answers about a tile and its name, each of which must come at least once.
-ANSWERS = {"OK", "NO_DATA_TILE", "TILE_AFTER", "TILE_BEFORE", "OTHER_ENTRIES", "WRONG_INDEX"}
+ANSWERS = {"NO_DATA_TILE", "TILE_AFTER", "TILE_BEFORE", "OTHER_ENTRIES", "WRONG_INDEX"}
 NAME = re.compile(r"tile/data/((?:x\d{3}/)*\d{3})(?:\.p/([1-9]\d?\d?))?")
 
 
-class Fault(Exception):
+class BadEntry(Exception):
     """The first fault of an entry, by its name in the header."""
 
 
@@ -85,7 +71,7 @@ class Reader:
 
     def take(self, count):
         if self.at + count > len(self.tile):
-            raise Fault("TRUNCATED")
+            raise BadEntry("TRUNCATED")
         self.at += count
         return self.tile[self.at - count : self.at]
 
@@ -95,7 +81,7 @@ class Reader:
     def certificate(self):
         size = self.number(3)
         if not size:
-            raise Fault("EMPTY_VECTOR")
+            raise BadEntry("EMPTY_VECTOR")
         return self.take(size)
 
 
@@ -105,7 +91,7 @@ def read_entry(reader):
     reader.take(8)
     kind = reader.number(2)
     if kind > 1:
-        raise Fault("BAD_ENTRY_TYPE")
+        raise BadEntry("BAD_ENTRY_TYPE")
     if kind:
         reader.take(32)
     submitted = reader.certificate()
@@ -115,64 +101,32 @@ def read_entry(reader):
         submitted = reader.certificate()
     size = reader.number(2)
     if size % 32:
-        raise Fault("PARTIAL_FINGERPRINT")
+        raise BadEntry("PARTIAL_FINGERPRINT")
     fingerprints = reader.take(size)
-    return leaf, submitted, tuple(fingerprints[i : i + 32] for i in range(0, size, 32))
+    return wagtenib.TileEntry(leaf, submitted, tuple(fingerprints[i : i + 32] for i in range(0, size, 32)))
 
 
 def read_by_model(tile):
-    """The entries, or the name of the first fault and the index of its entry."""
+    """The entries, or the first fault with the index of its entry."""
     reader, entries = Reader(tile), []
     while reader.at < len(tile):
         try:
             entries.append(read_entry(reader))
-        except Fault as fault:
-            return fault.args[0], len(entries)
+        except BadEntry as fault:
+            return Fault(fault.args[0], len(entries))
     return entries
 
 
-def read_here(tile):
-    """The same by the library."""
-    try:
-        return [(one.leaf, one.submitted, one.issuers) for one in wagtenib.data_tile_leaves(tile)]
-    except wagtenib.TileError as fault:
-        return fault.name, fault.entry
-
-
-def memory_is_right(tile, due, room):
-    """The rule of the header that a call over memory with so much room breaks, or None."""
-    index, length = ctypes.c_uint64(UNTOUCHED), ctypes.c_uint64(UNTOUCHED)
-    memory = ctypes.create_string_buffer(FILL * (room + 1), room + 1)
-    code = _library.load().wagtenib_data_tile_leaves(tile, len(tile), memory, room, ctypes.byref(length), ctypes.byref(index))
-    is_fault = isinstance(due, tuple)
-    needed = 0 if is_fault else sum(40 + len(leaf) for leaf, _, _ in due)
-    if code != (Code[due[0]] if is_fault else 9 if needed > room else 0):
-        return f"returns {code}"
-    if index.value != (due[1] if is_fault else UNTOUCHED):
-        return f"writes the index {index.value} with {code}"
-    if length.value != (UNTOUCHED if is_fault else needed):
-        return f"writes the length {length.value} with {code}"
-    if memory.raw[length.value if code == 0 else 0 :].strip(FILL):
-        return f"writes more than its output with {code}"
-    if needed > len(tile) + 40 * (0 if is_fault else len(due)):
-        return f"needs {needed} bytes of room for a tile of {len(tile)}"
-    return None
-
-
-def compare(source, tried):
+def compare(comparison):
     """Compares one tile."""
+    source = comparison.chance
     tile = b"".join(entry(source) for _ in range(source.choice([0, 1, 1, 2, 3, 5])))
     if source.random() < 0.6:
         tile = damaged(source, tile)
-    due, got = read_by_model(tile), read_here(tile)
-    if got != due:
-        sys.exit(f"tests/library/data_tiles.py: {tile.hex()} gave {got}, and is to give {due}")
-    whole = 0 if isinstance(due, tuple) else sum(40 + len(leaf) for leaf, _, _ in due)
-    wrong = memory_is_right(tile, due, source.choice([0, 8, max(whole - 1, 0), whole, whole + 40, 5000]))
-    if wrong:
-        sys.exit(f"tests/library/data_tiles.py: a call over {tile.hex()} {wrong}")
-    tried[due[0] if isinstance(due, tuple) else "entries"] += 1
-    tried["read"] += 0 if isinstance(due, tuple) else len(due)
+    due = read_by_model(tile)
+    if not isinstance(due, Fault) and sum(40 + len(one.leaf) for one in due) > len(tile) + 40 * len(due):
+        comparison.fail(f"the tile {tile.hex()} needs more room than the header says")
+    comparison.call(tile.hex(), due, lambda: wagtenib.data_tile_leaves(tile))
 
 
 def name_of(index, width):
@@ -194,29 +148,30 @@ def named(name):
 
 
 def compared_by_model(name, after, tile):
-    """The answer about a tile, and the index that comes with it, or None."""
+    """None if it is the tile of this name, or the fault with the index that comes with it."""
     of = named(name)
     if of is None:
-        return "NO_DATA_TILE", None
+        return Fault("NO_DATA_TILE")
     first, width = 256 * of[0], of[1]
     if after < first:
-        return "TILE_AFTER", None
+        return Fault("TILE_AFTER")
     if after >= first + width:
-        return "TILE_BEFORE", None
+        return Fault("TILE_BEFORE")
     entries = read_by_model(tile)
-    if isinstance(entries, tuple):
+    if isinstance(entries, Fault):
         return entries
     if len(entries) != width:
-        return "OTHER_ENTRIES", len(entries)
+        return Fault("OTHER_ENTRIES", len(entries))
     for index in range(after, first + width):
         # (the extensions end the leaf)
-        if not entries[index - first][0].endswith(opaque(2, extension(index))):
-            return "WRONG_INDEX", index
-    return "OK", None
+        if not entries[index - first].leaf.endswith(opaque(2, extension(index))):
+            return Fault("WRONG_INDEX", index)
+    return None
 
 
-def compare_name(source, tried):
+def compare_name(comparison):
     """Compares one tile with its name."""
+    source = comparison.chance
     index, width = source.choice([0, 1, 999, 1000, 1234567, (1 << 32) - 1]), source.choice([1, 2, 3, 5])
     first = 256 * index
     written = [first + i for i in range(width + source.choice([0, 0, 0, 0, -1, 1]))]
@@ -230,29 +185,16 @@ def compare_name(source, tried):
         name = source.choice([name[:at] + name[at + 1 :], name[:at] + source.choice("0x/.p19") + name[at:], name.replace("data", "0"), name_of(index, 256) + ".p/256"])
     after = max(0, first + source.choice([0, 0, 0, width - 1, width, -1, source.randrange(width)]))
     due = compared_by_model(name, after, tile)
-    position = ctypes.c_uint64(UNTOUCHED)
-    text = name.encode()
-    code = _library.load().wagtenib_compare_data_tile(text, len(text), after, tile, len(tile), ctypes.byref(position))
-    if (code, position.value) != (0 if due[0] == "OK" else Code[due[0]], UNTOUCHED if due[1] is None else due[1]):
-        sys.exit(f"tests/library/data_tiles.py: {name} from {after} on with {tile.hex()} gave {code} and {position.value}, and is to give {due}")
-    tried[f"{due[0]} of a name"] += 1
+    comparison.came[f"{due.name if due else None} of a name"] += 1
+    comparison.call(f"{name} from {after} on with {tile.hex()}", due, lambda: wagtenib.compare_data_tile(name, after, tile))
 
 
 def main():
-    parser = argparse.ArgumentParser()
-    parser.add_argument("--calls", type=int, default=100_000)
-    parser.add_argument("--seed", type=int, default=1)
-    words = parser.parse_args()
-    if not shutil.which("gcc") or platform.machine() not in _library.PROCESSORS:
-        print("tests/library/data_tiles.py: nothing was compared: there is no gcc for a processor of dist/")
-        return
-    source, tried = random.Random(words.seed), collections.Counter()
-    for _ in range(words.calls):
-        compare(source, tried)
-        compare_name(source, tried)
-    if missing := (FAULTS | {f"{answer} of a name" for answer in FAULTS | ANSWERS}) - set(tried):
-        sys.exit(f"tests/library/data_tiles.py: {words.calls} tiles had none of {sorted(missing)}")
-    print(f"tests/library/data_tiles.py: {words.calls} tiles with {tried['read']} entries, and {sum(tried[one] for one in FAULTS)} faults, and as many names, as the model has them")
+    options, comparison = begin("tests/library/data_tiles.py", 50_000)
+    for _ in range(options.calls):
+        compare(comparison)
+        compare_name(comparison)
+    comparison.ends(FAULTS | {f"{answer} of a name" for answer in FAULTS | ANSWERS | {None}})
 
 
 if __name__ == "__main__":

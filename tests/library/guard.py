@@ -4,36 +4,38 @@
     guard.py [--calls 10000] [--seed 1]
 
 Each call is made over the state that the call before it left, or over a damaged one, and for a head, a receipt or a state that is right or wrong in one of many
-ways. guard.c makes the calls, and the code and the bytes that are written must be the model's. Each code of the guard that a call can return must come at least once.
-Without gcc for this processor it says so.
+ways. Each code of the guard that a call can return must come at least once. Without gcc for this processor it says so.
 """
-import argparse
-import collections
-import pathlib
-import platform
 import random
-import re
-import shutil
 import struct
-import subprocess
 import sys
-import tempfile
 
-HERE = pathlib.Path(__file__).resolve().parent
-TESTS, ROOT = HERE.parent, HERE.parent.parent
-sys.path[:0] = [str(TESTS), str(TESTS / "guard")]
-# (the folders above are on the path only now)
+from comparing import TESTS, Code, Fault, begin, wagtenib
+from merkle import Tree, leaf_hash, sha256
+
+sys.path.insert(0, str(TESTS / "guard"))
+# (the folder above is on the path only now)
 import model  # noqa: E402
-from history import Log, leaf  # noqa: E402
-from merkle import sha256  # noqa: E402
 
-CODES = dict(re.findall(r"WAGTENIB_(\w+) = (\d+)", (ROOT / "include" / "wagtenib.h").read_text()))
-# The refusals that have another name in the model than in the header.
-NAMES = {"timestamp-not-later": "TIMESTAMP_NOT_LATER", "timestamp-too-far": "TIMESTAMP_TOO_FAR"}
-# The faults that no call of the guard can return, of all codes below 48, after which those of other calls come: a consistency proof is read only between sizes that it can be for.
+# The codes that no call of the guard can return, of all codes below 48, after which those of other calls come: a consistency proof is read only between sizes that it can be for.
 NEVER = {"SIZES_OUT_OF_RANGE", "OUT_OF_MEMORY", "NO_ROOM", "BAD_ORIGIN"}
-FILL, HOUR, MOST = b"\x5a", 3_600_000, (1 << 64) - 1
+HOUR, MOST = 3_600_000, (1 << 64) - 1
 SIZES = (0, 1, 2, 3, 4, 7, 8, 21, 40, 64)
+# The calls, each with its arguments as a history has them: a head is its size, its timestamp and its root.
+CALLS = {
+    "head": lambda state, head, proof, ahead: wagtenib.guard_head(state, wagtenib.TreeHead(*head), proof, ahead),
+    "first": lambda head, named: wagtenib.guard_first_head(wagtenib.TreeHead(*head), wagtenib.TreeHead(*named)),
+    "receipt": wagtenib.guard_receipt,
+    "receipts": wagtenib.guard_receipts,
+    "accept": lambda accepted, head, proof: wagtenib.node_accept(wagtenib.TreeHead(*accepted), wagtenib.TreeHead(*head), proof),
+    "state": wagtenib.guard_state,
+}
+
+
+def leaf(timestamp, certificate, key_hash, extensions):
+    """A MerkleTreeLeaf (RFC 6962, section 3.4)."""
+    kind = b"\0\1" + key_hash if key_hash else b"\0\0"
+    return b"\0\0" + struct.pack(">Q", timestamp) + kind + len(certificate).to_bytes(3, "big") + certificate + len(extensions).to_bytes(2, "big") + extensions
 
 
 def signature_input(head):
@@ -49,49 +51,39 @@ def head_in(state):
     return size, timestamp, state[18:]
 
 
-def code_of(call):
-    """The code of what a call of the model comes to."""
-    try:
-        call()
-    except model.Refused as refusal:
-        name = refusal.args[-1] if len(refusal.args) > 1 else refusal.args[0]
-        return int(CODES[NAMES.get(name, name.upper().replace("-", "_"))])
-    return int(CODES["OK"])
-
-
-def guard_at(state):
-    """The model's guard with the head of a state, or None if it is the state of no head."""
+def judged(state, call, passed=None):
+    """What a call over a state must come to, by the model's guard at the state's head: what is passed, or the fault."""
     head = head_in(state)
-    return model.Guard(head) if head else None
+    if head is None:
+        return Fault("BAD_STATE")
+    try:
+        call(model.Guard(head))
+    except model.Refused as refusal:
+        return Fault(refusal.args[-1].upper().replace("-", "_"))
+    return passed
 
 
-def reply(code, written, room=50):
-    """The line that guard.c prints. The memory is written only at 0."""
-    return f"{code} {(written if code == 0 else FILL * room).hex() or '-'}"
+class Log(Tree):
+    """A made-up log: its leaves, and their tree."""
 
-
-def shown(data):
-    return data.hex() or "-"
-
-
-def words_of(head):
-    return f"{head[0]} {head[1]} {head[2].hex()}"
+    def __init__(self, leaves):
+        super().__init__(map(leaf_hash, leaves))
+        self.leaves = leaves
 
 
 class History:
-    """A made-up log, and the state that the last head let through left."""
+    """Two logs that fork, and the state that the last head let through left."""
 
     def __init__(self, seed):
         self.chance = random.Random(seed)
-        moment = lambda i: 1000 + 10 * i + self.chance.choice((0, 0, 0, 5000))
-        extensions = lambda i: self.chance.choice((b"", b"", b"\0\0\5" + i.to_bytes(5, "big"), b"\0\0\5" + (i + 1).to_bytes(5, "big"), b"\1\0\0"))
-        self.log = Log([self.entry(moment(i), extensions(i)) for i in range(max(SIZES))])
-        self.other = self.log.fork(5, [self.entry(moment(i), extensions(i)) for i in range(5, max(SIZES))])
+        leaves = [[self.entry(i) for i in range(max(SIZES))] for _ in range(2)]
+        self.log, self.other = Log(leaves[0]), Log(leaves[0][:5] + leaves[1][5:])
         self.state = signature_input((0, 0, sha256(b"")))
 
-    def entry(self, moment, extensions):
-        bare = leaf(moment, self.chance.randbytes(9), self.chance.choice((b"", self.chance.randbytes(32))))
-        return bare[:-2] + len(extensions).to_bytes(2, "big") + extensions
+    def entry(self, i):
+        chance = self.chance
+        extensions = chance.choice((b"", b"", b"\0\0\5" + i.to_bytes(5, "big"), b"\0\0\5" + (i + 1).to_bytes(5, "big"), b"\1\0\0"))
+        return leaf(1000 + 10 * i + chance.choice((0, 0, 0, 5000)), chance.randbytes(9), chance.choice((b"", chance.randbytes(32))), extensions)
 
     def handed(self):
         """The state, or one that is none."""
@@ -103,8 +95,7 @@ class History:
 
     def damaged(self, hashes):
         """A list of hashes that is right, or wrong in one way."""
-        how = self.chance.randrange(12)
-        wrong = [self.chance.randbytes(32)]
+        how, wrong = self.chance.randrange(12), [self.chance.randbytes(32)]
         if how == 0 and hashes:
             at = self.chance.randrange(len(hashes))
             return hashes[:at] + wrong + hashes[at + 1 :]
@@ -121,18 +112,16 @@ class History:
             head = (size, timestamp, root)
         if self.chance.random() < 0.05:
             head = (head[0], head[1], self.chance.randbytes(32))
-        proof = self.damaged(log.subproof(size, 0, to, True) if 0 < size < to else [])
+        proof = self.damaged(log.proof(size, 0, to) if 0 < size < to else [])
         ahead = self.chance.choice((HOUR, HOUR, HOUR, 0, 1, MOST))
-        guard = guard_at(state)
-        code = code_of(lambda: guard.pass_head(head, proof, ahead)) if guard else int(CODES["BAD_STATE"])
-        if code == 0:
-            self.state = signature_input(head)
+        due = judged(state, lambda guard: guard.pass_head(head, proof, ahead), signature_input(head))
+        if not isinstance(due, Fault):
+            self.state = due
         # (a log's heads come to its end soon: now and then it begins again)
         if self.chance.random() < 0.05:
-            self.state = signature_input((self.chance.choice((0, 1, 2, 3)), 900, sha256(b"")))
-            size = head_in(self.state)[0]
+            size = self.chance.choice((0, 1, 2, 3))
             self.state = signature_input((size, 900, self.log.root(0, size)))
-        return f"head {shown(state)} {words_of(head)} {shown(b''.join(proof))} {ahead}", reply(code, signature_input(head))
+        return "head", (state, head, proof, ahead), due
 
     def first(self):
         """A call for a first head."""
@@ -142,8 +131,7 @@ class History:
         if self.chance.random() < 0.2:
             head = (0, 0, bytes(32))
         is_first = head[2] == sha256(b"") if head[0] == 0 else head == named
-        code = int(CODES["OK" if is_first else "NOT_FIRST"])
-        return f"first {words_of(head)} {words_of(named)}", reply(code, signature_input(head))
+        return "first", (head, named), signature_input(head) if is_first else Fault("NOT_FIRST")
 
     def receipt(self):
         """A call for a receipt after the state."""
@@ -153,9 +141,7 @@ class History:
         path = self.damaged(log.path(index, 0, size) if index < size else [])
         if self.chance.random() < 0.1:
             entry = self.chance.choice((b"", entry[:-1], entry + b"\0", b"\1" + entry[1:], entry[:1] + b"\1" + entry[2:], entry[:11] + b"\7" + entry[12:], entry[:10] + b"\0\0" + bytes(3) + b"\0\0"))
-        guard = guard_at(state)
-        code = code_of(lambda: guard.pass_receipt(entry, index, path)) if guard else int(CODES["BAD_STATE"])
-        return f"receipt {shown(state)} {shown(entry)} {index} {shown(b''.join(path))}", reply(code, b"", 0)
+        return "receipt", (state, entry, index, path), judged(state, lambda guard: guard.pass_receipt(entry, index, path))
 
     def receipts(self):
         """A call for the receipts of a step after the state."""
@@ -169,19 +155,13 @@ class History:
             at = self.chance.randrange(len(leaves))
             leaves[at : at + 1] = {0: [], 1: [leaves[at], leaves[at]], 2: [self.chance.choice((b"", leaves[at][:-1], leaves[at] + b"\0"))]}[how]
         first += self.chance.choice((0, 0, 0, 0, 0, 0, 0, 0, 1, MOST - first))
-        guard = guard_at(state)
-        code = code_of(lambda: guard.pass_receipts(first, subtrees, leaves)) if guard else int(CODES["BAD_STATE"])
-        lengths = ",".join(str(len(leaf)) for leaf in leaves) or "-"
-        return f"receipts {shown(state)} {first} {shown(b''.join(subtrees))} {shown(b''.join(leaves))} {lengths}", reply(code, b"", 0)
+        return "receipts", (state, first, subtrees, leaves), judged(state, lambda guard: guard.pass_receipts(first, subtrees, leaves))
 
     def accept(self):
         """A call for a head that a node should accept after the state's."""
-        line, _ = self.head()
-        words, accepted = line.split(), head_in(self.state)
-        head = (int(words[2]), int(words[3]), bytes.fromhex(words[4]))
-        proof = bytes.fromhex(words[5].replace("-", ""))
-        code = code_of(lambda: model.Guard(accepted).pass_head(head, [proof[at : at + 32] for at in range(0, len(proof), 32)], MOST))
-        return f"accept {words_of(accepted)} {words_of(head)} {words[5]}", reply(code, b"", 0)
+        accepted = head_in(self.state)
+        _, (_, head, proof, _), _ = self.head()
+        return "accept", (accepted, head, proof), judged(signature_input(accepted), lambda guard: guard.pass_head(head, proof, MOST))
 
     def read(self):
         """A call that reads a state."""
@@ -189,40 +169,22 @@ class History:
         seen = self.chance.choice((self.state, self.handed(), signature_input((size, max(timestamp - 1, 0), root)), signature_input((size + 1, timestamp, root)), signature_input((0, timestamp, root))))
         state = self.handed()
         heads = [head_in(seen), head_in(state)]
-        code = "BAD_STATE" if None in heads else "OK" if model.goes_on(*heads) else "STATE_ROLLED_BACK"
-        return f"state {shown(seen)} {shown(state)}", reply(int(CODES[code]), struct.pack("=QQ", *heads[1][:2]) + heads[1][2] if heads[1] else b"", 48)
+        fault = "BAD_STATE" if None in heads else None if model.goes_on(*heads) else "STATE_ROLLED_BACK"
+        return "state", (seen, state), Fault(fault) if fault else wagtenib.TreeHead(*heads[1])
 
     def call(self):
-        """A line for guard.c, and the line that it must print."""
+        """The name of a call, its arguments, and what it must come to."""
         return self.chance.choices((self.head, self.receipt, self.receipts, self.accept, self.read, self.first), (5, 4, 4, 2, 1, 1))[0]()
 
 
 def main():
-    said = argparse.ArgumentParser(description=__doc__.partition("\n")[0])
-    said.add_argument("--calls", type=int, default=10_000)
-    said.add_argument("--seed", type=int, default=1)
-    asked = said.parse_args()
-    if not shutil.which("gcc") or platform.machine() not in ("x86_64", "aarch64"):
-        print("tests/library/guard.py: nothing was compared: there is no gcc for a processor of dist/")
-        return 0
-    history = History(asked.seed)
-    calls = [history.call() for _ in range(asked.calls)]
-    with tempfile.TemporaryDirectory(prefix="wagtenib-guard-") as folder:
-        code = subprocess.run([ROOT / "dist" / "processor.sh"], capture_output=True, text=True, check=True).stdout.strip()
-        made = pathlib.Path(folder) / "guard"
-        subprocess.run(["gcc", "-std=gnu11", "-O2", "-Wall", "-Wextra", "-Werror", f"-I{ROOT / 'include'}", HERE / "guard.c", ROOT / "dist" / "memory.c", code, "-o", made], check=True)
-        lines = "".join(f"{line}\n" for line, _ in calls)
-        replies = subprocess.run([made], input=lines, capture_output=True, text=True, check=True, timeout=600).stdout.splitlines()
-    wrong = [(line, due, got) for (line, due), got in zip(calls, [*replies, *[""] * len(calls)]) if due != got]
-    for line, due, got in wrong[:5]:
-        print(f"tests/library/guard.py: the call `{line}` gave `{got}`, and is to give `{due}` (seed {asked.seed})")
-    seen = collections.Counter(due.split()[0] for _, due in calls)
-    absent = [name for name, number in CODES.items() if int(number) < 48 and name not in NEVER and not seen[number]]
-    if absent:
-        print(f"tests/library/guard.py: no call of the seed {asked.seed} comes to {', '.join(absent)} (try more --calls)")
-    print(f"tests/library/guard.py: {len(calls)} calls of the guard were compared, {seen['0']} of which were let through; {len(wrong)} differ")
-    return 1 if wrong or absent or len(replies) != len(calls) else 0
+    options, comparison = begin("tests/library/guard.py", 10_000)
+    history = History(options.seed)
+    for _ in range(options.calls):
+        name, words, due = history.call()
+        comparison.call(f"{name} of {words}", due, lambda name=name, words=words: CALLS[name](*words))
+    comparison.ends({code.name for code in Code if code < 48} - NEVER)
 
 
 if __name__ == "__main__":
-    sys.exit(main())
+    main()

@@ -1,28 +1,19 @@
 #!/usr/bin/env python3
-"""Compares the node's calls of libwagtenib, by the Python package of bindings/python, with tests/node over random histories and calls.
+"""Compares the node's calls of libwagtenib, as gcc makes it of dist/, with tests/node/model.py over random calls.
 
-    node.py [--calls 100000] [--histories 60] [--seed 1]
+    node.py [--calls 50000] [--seed 1]
 
-1. The histories of tests/node/explore.py are run with the library in place of the right machine: each must be sound, and each command must be the machine's.
-2. Random commands and outcomes, most of which do not belong together: the next command must be the machine's.
-3. Random lock texts, names of staged batches and starts, right and damaged: the answer must be that of tests/node/model.py. Each code of the node must come.
-
-Without gcc for this processor it says so.
+Of random commands and outcomes, most of which do not belong together, the next command must be the model's. Of random lock texts, names of staged batches and
+starts, right and damaged, the answer must be the model's. Each code of the node must come at least once. Without gcc for this processor it says so.
 """
-import argparse
-import collections
-import pathlib
-import random
 import sys
 
-HERE = pathlib.Path(__file__).resolve().parent
-ROOT = HERE.parent.parent
-sys.path[:0] = [str(ROOT / "bindings" / "python"), str(ROOT / "tests" / "node")]
-# (the folders above are on the path only now)
-import explore  # noqa: E402
+from comparing import TESTS, Fault, begin, wagtenib
+from wagtenib import NodeDoes, NodeTold
+
+sys.path.insert(0, str(TESTS / "node"))
+# (the folder above is on the path only now)
 import model  # noqa: E402
-import wagtenib  # noqa: E402
-from wagtenib import NodeDoes, NodeTold  # noqa: E402
 
 MOST = (1 << 64) - 1
 # The commands of the machine: which number each has, and which of `seen`, `next` and `objects` it is about.
@@ -48,7 +39,7 @@ OUTCOMES = {
     "Listed": (NodeTold.BATCH_LISTED, ("state",)),
 }
 # The codes of the node that a call must have returned.
-CODES = ("BAD_LOCK_TEXT", "BAD_BATCH_NAME", "CREATES_LOCK", "LOCK_GONE", "BEHIND_SEEN", "BEHIND_SIGNED", "TWO_ROOTS", "SIGNED_BEHIND_LISTED", "BEHIND_LISTED", "BEHIND_PUBLISHED")
+CODES, CREATES = ("BAD_LOCK_TEXT", "BAD_BATCH_NAME", "LOCK_GONE", "BEHIND_SEEN", "BEHIND_SIGNED", "TWO_ROOTS", "SIGNED_BEHIND_LISTED", "BEHIND_LISTED", "BEHIND_PUBLISHED"), "creates the lock"
 
 
 def in_call(value):
@@ -67,45 +58,17 @@ def outcome_of(outcome):
     return wagtenib.NodeOutcome(told, **dict(zip(about, map(in_call, outcome[1:]))))
 
 
-class Library(explore.Machine):
-    """The machine that the library is."""
-
-    def __init__(self):
-        self.calls = self.wrong = 0
-
-    def after(self, node, outcome):
-        due = super().after(node, outcome)
-        self.calls += 1
-        got = wagtenib.node_next(command_of(node), outcome_of(outcome))
-        if got != command_of(due):
-            self.wrong += 1
-            print(f"tests/library/node.py: after {outcome} of {node} the library has {got}, and the machine {due}")
-        return due
-
-
 class Calls:
     """Random calls, and what must come of them."""
 
-    def __init__(self, seed):
-        self.chance = random.Random(seed)
-        self.wrong, self.codes = 0, collections.Counter()
+    def __init__(self, comparison):
+        self.chance, self.compare, self.came = comparison.chance, comparison.call, comparison.came
 
     def number(self):
         return self.chance.choice((0, 1, 2, 3, 4, 5, self.chance.getrandbits(64), MOST))
 
     def state(self):
-        return explore.State(self.number(), self.number(), self.number())
-
-    def compare(self, what, due, call):
-        """A call must return what is due, which is a value or the name of a code."""
-        try:
-            got = call()
-        except wagtenib.Error as fault:
-            got = fault.name
-            self.codes[got] += 1
-        if got != due:
-            self.wrong += 1
-            print(f"tests/library/node.py: {what}: {got}, and is to be {due}")
+        return model.State(self.number(), self.number(), self.number())
 
     def damaged(self, text):
         """A text that is right, or wrong in one way."""
@@ -119,7 +82,7 @@ class Calls:
         verb, told = self.chance.choice(list(COMMANDS)), self.chance.choice(list(OUTCOMES))
         values = {"seen": self.state(), "next": self.state(), "state": self.state(), "objects": self.number()}
         node, outcome = (verb, *(values[one] for one in COMMANDS[verb][1])), (told, *(values[one] for one in OUTCOMES[told][1]))
-        due = command_of(explore.Machine().after(node, outcome))
+        due = command_of(model.after(node, outcome))
         self.compare(f"after {outcome} of {node}", due, lambda: wagtenib.node_next(command_of(node), outcome_of(outcome)))
 
     def lock(self):
@@ -136,7 +99,7 @@ class Calls:
         self.compare("a lock's text", text, lambda: wagtenib.lock_text(line, node, before, salt))
         text = self.damaged(text)
         found = model.said(text)
-        due = (wagtenib.NodeState(*found[1]), found[0]) if found else "BAD_LOCK_TEXT"
+        due = (wagtenib.NodeState(*found[1]), found[0]) if found else Fault("BAD_LOCK_TEXT")
         self.compare(f"the lock's text {text!r}", due, lambda: wagtenib.lock_state(text))
 
     def name(self):
@@ -145,7 +108,7 @@ class Calls:
         self.compare("a name", name, lambda: wagtenib.batch_name(wagtenib.NodeState(*state)))
         name = self.damaged(name)
         found = model.state_of_name(name)
-        self.compare(f"the name {name!r}", wagtenib.NodeState(*found) if found else "BAD_BATCH_NAME", lambda: wagtenib.batch_state(name))
+        self.compare(f"the name {name!r}", wagtenib.NodeState(*found) if found else Fault("BAD_BATCH_NAME"), lambda: wagtenib.batch_state(name))
 
     def start(self):
         line, node, size, timestamp, root = self.lock()
@@ -166,33 +129,18 @@ class Calls:
             found |= {"seen": None, "signed": None, "published": None, "listed": None}
         due = model.beginning(text, found)
         given = wagtenib.NodeFound(**{key: wagtenib.TreeHead(*one) if isinstance(one, tuple) else one for key, one in found.items()})
-        self.codes["CREATES_LOCK"] += due == "CREATES_LOCK"
-        self.compare(f"a start with {text!r} and {found}", {"OK": False, "CREATES_LOCK": True}.get(due, due), lambda: wagtenib.node_start(text, given))
+        due = {"OK": False, "CREATES_LOCK": True}.get(due, Fault(due))
+        self.came[CREATES] += due is True
+        self.compare(f"a start with {text!r} and {found}", due, lambda: wagtenib.node_start(text, given))
 
 
 def main():
-    said = argparse.ArgumentParser(description=__doc__.partition("\n")[0])
-    said.add_argument("--calls", type=int, default=100_000)
-    said.add_argument("--histories", type=int, default=60)
-    said.add_argument("--seed", type=int, default=1)
-    asked = said.parse_args()
-    try:
-        wagtenib.batch_name(wagtenib.NodeState())
-    except wagtenib.Unavailable as why:
-        print(f"tests/library/node.py: nothing was compared: {why}")
-        return 0
-    library = Library()
-    found, answered = explore.histories(library, asked.seed, asked.histories)
-    sound = found.pop(None, 0)
-    calls = Calls(asked.seed)
-    for _ in range(asked.calls):
+    options, comparison = begin("tests/library/node.py", 50_000)
+    calls = Calls(comparison)
+    for _ in range(options.calls):
         calls.chance.choices((calls.next, calls.text, calls.name, calls.start), (4, 1, 1, 3))[0]()
-    absent = [name for name in CODES if not calls.codes[name]]
-    if absent:
-        print(f"tests/library/node.py: no call of the seed {asked.seed} comes to {', '.join(absent)} (try more --calls)")
-    print(f"tests/library/node.py: {sound} of {asked.histories} histories over {library.calls} calls were sound, and {answered} answered somebody; {asked.calls} other calls were compared; {library.wrong + calls.wrong} differ")
-    return int(bool(library.wrong or calls.wrong or absent or found or not answered))
+    comparison.ends({*CODES, CREATES})
 
 
 if __name__ == "__main__":
-    sys.exit(main())
+    main()

@@ -53,17 +53,17 @@ def library_in(folder):
     return made
 
 
-def runs(library):
+def runs():
     """The comparisons that call the functions."""
-    tiles = ROOT / "tests" / "tiles"
-    yield [tiles / "histories.py", "--histories", "4", sys.executable, tiles / "calls.py", library]
-    yield [HERE / "witness.py", "--calls", "1000"]
-    yield [HERE / "monitor.py", "--calls", "2000"]
-    yield [HERE / "node.py", "--calls", "4000", "--histories", "6"]
-    yield [HERE / "names.py", "--calls", "600", "--searches", "2000"]
+    yield [HERE / "step.py", "--calls", "9"]
+    yield [HERE / "guard.py", "--calls", "2000"]
+    yield [HERE / "witness.py", "--calls", "2000"]
+    yield [HERE / "monitor.py", "--calls", "1500"]
+    yield [HERE / "node.py", "--calls", "2000"]
+    yield [HERE / "names.py", "--calls", "1200", "--searches", "500"]
     yield [HERE / "data_tiles.py", "--calls", "1500"]
     yield [HERE / "texts.py", "--calls", "400"]
-    yield [ROOT / "bindings" / "python" / "tests" / "compare.py", "--calls", "150"]
+    yield [HERE / "proofs.py", "--calls", "300"]
     yield [HERE / "large.py"]
 
 
@@ -98,7 +98,7 @@ def main():
         folder = pathlib.Path(folder)
         library, report = library_in(folder), folder / "report"
         surroundings = {**os.environ, "WAGTENIB_LIBRARY": str(library), "REFUSALS": str(report), "PYTHONDONTWRITEBYTECODE": "1"}
-        for run in runs(library):
+        for run in runs():
             ran = subprocess.run([sys.executable, *run], env=surroundings, stdout=subprocess.PIPE, stderr=subprocess.STDOUT, text=True)
             if ran.returncode:
                 print(f"tests/library/refusals.py: {run[0].name} fails:\n{ran.stdout}")

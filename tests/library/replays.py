@@ -24,7 +24,6 @@ import tempfile
 import time
 
 import arm64
-import guard
 import signatures
 
 HERE = pathlib.Path(__file__).resolve().parent
@@ -39,25 +38,15 @@ def say(text):
 
 def runs():
     """The comparisons that call the functions."""
-    tiles = ROOT / "tests" / "tiles"
-    yield [tiles / "histories.py", "--histories", "4", sys.executable, tiles / "calls.py", "{library}"]
+    yield [HERE / "step.py", "--calls", "9"]
+    yield [HERE / "guard.py", "--calls", "3000"]
     yield [HERE / "witness.py", "--calls", "2000"]
     yield [HERE / "monitor.py", "--calls", "2000"]
-    yield [HERE / "names.py", "--calls", "300", "--searches", "2000"]
-    yield [HERE / "data_tiles.py", "--calls", "1000"]
-    yield [HERE / "texts.py", "--calls", "200"]
-    yield [HERE / "node.py", "--calls", "4000", "--histories", "4"]
-    yield [ROOT / "bindings" / "python" / "tests" / "compare.py", "--calls", "300"]
-
-
-def record_guard(folder, library, surroundings):
-    """Has guard.c make calls of the guard, most of them over states that the calls before them left."""
-    history, made = guard.History(3), folder / "guard"
-    subprocess.run(["gcc", *WARNINGS, f"-I{ROOT / 'include'}", HERE / "guard.c", library, f"-Wl,-rpath,{folder}", "-o", made], check=True)
-    asked = [history.call() for _ in range(3000)]
-    replies = subprocess.run([made], input="".join(f"{line}\n" for line, _ in asked), env=surroundings, stdout=subprocess.PIPE, text=True, check=True).stdout
-    if replies.splitlines() != [due for _, due in asked]:
-        sys.exit("tests/library/replays.py: the guard does not reply as the model (tests/library/guard.py says more)")
+    yield [HERE / "names.py", "--calls", "1500", "--searches", "1000"]
+    yield [HERE / "data_tiles.py", "--calls", "1500"]
+    yield [HERE / "texts.py", "--calls", "400"]
+    yield [HERE / "node.py", "--calls", "4000"]
+    yield [HERE / "proofs.py", "--calls", "300"]
 
 
 def recording(folder):
@@ -69,12 +58,10 @@ def recording(folder):
     library, made = folder / "libwagtenib.so", folder / "calls"
     subprocess.run(["gcc", "-shared", "-fPIC", "-fvisibility=hidden", *WARNINGS, f"-I{folder}", f"-I{ROOT / 'include'}", HERE / "record.c", DIST / "memory.c", folder / "real.s", "-o", library], check=True)
     surroundings = {**os.environ, "WAGTENIB_LIBRARY": str(library), "RECORDING": str(made), "PYTHONDONTWRITEBYTECODE": "1"}
-    record_guard(folder, library, surroundings)
     for run in runs():
-        words = [str(word).format(library=library) for word in run]
-        ran = subprocess.run([sys.executable, *words], env=surroundings, stdout=subprocess.PIPE, stderr=subprocess.STDOUT, text=True)
+        ran = subprocess.run([sys.executable, *run], env=surroundings, stdout=subprocess.PIPE, stderr=subprocess.STDOUT, text=True)
         if ran.returncode:
-            sys.exit(f"{ran.stdout}tests/library/replays.py: {words[0]} fails")
+            sys.exit(f"{ran.stdout}tests/library/replays.py: {run[0].name} fails")
     return made
 
 

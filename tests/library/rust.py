@@ -7,8 +7,8 @@
 2. Each constant of the header must have its error in wagtenib/src/error.rs. Each function of the header must be called by the crate wagtenib, and each function of that
    crate must be named in its tests.
 3. cargo runs the crates' tests, without the network.
-4. examples/calls.rs makes random calls: audit paths and consistency proofs, of which tests/merkle.py says the fault, and the guard's, of which guard.py says the
-   reply. Most are damaged in one of many ways.
+4. examples/calls.rs makes random calls: audit paths and consistency proofs, of which tests/merkle.py says the fault, and those of the histories of guard.py.
+   Most are damaged in one of many ways.
 
 Without cargo or gcc, 3 and 4 are left out, and the script says so. It ends with status 1 if something differs.
 """
@@ -20,6 +20,7 @@ import platform
 import random
 import re
 import shutil
+import struct
 import subprocess
 import sys
 
@@ -114,8 +115,32 @@ def untried():
                 yield f"no test of bindings/rust/wagtenib calls {module}::{name} (write one)"
 
 
-def code_of(fault):
-    return codes()["OK" if fault is None else fault.upper().replace("-", "_")]
+def shown(value):
+    """A value as examples/calls.rs reads it: bytes and lists of bytes in hexadecimal digits, and a head by its parts."""
+    if isinstance(value, tuple):
+        return " ".join(map(shown, value))
+    if isinstance(value, list):
+        value = b"".join(value)
+    return (value.hex() or "-") if isinstance(value, bytes) else str(value)
+
+
+def line_of(name, words):
+    """The line of a call of the guard. Leaves are handed with their lengths."""
+    lengths = [",".join(str(len(leaf)) for leaf in words[-1]) or "-"] if name == "receipts" else []
+    return " ".join([name, *map(shown, words), *lengths])
+
+
+def reply_of(due):
+    """The line that examples/calls.rs prints: the code, and what the call returns."""
+    if isinstance(due, guard.Fault):
+        return f"{codes()[due.name]} -"
+    if isinstance(due, guard.wagtenib.TreeHead):
+        due = struct.pack("=QQ", due.tree_size, due.timestamp) + due.root
+    return f"0 {shown(due or b'')}"
+
+
+def fault_of(fault):
+    return fault and guard.Fault(fault.upper().replace("-", "_"))
 
 
 class Proofs:
@@ -143,7 +168,7 @@ class Proofs:
         hashes, top = self.damaged(merkle.path(index, self.leaves[:size])), self.changed(merkle.root(self.leaves[:size]))
         asked, leaf = self.chance.choice((index, index, index, size, (1 << 64) - 1)), self.leaves[index]
         fault = merkle.fault_of_path(leaf, asked, size, hashes, top)
-        return f"inclusion {asked} {size} {merkle.leaf_hash(leaf).hex()} {top.hex()} {guard.shown(b''.join(hashes))}", f"{code_of(fault)} -"
+        return "inclusion", (asked, size, merkle.leaf_hash(leaf), top, hashes), fault_of(fault)
 
     def consistency(self):
         second = self.chance.randint(1, len(self.leaves))
@@ -152,25 +177,20 @@ class Proofs:
         old, new = self.changed(merkle.root(self.leaves[:first])), self.changed(merkle.root(self.leaves[:second]))
         first = self.chance.choice((first, first, first, 0))
         fault = merkle.fault_of_proof(first, second, old, new, hashes)
-        return f"consistency {first} {second} {old.hex()} {new.hex()} {guard.shown(b''.join(hashes))}", f"{code_of(fault)} -"
+        return "consistency", (first, second, old, new, hashes), fault_of(fault)
 
     def call(self):
         return self.chance.choice((self.inclusion, self.consistency))()
 
 
-def returned(reply):
-    """The results of the crate, by the memory of C: none unless the code is 0."""
-    code, _, written = reply.partition(" ")
-    return f"{code} {written if code == '0' else '-'}"
-
-
 def compare(calls, seed, program=("cargo", "run", "--offline", "--quiet", "--example", "calls")):
     """Has the example make random calls, and returns how many differ."""
     proofs, history = Proofs(seed), guard.History(seed)
-    asked = [proofs.call() if at % 2 else history.call() for at in range(calls)]
+    made = [proofs.call() if at % 2 else history.call() for at in range(calls)]
+    asked = [(line_of(name, words), reply_of(due)) for name, words, due in made]
     made = subprocess.run(program, cwd=RUST, input="".join(f"{line}\n" for line, _ in asked), capture_output=True, text=True, check=True, timeout=600)
     replies = made.stdout.splitlines()
-    wrong = [(line, returned(due), got) for (line, due), got in zip(asked, [*replies, *[""] * calls]) if returned(due) != got]
+    wrong = [(line, due, got) for (line, due), got in zip(asked, [*replies, *[""] * calls]) if due != got]
     for line, due, got in wrong[:5]:
         print(f"tests/library/rust.py: the call `{line}` gave `{got}`, and is to give `{due}` (seed {seed})")
     counted = collections.Counter(due.split()[0] for _, due in asked)

@@ -6,23 +6,12 @@
 The examples are those of C2SP tlog-checkpoint, tlog-cosignature and golang.org/x/mod/sumdb/note. The version must be the same in the file VERSION, in
 include/wagtenib.h and in the library. Each refusal must come at least once. Without gcc for this processor it says so.
 """
-import argparse
 import base64
-import collections
 import hashlib
-import pathlib
-import platform
-import random
 import re
-import shutil
 import struct
-import sys
 
-ROOT = pathlib.Path(__file__).resolve().parents[2]
-sys.path[:0] = [str(ROOT / "bindings" / "python")]
-# (the folder above is on the path only now)
-import wagtenib  # noqa: E402
-from wagtenib import _library  # noqa: E402
+from comparing import ROOT, Fault, begin, wagtenib
 
 # C2SP tlog-checkpoint, "Note text", and tlog-cosignature, "cosignature/v1".
 EXAMPLE = b"example.com/behind-the-sofa\n20852163\nCsUYapGGPo4dkMgIAUqom/Xajj7h2fB2MPA3j2jxq2I=\n"
@@ -48,23 +37,6 @@ DAMAGES = [
 ]
 
 
-def fail(why):
-    sys.exit(f"tests/library/texts.py: {why}")
-
-
-def same(what, got, due):
-    if got != due:
-        fail(f"{what} gave {got!r}, and is to give {due!r}")
-
-
-def outcome(call, *words):
-    """The result of a call, or the name of its fault."""
-    try:
-        return call(*words)
-    except wagtenib.Error as fault:
-        return fault.name
-
-
 def text_of(origin, size, root):
     """The text of a checkpoint (C2SP tlog-checkpoint)."""
     return b"%s\n%d\n%s\n" % (origin, size, base64.b64encode(root))
@@ -76,13 +48,13 @@ def read_by_model(text):
     try:
         text.decode()
     except UnicodeDecodeError:
-        return "NO_CHECKPOINT"
+        return Fault("NO_CHECKPOINT")
     if not found or int(found[2]) > MOST or text_of(found[1], int(found[2]), base64.b64decode(found[3])) != text:
-        return "NO_CHECKPOINT"
+        return Fault("NO_CHECKPOINT")
     return wagtenib.Checkpoint(found[1], int(found[2]), base64.b64decode(found[3]))
 
 
-def examples():
+def examples(same):
     """The examples of the formats' pages."""
     root = base64.b64decode("CsUYapGGPo4dkMgIAUqom/Xajj7h2fB2MPA3j2jxq2I=")
     checkpoint = wagtenib.Checkpoint(b"example.com/behind-the-sofa", 20852163, root)
@@ -94,7 +66,7 @@ def examples():
     same("the example of a key", wagtenib.note_key_id(name.encode(), key[0], key[1:]).hex(), number)
 
 
-def versions():
+def versions(same):
     """The version, in three places."""
     first, second, third = map(int, (ROOT / "VERSION").read_text().strip().split("."))
     header = re.search(r"^#define WAGTENIB_VERSION (\d+)$", (ROOT / "include" / "wagtenib.h").read_text(), re.M)
@@ -103,48 +75,38 @@ def versions():
     same("wagtenib_version", wagtenib.version(), due)
 
 
-def compare(source, tried):
+def compare(comparison):
     """Compares one call of each function."""
+    source = comparison.chance
     origin, root = source.choice(ORIGINS), source.randbytes(32)
     size = source.choice([0, 1, MOST, source.randrange(1 << 64), source.randrange(100)])
     timestamp, time = source.randrange(1 << 64), source.choice([0, 1, MOST, source.randrange(1 << 64)])
-    text = text_of(origin, size, root)
     given = source.choice(NO_ORIGINS) if source.random() < 0.2 else origin
-    is_origin = given and given not in NO_ORIGINS
-    written = outcome(wagtenib.checkpoint_text, wagtenib.Checkpoint(given, size, root))
-    same(f"a checkpoint of {given!r}", written, text if is_origin else "BAD_ORIGIN")
+    text = text_of(origin, size, root)
+    due = text if given and given not in NO_ORIGINS else Fault("BAD_ORIGIN")
+    comparison.call(f"a checkpoint of {given!r}", due, lambda: wagtenib.checkpoint_text(wagtenib.Checkpoint(given, size, root)))
     read = source.choice(DAMAGES)(text) if source.random() < 0.5 else text
-    due = read_by_model(read)
-    same(f"reading {read!r}", outcome(wagtenib.read_checkpoint, read), due)
-    same("a TreeHeadSignature", wagtenib.tree_head_signature(wagtenib.TreeHead(size, timestamp, root)), struct.pack(">BBQQ32s", 0, 1, timestamp, size, root))
+    comparison.call(f"reading {read!r}", read_by_model(read), lambda: wagtenib.read_checkpoint(read))
     try:
         read.decode()
         message = b"cosignature/v1\ntime %d\n%s" % (time, read)
     except UnicodeDecodeError:
-        message = "NOT_UTF8"
-    same(f"a message over {read!r}", outcome(wagtenib.cosignature_message, time, read), message)
-    key, algorithm = source.randbytes(source.choice([0, 32, 91])), source.randrange(256)
-    same("a key's number", wagtenib.note_key_id(origin, algorithm, key), hashlib.sha256(origin + b"\n" + bytes([algorithm]) + key).digest()[:4])
-    same("a LogID", wagtenib.log_id(key), hashlib.sha256(key).digest())
-    tried.update(name for name in (written, due, message) if isinstance(name, str))
+        message = Fault("NOT_UTF8")
+    comparison.call(f"a message over {read!r}", message, lambda: wagtenib.cosignature_message(time, read))
+    head, key, algorithm = wagtenib.TreeHead(size, timestamp, root), source.randbytes(source.choice([0, 32, 91])), source.randrange(256)
+    comparison.call("a TreeHeadSignature", struct.pack(">BBQQ32s", 0, 1, timestamp, size, root), lambda: wagtenib.tree_head_signature(head))
+    number = hashlib.sha256(origin + b"\n" + bytes([algorithm]) + key).digest()[:4]
+    comparison.call("a key's number", number, lambda: wagtenib.note_key_id(origin, algorithm, key))
+    comparison.call("a LogID", hashlib.sha256(key).digest(), lambda: wagtenib.log_id(key))
 
 
 def main():
-    parser = argparse.ArgumentParser()
-    parser.add_argument("--calls", type=int, default=2000)
-    parser.add_argument("--seed", type=int, default=1)
-    words = parser.parse_args()
-    if not shutil.which("gcc") or platform.machine() not in _library.PROCESSORS:
-        print("tests/library/texts.py: nothing was compared: there is no gcc for a processor of dist/")
-        return
-    examples()
-    versions()
-    source, tried = random.Random(words.seed), collections.Counter()
-    for _ in range(words.calls):
-        compare(source, tried)
-    if missing := {"BAD_ORIGIN", "NO_CHECKPOINT", "NOT_UTF8"} - set(tried):
-        fail(f"{words.calls} calls were never refused as {sorted(missing)}")
-    print(f"tests/library/texts.py: the formats' examples, and {words.calls} random texts, {sum(tried.values())} refusals among them, are as hashlib and base64 have them")
+    options, comparison = begin("tests/library/texts.py", 2000)
+    examples(comparison.same)
+    versions(comparison.same)
+    for _ in range(options.calls):
+        compare(comparison)
+    comparison.ends({"BAD_ORIGIN", "NO_CHECKPOINT", "NOT_UTF8", "OK"})
 
 
 if __name__ == "__main__":

@@ -1,8 +1,49 @@
-"""A model of a lock's text, of the names of staged batches and of a node that starts, written from docs/NODE.md, for tests/library/node.py. explore.py has
-the machine that decides the next command of a node."""
-import re
+"""A model of the machine that decides the next command of a node, of a lock's text, of the names of staged batches and of a node that starts, written from
+docs/NODE.md, for tests/library/node.py.
 
-from explore import State
+A command and an outcome are tuples: the name, and then the arguments.
+"""
+import re
+import typing
+
+
+class State(typing.NamedTuple):
+    """A state of the log: its timestamp, that of the state from which it was made, and a salt that distinguishes it from others of that timestamp."""
+
+    moment: int
+    before: int
+    salt: int
+
+
+
+READING = ("Reading",)
+# The command that follows one that is done, by its name, with the arguments that it has of it.
+DONE = {"Staging": ("Swapping", 1, 2, 3), "Swapping": ("Putting", 2, 3), "Deleting": ("Stepping", 1), "Putting": ("Placing", 1), "Placing": ("Heading", 1),
+        "Heading": ("Answering", 1), "Answering": ("Reading",)}  # fmt: skip
+
+
+def after(command, outcome):
+    """The command that follows a command after its outcome. An outcome that does not belong to it gives it again."""
+    verb, told = command[0], outcome[0]
+    if told == "Lost" and verb != "Reading":
+        return ("Stepping", command[1]) if verb == "Deleting" else READING
+    if told == "Done" and verb in DONE:
+        name, *places = DONE[verb]
+        return (name, *(command[place] for place in places))
+    if (verb, told) == ("Reading", "Read"):
+        return ("Looking", outcome[1])
+    if (verb, told) == ("Looking", "Published"):
+        return ("Stepping", command[1])
+    if (verb, told) == ("Looking", "Bundle"):
+        return ("Putting", command[1], outcome[1])
+    if (verb, told) == ("Stepping", "Stepped") and outcome[1].before == command[1].moment < outcome[1].moment:
+        return ("Staging", command[1], *outcome[1:])
+    if (verb, told) == ("Stepping", "Listed"):
+        seen, staged = command[1], outcome[1]
+        is_past = staged.before < seen.moment and (staged.moment, staged.salt) != (seen.moment, seen.salt)
+        return ("Deleting", seen, staged) if is_past else command
+    return command
+
 
 # A lock's text, whose second line may be anything. Its digits are read in either case, and those of a name only in lower case.
 TEXT = re.compile(rb"growth ([0-9a-fA-F]{16})([0-9a-fA-F]{16}).{256}\nnode .*\nsalt ([0-9a-fA-F]{16})([0-9a-fA-F]{16})\n", re.DOTALL)

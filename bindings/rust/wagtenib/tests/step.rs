@@ -1,4 +1,4 @@
-//! A step of a tiled log (C2SP static-ct-api). tests/tiles/step.py and hashlib computed the texts and hashes.
+//! A step of a tiled log (C2SP static-ct-api). Models of tests/tiles and hashlib computed the texts and hashes.
 
 mod common;
 
