@@ -10,7 +10,7 @@ import (
 )
 
 // TestWritesOfAStep: a step of one entry puts its staged batch, two partial tiles and its head. It swaps and raises the
-// lock once, adds to both parts of the index once, and deletes the staged batch before it. What it reads is bounded.
+// lock once, adds to both parts of the index once, and deletes the staged batch before it. It makes few other calls.
 func TestWritesOfAStep(t *testing.T) {
 	t.Parallel()
 	p, got, calls := newPlace(t), &answers{}, &stores.Calls{}
