@@ -466,24 +466,6 @@ func (p *pass) answer(ctx context.Context) (decider.Told, error) {
 	return decider.Done(), nil
 }
 
-// deleteUnneeded deletes the staged batches that this node knows of, if the decider says that no node needs them any
-// more.
-func (p *pass) deleteUnneeded(ctx context.Context) error {
-	for _, name := range p.last.unneeded {
-		if err := p.goOn(decider.Listed(name)); err != nil {
-			return err
-		}
-		if p.command.Do == decider.Step {
-			continue
-		}
-		if _, err := p.carryOut(ctx); err != nil {
-			return err
-		}
-	}
-	p.last.unneeded = nil
-	return nil
-}
-
 // keepEdge remembers what the next step may need: the partial tiles of this step, and those from before that are still
 // the edge's.
 func (p *pass) keepEdge() {

@@ -6,6 +6,7 @@ import (
 	"errors"
 	"fmt"
 
+	"wagtenib/internal/decider"
 	"wagtenib/internal/step"
 	"wagtenib/internal/stores"
 )
@@ -52,6 +53,24 @@ func (l *Loop) putRight(ctx context.Context, name string, content []byte) error 
 		return err
 	}
 	l.config.Machine.Observer.Repaired(name)
+	return nil
+}
+
+// deleteUnneeded deletes the staged batches that this node knows of, if the decider says that no node needs them any
+// more.
+func (p *pass) deleteUnneeded(ctx context.Context) error {
+	for _, name := range p.last.unneeded {
+		if err := p.goOn(decider.Listed(name)); err != nil {
+			return err
+		}
+		if p.command.Do == decider.Step {
+			continue
+		}
+		if _, err := p.carryOut(ctx); err != nil {
+			return err
+		}
+	}
+	p.last.unneeded = nil
 	return nil
 }
 

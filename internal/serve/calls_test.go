@@ -1,13 +1,16 @@
 package serve_test
 
 import (
+	"context"
+	"sync/atomic"
 	"testing"
 
+	"wagtenib/internal/signer"
 	"wagtenib/internal/stores"
 )
 
 // TestWritesOfAStep: a step of one entry puts its staged batch, two partial tiles and its head. It swaps and raises the
-// lock once, adds to both parts of the index once, and deletes the staged batch before it. What it reads is bounded.
+// lock once, adds to both parts of the index once, and deletes the staged batch before it. It makes few other calls.
 func TestWritesOfAStep(t *testing.T) {
 	t.Parallel()
 	p, got, calls := newPlace(t), &answers{}, &stores.Calls{}
@@ -41,5 +44,45 @@ func TestWritesOfAStep(t *testing.T) {
 		if made := after[call] - before[call]; made > steps*(reads+1) {
 			t.Errorf("%d steps made %d calls %s, more than %d", steps, made, call, steps*(reads+1))
 		}
+	}
+}
+
+// counting counts what a signer is asked for.
+type counting struct {
+	signer.Signer
+	steps, timestamps atomic.Int64
+}
+
+func (c *counting) SignStep(ctx context.Context, step signer.Step) ([][]byte, error) {
+	c.steps.Add(1)
+	return c.Signer.SignStep(ctx, step)
+}
+
+func (c *counting) SignTimestamps(ctx context.Context, receipts []signer.Receipt) ([][]byte, error) {
+	c.timestamps.Add(1)
+	return c.Signer.SignTimestamps(ctx, receipts)
+}
+
+// TestStepsAreSignedAtOnce: the timestamps of each step are asked for in one request for the step, whatever the size of
+// the tree before it, and only a duplicate's in another one.
+func TestStepsAreSignedAtOnce(t *testing.T) {
+	t.Parallel()
+	p, got := newPlace(t), &answers{}
+	config := p.config()
+	asked := &counting{Signer: config.Signer}
+	config.Signer = asked
+	l := started(t, config)
+	const steps = 40
+	for i := range steps {
+		got.submit(t, l, i, i+1)
+	}
+	if asked.steps.Load() != steps || asked.timestamps.Load() != 0 {
+		t.Errorf("%d steps were signed by %d requests for a step and %d others", steps, asked.steps.Load(),
+			asked.timestamps.Load())
+	}
+	got.submit(t, l, 7, 8)
+	if asked.steps.Load() != steps || asked.timestamps.Load() != 1 {
+		t.Errorf("a duplicate was signed by %d requests for a step and %d others", asked.steps.Load()-steps,
+			asked.timestamps.Load())
 	}
 }

@@ -274,3 +274,32 @@ func TestSQLiteThatIsBent(t *testing.T) {
 		t.Errorf("%v", err)
 	}
 }
+
+// TestSQLiteFindsSoMany: each number of identities is looked up whole, and nothing else is found.
+func TestSQLiteFindsSoMany(t *testing.T) {
+	t.Parallel()
+	ctx := limited(t)
+	store, err := OpenSQLite(ctx, filepath.Join(t.TempDir(), "places.db"))
+	must(t, err)
+	defer store.Close()
+	const most = 2*maxVariables + 1
+	rows, identities := make([]Placed, most), make([]Identity, most)
+	for i := range rows {
+		identities[i] = Identity{byte(i), byte(i >> 8), 7}
+		rows[i] = Placed{Identity: identities[i], Place: Place{Index: uint64(i), Timestamp: 5}}
+	}
+	must(t, store.Add(ctx, rows[1:]))
+	must(t, store.Leaves().Add(ctx, rows[:1]))
+	for _, many := range []int{0, 1, 2, 7, 8, 9, 63, 64, 65, maxVariables - 1, maxVariables, maxVariables + 1, most} {
+		found, err := store.Find(ctx, identities[:many])
+		must(t, err)
+		if len(found) != max(many-1, 0) {
+			t.Errorf("%d of %d are found", len(found), many)
+		}
+		for identity, place := range found {
+			if i := int(place.Index); i == 0 || i >= many || identity != identities[i] {
+				t.Errorf("%x is found at %d", identity[:3], i)
+			}
+		}
+	}
+}

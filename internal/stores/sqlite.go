@@ -7,6 +7,7 @@ import (
 	"fmt"
 	"net/url"
 	"path/filepath"
+	"slices"
 	"strings"
 	"sync"
 	"time"
@@ -34,6 +35,10 @@ type database struct {
 	source string
 	mu     sync.RWMutex
 	db     *sql.DB
+
+	preparing sync.Mutex
+	// prepared are the statements of db by their texts. To prepare one takes longer than a look-up.
+	prepared map[string]*sql.Stmt
 }
 
 // ofIndex is the driver of SQLite with the pragmas of an index.
@@ -59,7 +64,22 @@ func (d *database) open() (err error) {
 		return fmt.Errorf("stores: SQLite: %w", err)
 	}
 	d.db.SetMaxOpenConns(maxConnections)
+	d.prepared = map[string]*sql.Stmt{}
 	return nil
+}
+
+// statement returns a prepared statement of the file that with has open.
+func (d *database) statement(ctx context.Context, db *sql.DB, text string) (*sql.Stmt, error) {
+	d.preparing.Lock()
+	defer d.preparing.Unlock()
+	if known := d.prepared[text]; known != nil {
+		return known, nil
+	}
+	made, err := db.PrepareContext(ctx, text)
+	if err == nil {
+		d.prepared[text] = made
+	}
+	return made, err
 }
 
 // reopen closes the file, unless another call has, and opens it again.
@@ -163,6 +183,22 @@ func (d *database) unlessBusy(ctx context.Context, what string, do func(*sql.DB)
 	}
 }
 
+// findWidths are how many identities the statements have that look them up. There are few, so that each is prepared
+// once.
+var findWidths = []int{1, 8, 64, maxVariables}
+
+// widened returns identities as values, the last one again and again up to one of the widths.
+func widened(identities []Identity) (values []any) {
+	for i := range identities {
+		values = append(values, identities[i][:])
+	}
+	width := findWidths[slices.IndexFunc(findWidths, func(width int) bool { return width >= len(identities) })]
+	for len(values) < width {
+		values = append(values, values[len(values)-1])
+	}
+	return values
+}
+
 func (s *inSQLite) Find(ctx context.Context, identities []Identity) (map[Identity]Place, error) {
 	identities, err := distinct(identities)
 	if err != nil {
@@ -170,14 +206,15 @@ func (s *inSQLite) Find(ctx context.Context, identities []Identity) (map[Identit
 	}
 	found := map[Identity]Place{}
 	return found, parts(len(identities), maxVariables, func(from, to int) error {
-		var values []any
-		for i := range identities[from:to] {
-			values = append(values, identities[from+i][:])
-		}
-		places := strings.Repeat(", ?", to-from)[2:]
+		values := widened(identities[from:to])
+		places := strings.Repeat(", ?", len(values))[2:]
 		return s.unlessBusy(ctx, "find", func(db *sql.DB) error {
-			rows, err := db.QueryContext(ctx, `select identity, "index", timestamp from `+s.table+
-				` where identity in (`+places+`)`, values...)
+			find, err := s.statement(ctx, db, `select identity, "index", timestamp from `+s.table+
+				` where identity in (`+places+`)`)
+			if err != nil {
+				return err
+			}
+			rows, err := find.QueryContext(ctx, values...)
 			if err != nil {
 				return err
 			}
