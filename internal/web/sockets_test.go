@@ -712,6 +712,49 @@ func TestTLS(t *testing.T) {
 	}
 }
 
+// TestHalfBodiesGo: if there are too many connections, and something is asked on all of them, the one whose body is read
+// for the longest is closed. One whose request was read whole is not.
+func TestHalfBodiesGo(t *testing.T) {
+	f := newFixture(t, 0, func(o *Options) { o.Limits.Connections, o.Limits.Reading = 3, time.Hour })
+	address, _ := f.listening(nil)
+	f.log.Slow = time.Hour
+	asked := dial(t, address)
+	fmt.Fprintf(asked, "GET /checkpoint HTTP/1.1\r\nHost: log\r\n\r\n")
+	isAsked(f, 1)
+	var halves []net.Conn
+	for n := range 2 {
+		half := dial(t, address)
+		fmt.Fprintf(half, "POST /ct/v1/add-chain HTTP/1.1\r\nHost: log\r\nContent-Length: 1000\r\n\r\n{")
+		for f.front.uses.connections.reading() != n+1 {
+			time.Sleep(time.Millisecond)
+		}
+		halves = append(halves, half)
+	}
+	more := dial(t, address)
+	fmt.Fprintf(more, "GET /healthz HTTP/1.1\r\nHost: log\r\n\r\n")
+	if answer, err := http.ReadResponse(bufio.NewReader(more), nil); err != nil || answer.StatusCode != 200 {
+		t.Fatalf("none is taken, though two have half bodies: %v", err)
+	}
+	closed(t, "the one whose body is read for the longest", halves[0])
+	if f.front.uses.connections.reading() != 1 {
+		t.Errorf("%d bodies are read", f.front.uses.connections.reading())
+	}
+}
+
+// waiting is on how many connections nothing is asked.
+func (c *connections) waiting() int {
+	c.mutex.Lock()
+	defer c.mutex.Unlock()
+	return c.idle.of.Len()
+}
+
+// reading is of how many connections a body is being read.
+func (c *connections) reading() int {
+	c.mutex.Lock()
+	defer c.mutex.Unlock()
+	return c.halves.of.Len()
+}
+
 // watchedClose notes of each Close whether the lock of the connections is held.
 type watchedClose struct {
 	net.Conn
@@ -736,10 +779,10 @@ func TestIdleIsClosedUnderTheLock(t *testing.T) {
 	connection := &open{Conn: w}
 	connection.closed = func() { c.leave(connection) }
 	c.isIdle(connection, true)
-	if !c.closeIdle() || len(w.held) == 0 || !w.held[0] {
+	if !c.closeOne() || len(w.held) == 0 || !w.held[0] {
 		t.Errorf("it is closed without the lock: %v", w.held)
 	}
-	if c.isIdle(connection, true); c.waiting() != 0 || c.closeIdle() {
+	if c.isIdle(connection, true); c.waiting() != 0 || c.closeOne() {
 		t.Error("a connection that is closed counts as one on which nothing is asked")
 	}
 }

@@ -71,6 +71,10 @@ func (f *Front) body(r *http.Request, client netip.Addr) (body []byte, taken int
 	if r.ContentLength > MaxBody {
 		return nil, 0, refusal{status: http.StatusRequestEntityTooLarge, name: "body-too-large", closes: true}
 	}
+	if connection, ok := r.Context().Value(openKey{}).(*open); ok {
+		f.uses.connections.isReading(connection, true)
+		defer f.uses.connections.isReading(connection, false)
+	}
 	piece := make([]byte, 16<<10)
 	for {
 		n, err := r.Body.Read(piece)
