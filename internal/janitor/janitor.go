@@ -126,16 +126,22 @@ type Janitor struct {
 	config  Config
 	tiles   settled
 	heads   settled
-	thin    settled
 	sweep   sweep
 	reread  reread
 	staged  listing
-	thinned listing
+	thin    thinning
 	issuers issuers
 	report  struct {
 		sync.Mutex
 		Report
 	}
+}
+
+// thinning is what is known for thinning the heads: one that was published for Keep.Thin, one that was published for
+// longer and is not old yet, and when the heads are listed again.
+type thinning struct {
+	crowded, recent settled
+	due             time.Duration
 }
 
 // listing is where the listing of a prefix ended, and when it is due again.

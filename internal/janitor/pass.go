@@ -59,7 +59,8 @@ func (j *Janitor) pass(ctx context.Context) {
 	now, keep := j.config.Clock.Elapsed(), j.config.Keep
 	j.tiles.look(newest.Head, now, keep.Tiles)
 	j.heads.look(newest.Head, now, keep.Heads)
-	j.thin.look(newest.Head, now, keep.Thin)
+	j.thin.crowded.look(newest.Head, now, keep.Thin)
+	j.thin.recent.look(newest.Head, now, 2*(keep.Thin+keep.Every))
 	for _, part := range []struct {
 		what string
 		do   func(context.Context, Newest) error
@@ -181,22 +182,29 @@ func (j *Janitor) whole(ctx context.Context, full tlog.Tile, newest signer.Head)
 // deleteHeads deletes the heads before the newest one that is older than Keep.Heads. Of those before the newest one
 // that is older than Keep.Thin it keeps one in each Keep.Apart. A node needs the newest head, and otherwise checks only
 // whether there is a later one.
+//
+// A head is only deleted for the one that is kept before it if no other node deletes that one as an old one meanwhile:
+// all later heads must have been published for less than Keep.Heads. So heads are thinned only after one that was seen at
+// most five times Keep.Thin and Keep.Every ago. Otherwise two nodes would leave neither of two heads.
 func (j *Janitor) deleteHeads(ctx context.Context, _ Newest) error {
 	now := j.config.Clock.Elapsed()
-	if j.thin.head == (signer.Head{}) || now < j.thinned.due {
+	if j.thin.crowded.head == (signer.Head{}) || now < j.thin.due {
 		return nil
 	}
 	names, err := j.list(ctx, headsPrefix, "")
 	if err != nil {
 		return err
 	}
-	old, crowded := headName(j.heads.head), headName(j.thin.head)
+	old, crowded, recent := headName(j.heads.head), headName(j.thin.crowded.head), headName(j.thin.recent.head)
+	mayThin := j.thin.recent.head != (signer.Head{}) && 5*(j.config.Keep.Thin+j.config.Keep.Every) <= j.config.Keep.Heads
 	kept, left := uint64(0), maxDeleted
 	for _, name := range names {
 		timestamp, ok := timestampOf(name)
 		isThin := name < crowded && kept > 0 && timestamp < kept+uint64(j.config.Keep.Apart.Milliseconds())
 		if !ok || name >= old && !isThin {
-			kept = timestamp
+			if mayThin && name >= recent {
+				kept = timestamp
+			}
 			continue
 		}
 		if left--; left < 0 {
@@ -207,7 +215,7 @@ func (j *Janitor) deleteHeads(ctx context.Context, _ Newest) error {
 		}
 	}
 	if len(names) < stores.MaxListed {
-		j.thinned.due = now + j.config.Keep.Thin
+		j.thin.due = now + j.config.Keep.Thin
 	}
 	return nil
 }

@@ -5,6 +5,7 @@ import (
 	"time"
 
 	"wagtenib/internal/sim"
+	"wagtenib/internal/witness"
 )
 
 // numbers returns the numbers from first on, so many.
@@ -62,5 +63,27 @@ func TestJanitorDeletes(t *testing.T) {
 	if s := result.Stats; s.Partials < 8 || s.OldHeads < 8 || s.Reread == 0 || s.Repeats < 8 {
 		t.Errorf("of more than 8 partial tiles and heads, %d and %d were deleted, %d tiles were read again, and %d "+
 			"entries were answered again", s.Partials, s.OldHeads, s.Reread, s.Repeats)
+	}
+}
+
+// TestJanitorsLeaveOneHead has a node start again, so that its janitor does not know how long a head stands. It must not
+// delete that head for the one before it, which the other node's janitor deletes meanwhile as an old one.
+func TestJanitorsLeaveOneHead(t *testing.T) {
+	for seed := range int64(100) {
+		plan := sim.Plan{
+			Seed: 48_859 + seed, Machines: 2, Janitors: true,
+			Witnesses: sim.Witnesses{Count: 3, Quorums: witness.Quorums{Publish: 3, Start: 2, Faults: 1}},
+			Faults: []sim.Fault{{At: 151, On: "lock: read", Kind: sim.IndexWrong, Count: 5},
+				{At: 151, On: "index: add", Kind: sim.KilledBefore}},
+			Clients: []sim.Client{
+				{Numbers: numbers(0, 4), Burst: true},
+				{Begins: 15 * time.Second, Numbers: numbers(0, 4)},
+				{Begins: 30 * time.Second, Numbers: numbers(0, 4)},
+				{Begins: 3675 * time.Millisecond, Machine: 1, Numbers: numbers(0, 4)},
+			},
+		}
+		if result := sim.Run(plan, proved, false); result.Violation != nil {
+			t.Errorf("%v\n%s", result.Violation, sim.Explain(plan, proved))
+		}
 	}
 }

@@ -478,16 +478,14 @@ var all = []planted{
 // missed are the planted faults that 2,000 histories do not find, with the check that hides each. all has a fault in
 // which the hiding check is taken out as well, and which is found.
 var missed = map[string]string{
-	"a swap of unknown outcome counts as won":     "the text is read again after each swap",
 	"the text after a swap is not compared":       "the head must match the state",
 	"an old state's lost edge is damage":          "a deleted partial tile is read as the beginning of its full one",
 	"the seen head is forgotten":                  "a state is compared with the store's heads",
-	"a state behind the accepted one is accepted": "the proved decision refuses it, and so is an older text than the last one",
+	"a state behind the accepted one is accepted": "the proved decision refuses it, and an older text is refused",
 	"an older text of the lock is taken":          "the state is compared with the accepted one",
 	"a lock that is gone is made again": "an engine refuses to create a lock twice, and a new lock is older than " +
 		"the store's heads",
-	"a state need not go on from the accepted one": "the guard refuses the head",
-	"a node that was away does not look back":      "the state is compared after the swap",
+	"a node that was away does not look back": "the state is compared after the swap",
 	"readers see an older head again": "an older text than the last one is refused, " +
 		"and so is a state behind the accepted one",
 }

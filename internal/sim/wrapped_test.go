@@ -1,7 +1,9 @@
 package sim_test
 
 import (
+	"strings"
 	"testing"
+	"time"
 
 	"wagtenib/internal/decider"
 	"wagtenib/internal/node"
@@ -105,6 +107,32 @@ func TestWrappedDecisions(t *testing.T) {
 		}
 		if found != of.rule {
 			t.Errorf("%s: found by rule %q and not by %q", of.name, found, of.rule)
+		}
+	}
+}
+
+// TestRefusesTheCommandOfAnotherStep has the decider say the outcome of an earlier step in the place of this one's, as a
+// reply would that has slipped by one. The node must not swap the lock to it, and must say what is wrong.
+func TestRefusesTheCommandOfAnotherStep(t *testing.T) {
+	for _, do := range []string{decider.Stage, decider.Swap} {
+		var earlier *decider.Command
+		slips := &wrapped{Decider: decider.New(), next: func(_ *wrapped, _, next *decider.Command,
+			err error) (*decider.Command, error) {
+			if err != nil || next.Do != do {
+				return next, err
+			}
+			if earlier == nil {
+				earlier = next
+				return next, nil
+			}
+			other := *next
+			other.New = earlier.New
+			return &other, nil
+		}}
+		plan := sim.Plan{Seed: 1, Machines: 1, Clients: []sim.Client{{Begins: 2 * time.Second, Numbers: numbers(0, 3)}}}
+		v := sim.Run(plan, node.Proved{Decider: slips, Steps: step.New(sim.Origin)}, false).Violation
+		if v == nil || v.Rule != "a stop is named" || !strings.Contains(v.Text, do+" of another step than this round's") {
+			t.Errorf("%s of an earlier step: %v", do, v)
 		}
 	}
 }

@@ -1,6 +1,7 @@
 package web
 
 import (
+	"cmp"
 	"container/list"
 	"context"
 	"fmt"
@@ -151,64 +152,82 @@ func addressOf(text string) netip.Addr {
 	return pair.Addr().Unmap().WithZone("")
 }
 
-// connections counts those that are open, and has those on which nothing is asked.
+// connections counts those that are open, and has those that may be closed if there are too many.
 type connections struct {
 	open      atomic.Int64
 	byAddress counts
 	mutex     sync.Mutex
-	// idle has the idle connections, the longest idle one first. at is the position of each in it.
-	idle list.List
-	at   map[*open]*list.Element
+	// idle has the connections on which nothing is asked, the longest idle one first. halves has those of which a body is
+	// being read, the one that is read for the longest first.
+	idle, halves ordered
+}
+
+// ordered has connections in the order in which they were added.
+type ordered struct {
+	of list.List
+	at map[*open]*list.Element
+}
+
+func (l *ordered) add(connection *open) {
+	if l.at == nil {
+		l.at = map[*open]*list.Element{}
+	}
+	l.at[connection] = l.of.PushBack(connection)
+}
+
+func (l *ordered) remove(connection *open) {
+	if at, there := l.at[connection]; there {
+		l.of.Remove(at)
+		delete(l.at, connection)
+	}
+}
+
+// first returns the connection that was added first, or nil.
+func (l *ordered) first() *open {
+	if first := l.of.Front(); first != nil {
+		return first.Value.(*open)
+	}
+	return nil
 }
 
 // isIdle notes whether nothing is asked on a connection.
-func (c *connections) isIdle(connection *open, idle bool) {
+func (c *connections) isIdle(connection *open, idle bool) { c.note(&c.idle, connection, idle) }
+
+// isReading notes whether a body is being read from a connection.
+func (c *connections) isReading(connection *open, reading bool) {
+	c.note(&c.halves, connection, reading)
+}
+
+func (c *connections) note(in *ordered, connection *open, is bool) {
 	c.mutex.Lock()
 	defer c.mutex.Unlock()
-	c.remove(connection)
-	if !idle || connection.isClosed {
-		return
+	in.remove(connection)
+	if is && !connection.isClosed {
+		in.add(connection)
 	}
-	if c.at == nil {
-		c.at = map[*open]*list.Element{}
-	}
-	c.at[connection] = c.idle.PushBack(connection)
 }
 
 // leave notes that a connection is closed.
 func (c *connections) leave(connection *open) {
 	c.mutex.Lock()
 	defer c.mutex.Unlock()
-	c.remove(connection)
+	c.idle.remove(connection)
+	c.halves.remove(connection)
 	connection.isClosed = true
 }
 
-// remove is called with the lock.
-func (c *connections) remove(connection *open) {
-	if at, there := c.at[connection]; there {
-		c.idle.Remove(at)
-		delete(c.at, connection)
-	}
-}
-
-// waiting is on how many connections nothing is asked.
-func (c *connections) waiting() int {
+// closeOne closes the connection on which nothing was asked for the longest, or if there is none the one whose body is
+// being read for the longest: a body of an honest client comes at once. It reports whether there was one. The lock is
+// held until it is closed: another request on it must not be taken in between.
+func (c *connections) closeOne() bool {
 	c.mutex.Lock()
-	defer c.mutex.Unlock()
-	return c.idle.Len()
-}
-
-// closeIdle closes the connection on which nothing was asked for the longest, and reports whether there was one. The
-// lock is held until it is closed: another request on it must not be taken in between.
-func (c *connections) closeIdle() bool {
-	c.mutex.Lock()
-	first := c.idle.Front()
-	if first == nil {
+	connection := cmp.Or(c.idle.first(), c.halves.first())
+	if connection == nil {
 		c.mutex.Unlock()
 		return false
 	}
-	connection := first.Value.(*open)
-	c.remove(connection)
+	c.idle.remove(connection)
+	c.halves.remove(connection)
 	_ = connection.Conn.Close()
 	c.mutex.Unlock()
 	connection.Close()
@@ -272,7 +291,7 @@ func (f *Front) takeConnection(connection net.Conn) net.Conn {
 	}
 	for f.uses.connections.open.Add(1) > int64(f.limits.Connections) {
 		f.uses.connections.open.Add(-1)
-		if !f.uses.connections.closeIdle() {
+		if !f.uses.connections.closeOne() {
 			if counted {
 				f.uses.connections.byAddress.give(address)
 			}

@@ -46,7 +46,7 @@ func newMetrics(f *Front) *metrics {
 		reloads: counter("ctserve_reloads_total", "Reloads of the roots and of the TLS certificate.", "of", "outcome"),
 	}
 	m.closedIdle = prometheus.NewCounter(prometheus.CounterOpts{Name: "ctserve_idle_connections_closed_total",
-		Help: "Idle connections that were closed to make room for new ones."})
+		Help: "Connections that were idle, or sent a body slowly, and were closed to make room for new ones."})
 	m.handshakes = prometheus.NewCounter(prometheus.CounterOpts{Name: "ctserve_tls_handshakes_failed_total",
 		Help: "TLS handshakes that failed."})
 	build := prometheus.NewGaugeVec(prometheus.GaugeOpts{Name: "ctserve_build_info",

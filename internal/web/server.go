@@ -55,9 +55,19 @@ func (f *Front) Serve(handler http.Handler) *Server {
 		TLSNextProto: map[string]func(*http.Server, *tls.Conn, http.Handler){},
 		ErrorLog:     stdlog.New(httpLines{f}, "", 0),
 		ConnState:    s.remember,
+		ConnContext: func(ctx context.Context, connection net.Conn) context.Context {
+			counted, ok := openIn(connection)
+			if !ok {
+				return ctx
+			}
+			return context.WithValue(ctx, openKey{}, counted)
+		},
 	}
 	return s
 }
+
+// openKey is where a request's context has its connection, if that counts as a client's.
+type openKey struct{}
 
 // httpLines receives the errors of net/http. A failed handshake concerns only the client, and is counted.
 type httpLines struct{ front *Front }

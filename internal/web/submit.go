@@ -75,6 +75,10 @@ func (f *Front) body(r *http.Request, client netip.Addr) (body []byte, taken int
 	if r.ContentLength > MaxBody {
 		return nil, 0, refusal{status: http.StatusRequestEntityTooLarge, name: "body-too-large", closes: true}
 	}
+	if connection, ok := r.Context().Value(openKey{}).(*open); ok {
+		f.uses.connections.isReading(connection, true)
+		defer f.uses.connections.isReading(connection, false)
+	}
 	body = make([]byte, 0, min(r.ContentLength+1, maxPiece))
 	for {
 		if len(body) == cap(body) {

@@ -1,0 +1,215 @@
+package main
+
+import (
+	"bufio"
+	"context"
+	"fmt"
+	"net"
+	"os"
+	"os/exec"
+	"strings"
+	"syscall"
+	"testing"
+	"time"
+
+	"wagtenib/internal/trial"
+	"wagtenib/internal/web/standin"
+)
+
+// At SIGTERM who waits is answered, idle connections and half requests don't hold it up, and it ends by itself with
+// status 0.
+func TestEndBySIGTERM(t *testing.T) {
+	at := newPlace(t)
+	p := started(t, "1h", at.words()...)
+	type came struct {
+		status int
+		text   string
+	}
+	answers := make(chan came, 5)
+	for i := 0; i < 5; i++ {
+		body := at.submission()
+		go func() {
+			status, text := post(p.clients, body)
+			answers <- came{status, text}
+		}()
+	}
+	idle, err := net.Dial("tcp", p.clients)
+	if err != nil {
+		t.Fatal(err)
+	}
+	defer idle.Close()
+	half, err := net.Dial("tcp", p.clients)
+	if err != nil {
+		t.Fatal(err)
+	}
+	defer half.Close()
+	fmt.Fprint(half, "POST /ct/v1/add-chain HTTP/1.1\r\nHost: log\r\nContent-Le")
+	p.shows("ctserve_queue 5")
+	began := time.Now()
+	p.signal(syscall.SIGTERM)
+	for i := 0; i < 5; i++ {
+		if answer := <-answers; answer.status != 200 || !strings.Contains(answer.text, `"sct_version":0`) {
+			t.Errorf("who waited: %d %s", answer.status, answer.text)
+		}
+	}
+	if status := p.ends(); status != 0 || time.Since(began) > trial.Longest/2 {
+		t.Errorf("it ended with status %d after %v", status, time.Since(began))
+	}
+}
+
+// TestEndWithinItsBound: if waiting requests cannot be answered in time, the program ends anyway, and logs it.
+func TestEndWithinItsBound(t *testing.T) {
+	at := newPlace(t)
+	for within := 300 * time.Millisecond; ; within *= 4 {
+		p := started(t, "1h", at.words("--shutdown-timeout", within.String())...)
+		slow, err := net.Dial("tcp", p.clients)
+		if err != nil {
+			t.Fatal(err)
+		}
+		defer slow.Close()
+		fmt.Fprint(slow, "POST /ct/v1/add-chain HTTP/1.1\r\nHost: log\r\nContent-Length: 100\r\n\r\n{")
+		p.shows("ctserve_queued_bytes 1")
+		began := time.Now()
+		p.signal(syscall.SIGTERM)
+		line := p.until("end")
+		if status := p.ends(); status != 1 || time.Since(began) > trial.Longest/2 {
+			t.Errorf("it ended with status %d after %v", status, time.Since(began))
+		}
+		// (on a busy machine the log itself may not have ended by then, and nothing is said of who waits)
+		if line["fault"] == context.DeadlineExceeded.Error() && within < trial.Longest/8 {
+			continue
+		}
+		if line["level"] != "error" || !strings.Contains(fmt.Sprint(line["fault"]), "clients") {
+			t.Errorf("it says %v", line)
+		}
+		return
+	}
+}
+
+// A second signal ends it at once.
+func TestSecondSignal(t *testing.T) {
+	at := newPlace(t)
+	p := started(t, "1h", at.words()...)
+	slow, err := net.Dial("tcp", p.clients)
+	if err != nil {
+		t.Fatal(err)
+	}
+	defer slow.Close()
+	fmt.Fprint(slow, "POST /ct/v1/add-chain HTTP/1.1\r\nHost: log\r\nContent-Length: 100\r\n\r\n{")
+	p.shows("ctserve_queued_bytes 1")
+	p.signal(syscall.SIGTERM)
+	p.until("ending")
+	p.signal(syscall.SIGTERM)
+	if status := p.ends(); status != -1 {
+		t.Errorf("it ended with status %d, and not by the signal", status)
+	}
+}
+
+func TestReloadBySIGHUP(t *testing.T) {
+	at := newPlace(t)
+	p := started(t, "20ms", at.words()...)
+	other, err := standin.NewAuthority("Another root")
+	if err != nil {
+		t.Fatal(err)
+	}
+	der, err := other.Issue(false, time.Date(2027, 1, 1, 0, 0, 0, 0, time.UTC))
+	if err != nil {
+		t.Fatal(err)
+	}
+	if status, text := post(p.clients, standin.Submission(der)); status != 400 ||
+		!strings.Contains(text, "unknown-root") {
+		t.Errorf("before: %d %s", status, text)
+	}
+	at.write("roots.pem", append(at.authority.PEM(), other.PEM()...))
+	p.signal(syscall.SIGHUP)
+	if line := p.until("reload"); line["level"] != "info" || line["of"] != "roots" {
+		t.Errorf("it says %v", line)
+	}
+	if status, text := post(p.clients, standin.Submission(der)); status != 200 {
+		t.Errorf("after: %d %s", status, text)
+	}
+	at.write("roots.pem", []byte("none"))
+	p.signal(syscall.SIGHUP)
+	if line := p.until("reload"); line["level"] != "error" {
+		t.Errorf("it says %v", line)
+	}
+	if status, text := post(p.clients, standin.Submission(der)); status != 200 {
+		t.Errorf("with a file of no roots: %d %s", status, text)
+	}
+	if _, text := get(p.operator, "/metrics"); !strings.Contains(text,
+		`ctserve_reloads_total{of="roots",outcome="failed"} 1`+"\n") {
+		t.Error("the reload that failed isn't counted")
+	}
+	p.signal(syscall.SIGINT)
+	if status := p.ends(); status != 0 {
+		t.Errorf("it ended with status %d", status)
+	}
+}
+
+// TestReloadThatHangs has the roots' file be one that gives nothing, as on a disk of a network that is gone: the node
+// serves on, and a signal ends it.
+func TestReloadThatHangs(t *testing.T) {
+	at := newPlace(t)
+	p := started(t, "20ms", at.words()...)
+	if err := os.Remove(at.path("roots.pem")); err != nil {
+		t.Fatal(err)
+	}
+	if err := syscall.Mkfifo(at.path("roots.pem"), 0o600); err != nil {
+		t.Fatal(err)
+	}
+	p.signal(syscall.SIGHUP)
+	// (that it is opened for reading says that the reload has begun)
+	writer, err := os.OpenFile(at.path("roots.pem"), os.O_WRONLY, 0)
+	if err != nil {
+		t.Fatal(err)
+	}
+	defer writer.Close()
+	p.signal(syscall.SIGHUP)
+	if status, text := post(p.clients, at.submission()); status != 200 {
+		t.Errorf("%d %s", status, text)
+	}
+	p.signal(syscall.SIGTERM)
+	if status := p.ends(); status != 0 {
+		t.Errorf("it ended with status %d", status)
+	}
+}
+
+// TestReaderOfLinesGoes has whoever reads standard error go away: the log must go on without its lines, and end in
+// order.
+func TestReaderOfLinesGoes(t *testing.T) {
+	at := newPlace(t)
+	read, write, err := os.Pipe()
+	if err != nil {
+		t.Fatal(err)
+	}
+	clients := trial.Free(t)
+	command := exec.Command(os.Args[0], append(at.words(), "--listen", clients, "--log-requests")...)
+	command.Env = append(os.Environ(), childKey+"=1", everyKey+"=20ms")
+	command.Stderr = write
+	if err := command.Start(); err != nil {
+		t.Fatal(err)
+	}
+	defer command.Process.Kill()
+	write.Close()
+	for lines := bufio.NewScanner(read); ; {
+		if !lines.Scan() {
+			t.Fatal("it ended before it served")
+		}
+		if strings.Contains(lines.Text(), `"serving"`) {
+			break
+		}
+	}
+	read.Close()
+	for i := 0; i < 5; i++ {
+		// (each request writes a line)
+		if status, text := post(clients, at.submission()); status != 200 {
+			t.Errorf("%d %s", status, text)
+		}
+	}
+	if err := command.Process.Signal(syscall.SIGTERM); err != nil {
+		t.Fatal(err)
+	}
+	if err := command.Wait(); err != nil {
+		t.Errorf("it ended by %v", err)
+	}
+}
