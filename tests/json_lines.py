@@ -1,6 +1,6 @@
 """Lines of JSON, as docs/LINES.md has them: how they are read and written, and the types of their values.
 
-For the programs of examples/ that answer such lines. Nothing of ctlog's code is used.
+For expected.py and the scripts of examples/. Nothing of ctlog's code is used.
 """
 import base64
 import json
