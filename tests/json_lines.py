@@ -1,6 +1,6 @@
 """Lines of JSON, as docs/LINES.md has them: how they are read and written, and the types of their values.
 
-For the programs of examples/ that answer such lines. Nothing of ctlog's code is used.
+For expected.py and the scripts of examples/. Nothing of ctlog's code is used.
 """
 import base64
 import json
@@ -74,25 +74,10 @@ def nesting(text):
     return deepest
 
 
-def json_of(line, longest=LONGEST_LINE):
+def json_of(line):
     """The JSON value that a line is. A ValueError says why it is none."""
     text = line.decode()
-    if len(line) > longest or nesting(text) > DEEPEST:
+    if len(line) > LONGEST_LINE or nesting(text) > DEEPEST:
         raise ValueError("too long, or nested too deep")
     kinds = {"parse_int": whole_number, "parse_float": fraction, "parse_constant": no_number}
     return json.loads(text, object_pairs_hook=object_of, **kinds)
-
-
-def json_line(value):
-    """A value as compact JSON in UTF-8, its keys in the order of their bytes, and with the shortest escapes (RFC 8259)."""
-    return json.dumps(value, separators=(",", ":"), sort_keys=True, ensure_ascii=False).encode()
-
-
-def lines_of(stream, longest=LONGEST_LINE):
-    """The lines of a stream without their ends, each as soon as it is read. If a line is too long, only a beginning of it is returned, which is too long as
-    well. The rest is skipped."""
-    while line := stream.readline(longest + 2):
-        rest = line
-        while len(rest) == longest + 2 and not rest.endswith(b"\n"):
-            rest = stream.readline(longest + 2)
-        yield line.removesuffix(b"\n")

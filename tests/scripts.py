@@ -261,7 +261,7 @@ def main():
         fail("four_fronts.py writes other lines than four-fronts.jsonl (examples/README.md says how to write them)")
     if run("tiles/hostile.py").stdout != (HERE.parent / "crates" / "tile_tests" / "src" / "hostile.rt").read_bytes():
         fail("tiles/hostile.py writes another text than crates/tile_tests/src/hostile.rt")
-    for script in ("checks.py", "user_scripts.py", "readme.py", "names/compare.py", "names/table.py", "names/damaged.py"):
+    for script in ("checks.py", "user_scripts.py", "readme.py", "names/compare.py", "names/table.py"):
         run_script(script)
     print(f"tests/scripts.py: as expected, over {DAMAGED} damaged lines, {chains} chains, {len(INPUTS)} inputs, {sessions} sessions, {outputs} damaged outputs, {shell} scripts for shells and {python} in Python.")
 

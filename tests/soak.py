@@ -82,7 +82,7 @@ class Soak:
         for _ in range(4):
             if self.cluster("start") == 0:
                 return
-        self.fail(f"the log does not start: {(self.work / 'cluster.log').read_text()[-1000:]}")
+        self.fail(f"the log does not start: {(self.work / 'cluster.log').read_text().splitlines()[-1]}")
 
     def processes(self):
         """Returns the log's processes by their names, and those of the engines, each with its id."""
@@ -186,9 +186,9 @@ class Soak:
     def judge(self, audit):
         self.start()
         if audit.returncode:
-            self.fail(f"ctserve audit: {(self.work / 'audit.log').read_text()[-2000:]}")
+            self.fail(f"ctserve audit: {' / '.join((self.work / 'audit.log').read_text().splitlines()[-5:])} ({self.work}/report)")
         if self.cluster("stop"):
-            self.fail(f"cluster.sh stop: {(self.work / 'cluster.log').read_text()[-2000:]}")
+            self.fail(f"what was published or answered: {' / '.join((self.work / 'cluster.log').read_text().splitlines()[-3:])}")
         for path in self.work.glob("*.log"):
             for found in PANICS.findall(path.read_bytes()):
                 self.fail(f"{path.name}: {found.decode(errors='replace')}")

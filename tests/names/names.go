@@ -1,4 +1,4 @@
-// Reads the names of certificates with golang.org/x/crypto/cryptobyte, for damaged.py.
+// Reads the names of certificates with golang.org/x/crypto/cryptobyte, for compare.py.
 //
 // A line of its input is a certificate in base64. For each, it prints a line: the names of subjectAltName, each with its kind, and the common names of the
 // subject, a byte a character (255 for those above), in base64, as JSON. The line is null if a field isn't an element of DER, or is not the field of RFC
