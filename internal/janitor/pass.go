@@ -197,14 +197,16 @@ func (j *Janitor) deleteHeads(ctx context.Context, _ Newest) error {
 	}
 	old, crowded, recent := headName(j.heads.head), headName(j.thin.crowded.head), headName(j.thin.recent.head)
 	mayThin := j.thin.recent.head != (signer.Head{}) && 5*(j.config.Keep.Thin+j.config.Keep.Every) <= j.config.Keep.Heads
-	kept, left := uint64(0), maxDeleted
+	kept, keptName, left := uint64(0), "", maxDeleted
 	for _, name := range names {
 		timestamp, ok := timestampOf(name)
 		isThin := name < crowded && kept > 0 && timestamp < kept+uint64(j.config.Keep.Apart.Milliseconds())
 		if !ok || name >= old && !isThin {
-			if mayThin && name >= recent {
-				kept = timestamp
-			}
+			kept, keptName = timestamp, name
+			continue
+		}
+		if name >= old && !(mayThin && keptName >= recent) {
+			// The one that is kept stays the same, so that all nodes thin alike.
 			continue
 		}
 		if left--; left < 0 {
