@@ -130,7 +130,11 @@ func (j *judge) putHead(name, note string) {
 	if head.Timestamp == j.newest.Timestamp && head != j.newest {
 		j.breaks("one head a timestamp", "%s and the head of %d entries have one timestamp", name, j.newest.Size)
 	}
-	if head.Timestamp > j.newest.Timestamp != (head.Size >= j.newest.Size) && head.Size != j.newest.Size {
+	// Witnesses remember trees, and not their timestamps. So if all else was rolled back to an earlier head of a tree that
+	// they saw, a head with more entries may be earlier than one of that tree.
+	isSmaller := head.Timestamp > j.newest.Timestamp && head.Size < j.newest.Size
+	isEarlier := head.Timestamp <= j.newest.Timestamp && head.Size > j.newest.Size
+	if isSmaller || isEarlier && !j.w.excuses.signed {
 		j.breaks("heads do not go back", "%s is put after the head of %d entries at %d ms", name, j.newest.Size,
 			j.newest.Timestamp)
 	}

@@ -87,3 +87,27 @@ func TestJanitorsLeaveOneHead(t *testing.T) {
 		}
 	}
 }
+
+// TestTimestampsAfterAnOldBackup has a node whose clock is ahead publish a second head of one tree, and then all rolled
+// back to the first one. The witnesses saw that tree, so the log goes on, and its next head may be earlier than the second
+// one was.
+func TestTimestampsAfterAnOldBackup(t *testing.T) {
+	for seed := range int64(21) {
+		for at := 195; at < 225; at += 3 {
+			plan := sim.Plan{
+				Seed: 57_330 + seed, Machines: 3,
+				Witnesses: sim.Witnesses{Count: 3, Quorums: witness.Quorums{Publish: 2, Start: 3, Faults: 1}},
+				Faults: []sim.Fault{{At: 60, Kind: sim.ClockForward, Long: 3 * time.Second, Count: 8},
+					{At: 150, Kind: sim.DoneSaysFailed, Long: 700 * time.Millisecond, Count: 11},
+					{At: at, Kind: sim.AllRolledBack, Count: 3}},
+				Clients: []sim.Client{
+					{Machine: 1, Numbers: numbers(3000, 6)},
+					{Begins: 2235 * time.Millisecond, Machine: 1, Numbers: []int{0, 0, 0, 1}},
+				},
+			}
+			if result := sim.Run(plan, proved, false); result.Violation != nil {
+				t.Fatalf("%v\n%s", result.Violation, sim.Explain(plan, proved))
+			}
+		}
+	}
+}
