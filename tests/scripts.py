@@ -1,6 +1,6 @@
 #!/usr/bin/env python3
 """Tries the scripts of examples/ and of this folder. It compares expected.py with the stored replies, with the sessions and with bad_lines.py on damaged lines; has
-check.py refuse damaged outputs; and compares what pem_lines.py, four_fronts.py and tiles/hostile.py make with the files in the tree. It looks for names that no
+check.py refuse damaged outputs; and compares what pem_lines.py and four_fronts.py make with the files in the tree. It looks for names that no
 script in Python defines, and runs shellcheck over the others. It then runs checks.py, user_scripts.py, readme.py and the scripts of names/.
 
 It prints one line if everything is as expected. Otherwise it names the fault, and ends with status 1.
@@ -259,8 +259,6 @@ def main():
             fail(f"expected.py computes other replies than {name}.expected.jsonl")
     if run("four_fronts.py", given=(EXAMPLES / "real-chains.jsonl").read_bytes()).stdout != (EXAMPLES / "four-fronts.jsonl").read_bytes():
         fail("four_fronts.py writes other lines than four-fronts.jsonl (examples/README.md says how to write them)")
-    if run("tiles/hostile.py").stdout != (HERE.parent / "crates" / "tile_tests" / "src" / "hostile.rt").read_bytes():
-        fail("tiles/hostile.py writes another text than crates/tile_tests/src/hostile.rt")
     for script in ("checks.py", "user_scripts.py", "readme.py", "names/compare.py", "names/table.py"):
         run_script(script)
     print(f"tests/scripts.py: as expected, over {DAMAGED} damaged lines, {chains} chains, {len(INPUTS)} inputs, {sessions} sessions, {outputs} damaged outputs, {shell} scripts for shells and {python} in Python.")
