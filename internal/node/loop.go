@@ -217,9 +217,15 @@ func (l *Loop) isStale(k *state) bool {
 //
 // A step from a state that is not the newest any more is lost at its swap, which costs a staged batch, and the next
 // round reads the lock. A swap from a state that is the newest hears the lock as well as a reading does. So a reading
-// finds out nothing that the step does not, and a node whose submissions wait for one makes it first. Before each of
-// these a node reads the lock: if no submission waits, after any failure or lost swap, while a fault is open, and if it
-// has not heard the lock for so long that it must look back.
+// finds out nothing that the step does not:
+//
+//   - A lock that was rolled back to an earlier text, or is gone, makes the swap fail, and the next round says so. One
+//     that was rolled back to the very text is found by the heads that are listed beside the swap, as after a reading.
+//   - The node looks back, and has the newest head cosigned again, only if it has not heard the lock for longer than
+//     maxUnheard. Then it does not begin from what it remembers.
+//
+// So the lock is read if no submission waits, after any failure or lost swap, while a fault is open, and if it was not
+// heard for so long.
 func (l *Loop) newestState(ctx context.Context) (*state, error) {
 	isMade := l.seen.isMade
 	l.seen.isMade = false

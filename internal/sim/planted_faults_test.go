@@ -538,7 +538,8 @@ var missed = map[string]string{
 	"an older text of the lock is taken":          "the state is compared with the accepted one",
 	"a lock that is gone is made again": "an engine refuses to create a lock twice, and a new lock is older than " +
 		"the store's heads",
-	"a node that was away does not look back": "the state is compared after the swap",
+	"a node that was away does not look back":     "the state is compared after the swap",
+	"the lock is not read if no submission waits": "the next swap is lost, and the lock is read after that",
 	"readers see an older head again": "an older text than the last one is refused, " +
 		"and so is a state behind the accepted one",
 }
