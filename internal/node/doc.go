@@ -26,8 +26,9 @@
 // README.md draws the life of a submission through these files.
 //
 //  1. node.go has the interfaces, and start.go says from which state a node continues.
-//  2. loop.go has the loop and its rounds, and pass.go and staged.go carry out each command.
+//  2. loop.go has the loop and its rounds, and pass.go, staged.go and swap.go carry out each command.
 //  3. seen.go refuses a lock that was rolled back. heads.go, witnesses.go and proofs.go publish, and index.go adds the
 //     places.
-//  4. requests.go answers submissions that the log has already, and pool.go holds those that wait.
+//  4. requests.go answers submissions that the log has already, pool.go holds those that wait, and known.go finds those
+//     that came into the log meanwhile.
 package node

@@ -17,9 +17,10 @@ type Loop struct {
 	*Node
 	seen seen
 	// edge has tiles of the newest state that need not be read again.
-	edge  map[string][]byte
-	last  last
-	clock timekeeper
+	edge   map[string][]byte
+	last   last
+	clock  timekeeper
+	recent recent
 	// witnessed has, for each witness, the size that it cosigned last as far as this node knows.
 	witnessed []uint64
 	// faultSince is when the first of the rounds failed that have failed since, by Elapsed.
@@ -146,30 +147,21 @@ func isHopeless(err error) bool {
 	return false
 }
 
-// round learns the newest state, has it published, and takes the waiting submissions one step further.
+// round has the newest state published, and takes the waiting submissions one step further.
 func (l *Loop) round(ctx context.Context) error {
 	ctx, cancel := l.config.Machine.Clock.Within(ctx, l.config.Pace.Round)
 	defer cancel()
 	l.last.decided, l.last.written, l.last.answered = false, 0, 0
 	began := l.config.Machine.Clock.Elapsed()
-	k, err := l.learn(ctx)
+	k, err := l.newestState(ctx)
 	if err != nil {
 		return err
 	}
 	if l.Leader() != "" {
 		l.pool.move()
 	}
-	// A state that is decided is published by any clock. With a wrong clock the node takes no submission.
-	skewed := l.clock.check(k.Timestamp)
 	p := &pass{Loop: l, from: k, command: k.look}
-	ready, err := p.reach(ctx)
-	if err == nil && ready && skewed != nil {
-		l.askTime(ctx, k)
-	}
-	if err != nil || !ready || skewed != nil {
-		return errors.Join(err, skewed)
-	}
-	if err := l.vouch(ctx, k); err != nil {
+	if ready, err := p.isReady(ctx); err != nil || !ready {
 		return err
 	}
 	batch := l.pool.take()
@@ -178,17 +170,40 @@ func (l *Loop) round(ctx context.Context) error {
 	if err != nil {
 		return err
 	}
-	if len(added) == 0 && !l.isStale(k) && l.Fault() == nil {
-		return p.deleteUnneeded(ctx)
-	}
-	if len(added) == 0 && l.Fault() != nil {
-		// A step without entries asks nothing of the index, so it would not show that the fault is over.
-		if err := l.indexWorks(ctx, k); err != nil {
-			return err
+	if len(added) == 0 {
+		if isDue, err := l.isDue(ctx, k); err != nil || !isDue {
+			return errors.Join(err, l.deleteUnneeded(ctx))
 		}
 	}
 	l.took("take", began)
 	return p.advance(ctx, added)
+}
+
+// isReady reports whether a step may be made: the newest state is published, the clock is right, and enough witnesses
+// have cosigned the head since this node started.
+func (p *pass) isReady(ctx context.Context) (bool, error) {
+	// A state that is decided is published by any clock. With a wrong clock the node takes no submission.
+	skewed := p.clock.check(p.from.Timestamp)
+	ready, err := p.reach(ctx)
+	if err == nil && ready && skewed != nil {
+		p.askTime(ctx, p.from)
+	}
+	if err != nil || !ready || skewed != nil {
+		return false, errors.Join(err, skewed)
+	}
+	if err := p.vouch(ctx, p.from); err != nil {
+		return false, err
+	}
+	return true, nil
+}
+
+// isDue reports whether a step without entries must be made: the newest head is too old, or a fault is open. Such a
+// step asks nothing of the index, so it would not show that the fault is over. So the index is asked first.
+func (l *Loop) isDue(ctx context.Context, k *state) (bool, error) {
+	if l.Fault() == nil {
+		return l.isStale(k), nil
+	}
+	return true, l.indexWorks(ctx, k)
 }
 
 // isStale reports whether a head without new entries is due: none was ever published, or the newest is too old.
@@ -197,30 +212,28 @@ func (l *Loop) isStale(k *state) bool {
 		k.Timestamp) > l.config.Pace.Refresh.Milliseconds()
 }
 
-// withoutKnown returns those of a batch that the log does not have. The others have come into it since they were looked
-// up, and their tickets say so.
-func (l *Loop) withoutKnown(ctx context.Context, k *state, batch []*Ticket) (added []*Ticket, err error) {
-	if len(batch) == 0 {
-		return nil, nil
+// newestState returns the newest state that this node knows, and reads the lock for it unless the round before made,
+// published and answered it.
+//
+// A step from a state that is not the newest any more is lost at its swap, which costs a staged batch, and the next
+// round reads the lock. A swap from a state that is the newest hears the lock as well as a reading does. So a reading
+// finds out nothing that the step does not:
+//
+//   - A lock that was rolled back to an earlier text, or is gone, makes the swap fail, and the next round says so. One
+//     that was rolled back to the very text is found by the heads that are listed beside the swap, as after a reading.
+//   - The node looks back, and has the newest head cosigned again, only if it has not heard the lock for longer than
+//     maxUnheard. Then it does not begin from what it remembers.
+//
+// So the lock is read if no submission waits, after any failure or lost swap, while a fault is open, and if it was not
+// heard for so long.
+func (l *Loop) newestState(ctx context.Context) (*state, error) {
+	isMade := l.seen.isMade
+	l.seen.isMade = false
+	if isMade && !l.pool.isEmpty() && l.Fault() == nil &&
+		l.config.Machine.Clock.Elapsed()-l.seen.heard <= maxUnheard {
+		return l.seen.newest, nil
 	}
-	identities := make([]stores.Identity, 0, len(batch))
-	for _, t := range batch {
-		identities = append(identities, t.identity)
-	}
-	found, err := l.config.Stores.Index.Find(ctx, identities)
-	if err != nil {
-		return nil, fmt.Errorf("node: the index: %w", err)
-	}
-	for _, t := range batch {
-		place, ok := found[t.identity]
-		if ok && place.Index < k.Size && (t.wrong == nil || *t.wrong != place) {
-			l.pool.resolve(t, Answer{Known: true})
-			continue
-		}
-		t.misplaced = ok
-		added = append(added, t)
-	}
-	return added, nil
+	return l.learn(ctx)
 }
 
 // learn reads the lock. A text that is not a later state's than the one before is refused; if the later one comes back,
@@ -254,12 +267,22 @@ func (l *Loop) learn(ctx context.Context) (*state, error) {
 			return nil, err
 		}
 	}
-	l.seen.heard, l.seen.newest = l.config.Machine.Clock.Elapsed(), k
-	l.newest.Store(k)
+	l.hears(k, l.config.Machine.Clock.Elapsed())
 	return k, nil
 }
 
-// read reads a text of the lock, from which the decider says what to do.
+// hears keeps a state as the newest one, of which the lock had the text then, by Elapsed.
+func (l *Loop) hears(k *state, then time.Duration) {
+	l.seen.heard, l.seen.newest = then, k
+	l.newest.Store(k)
+}
+
+// read takes a text that the lock had, from which the decider says what to do. Either a reading returned it, or this
+// node's own swap put it there.
+//
+// The outcome that is reported is that the lock has the text. The decider's law asks only that the lock had it at some
+// time (`MayBeTold count w s (Read k) = Has k w.past` in crates/ct_node/specs/Worlds.antt), since a text that was read
+// may be old as well. A swap that was won added the text to that past.
 func (l *Loop) read(text string) (*state, error) {
 	k, err := parseText(text)
 	if err != nil {

@@ -81,12 +81,6 @@ func (p *pass) carryOut(ctx context.Context) (bool, error) {
 		told, err = p.publish(ctx)
 	case decider.Answer:
 		told, err = p.answer(ctx)
-	case decider.Delete:
-		// An object that stays takes room only, so the outcome does not matter.
-		told = decider.Lost()
-		if p.config.Stores.Objects.Delete(ctx, p.command.Bundle) == nil {
-			told = decider.Done()
-		}
 	default:
 		err = fmt.Errorf("%w: %s", errCommand, p.command.Do)
 	}
@@ -179,12 +173,7 @@ func (p *pass) waitsForOther() bool {
 // the state's. If the store's is damaged, what the staged batch has of it is put again.
 func (p *pass) step(ctx context.Context) error {
 	defer p.took(decider.Step, p.config.Machine.Clock.Elapsed())
-	var stepped *step.Stepped
-	// The decider has the deletions done before the step is reported to it. To make the step has no effect outside.
-	err := p.config.Machine.Parallel(ctx, p.deleteUnneeded, func(ctx context.Context) (err error) {
-		stepped, err = p.stepOver(ctx)
-		return err
-	})
+	stepped, err := p.stepOver(ctx)
 	if errors.Is(err, ErrDamaged) && len(p.edge) > 0 {
 		p.edge = map[string][]byte{}
 		stepped, err = p.stepOver(ctx)
@@ -207,6 +196,7 @@ func (p *pass) step(ctx context.Context) error {
 		return fmt.Errorf("node: %w", err)
 	}
 	next := p.from.Size
+	p.made.places = places{}
 	for i, t := range p.batch {
 		// The same entry may be in a batch twice. The second one has the receipt of the first.
 		r := stepped.Receipts[i]
@@ -310,72 +300,25 @@ func (p *pass) isFrom() error {
 	return nil
 }
 
-// stage keeps what a step writes, before the lock decides on it.
+// stage keeps what a step writes, before the lock decides on it. Beside that it deletes the staged batches that no node
+// needs any more.
 func (p *pass) stage(ctx context.Context) (decider.Told, error) {
 	if err := p.isMade(); err != nil {
 		return nil, err
 	}
 	// What is in the staged batch is put once more, as objects.
 	p.last.written = 2 * len(p.made.content)
-	if err := p.config.Stores.Objects.Put(ctx, p.command.New.Bundle, p.made.content); err != nil {
+	calls, err := p.deletions()
+	if err != nil {
+		return nil, err
+	}
+	err = p.config.Machine.Parallel(ctx, append(calls, func(ctx context.Context) error {
+		return p.config.Stores.Objects.Put(ctx, p.command.New.Bundle, p.made.content)
+	})...)
+	if err != nil {
 		return nil, fmt.Errorf("node: the staged batch: %w", err)
 	}
 	return decider.Done(), nil
-}
-
-// swap has the lock decide on a step.
-func (p *pass) swap(ctx context.Context) (decider.Told, error) {
-	if err := p.isMade(); err != nil {
-		return nil, err
-	}
-	won, err := p.swapped(ctx, p.command.Seen.Text, p.command.New.Text)
-	if err != nil {
-		return nil, err
-	}
-	p.last.decided = true
-	if !won {
-		p.config.Machine.Observer.Count(LostSwap)
-		p.last.unneeded = append(p.last.unneeded, p.command.New.Bundle)
-		return decider.Lost(), nil
-	}
-	p.config.Machine.Observer.Decided(len(p.batch), p.last.written)
-	p.last.unneeded = append(p.last.unneeded, p.command.Seen.Bundle)
-	p.keepEdge()
-	k, err := p.learn(ctx)
-	if err != nil {
-		return nil, err
-	}
-	if k.text != p.command.New.Text {
-		// Another node was quick enough to publish this state and to go on. The waiting submissions are found by the
-		// next round.
-		return nil, nil
-	}
-	p.from = k
-	if err := p.descends(ctx, k, p.made.objects); err != nil {
-		return nil, err
-	}
-	return decider.Done(), nil
-}
-
-// swapped swaps, and again if the outcome is unknown: that settles it, since a lock that has the new text says so. If
-// it stays unknown, the next round's reading settles it.
-func (l *Loop) swapped(ctx context.Context, old, new string) (won bool, err error) {
-	for range maxSwaps {
-		err = l.config.Stores.Lock.Swap(ctx, old, new)
-		if err == nil {
-			return true, nil
-		}
-		if errors.Is(err, stores.ErrLost) {
-			return false, nil
-		}
-		if errors.Is(err, stores.ErrUnknown) {
-			l.config.Machine.Observer.Count(UnknownSwap)
-		}
-		if l.config.Machine.Clock.Wait(ctx, swapPause, nil) != nil {
-			break
-		}
-	}
-	return false, fmt.Errorf("node: the swap: %w", err)
 }
 
 // put puts a state's objects under their public names. Beside that it adds the places of its entries, and keeps the
@@ -446,12 +389,12 @@ func (p *pass) sign(ctx context.Context) error {
 }
 
 // answer signs the timestamps of the batch, if they are not signed yet, and answers it. Its entries are under a
-// published head.
+// published head. After this node's own step, the next round may begin from the state that it made.
 func (p *pass) answer(ctx context.Context) (decider.Told, error) {
-	if err := p.isFrom(); err != nil || len(p.batch) == 0 {
-		return decider.Done(), err
+	if err := p.isFrom(); err != nil {
+		return nil, err
 	}
-	if p.made.signatures == nil {
+	if len(p.batch) > 0 && p.made.signatures == nil {
 		signatures, err := p.signTimestamps(ctx, p.made.receipts, p.from.head(), p.reading(p.made.objects))
 		if err != nil {
 			return nil, err
@@ -462,7 +405,7 @@ func (p *pass) answer(ctx context.Context) (decider.Told, error) {
 		r := p.made.receipts[i]
 		p.pool.resolve(t, Answer{Place: Place{r.LeafIndex, r.Timestamp, p.made.signatures[i]}})
 	}
-	p.last.answered = len(p.batch)
+	p.last.answered, p.seen.isMade = len(p.batch), p.made.isNew
 	return decider.Done(), nil
 }
 

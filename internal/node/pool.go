@@ -33,8 +33,9 @@ type Ticket struct {
 	misplaced bool
 	// isMovable says that the submission may be forwarded to another node.
 	isMovable bool
-	done      chan struct{}
-	answer    Answer
+	lookup
+	done   chan struct{}
+	answer Answer
 }
 
 // Done is closed once the ticket has its answer.
@@ -104,7 +105,7 @@ func (p *pool) add(of *Request) (*Ticket, error) {
 		return nil, fmt.Errorf("%w: %d (submit again later)", ErrBusy, p.open)
 	}
 	t := &Ticket{submission: of.submission, identity: of.identity, wrong: of.wrong, isMovable: of.isMovable,
-		done: make(chan struct{})}
+		lookup: of.lookup, done: make(chan struct{})}
 	if max := p.limits.MaxQueueBytes; max > 0 && p.bytes+t.length() > max {
 		return nil, fmt.Errorf("%w: %d, of %d bytes (submit again later)", ErrBusy, p.open, p.bytes)
 	}

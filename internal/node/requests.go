@@ -18,6 +18,7 @@ type Request struct {
 	identity   stores.Identity
 	wrong      *stores.Place
 	isMovable  bool
+	lookup
 }
 
 // Request returns the request of a submission.
@@ -69,6 +70,7 @@ type Candidate struct {
 func (r *Request) Find(ctx context.Context) (*Candidate, error) {
 	n := r.node
 	now := n.Snapshot()
+	r.lookup = lookup{}
 	if now == nil || now.Head.Size == 0 {
 		return nil, nil
 	}
@@ -77,6 +79,7 @@ func (r *Request) Find(ctx context.Context) (*Candidate, error) {
 		return nil, fmt.Errorf("node: the index: %w", err)
 	}
 	place, ok := places[r.identity]
+	r.lookup = lookup{isAbsent: !ok, size: now.Head.Size}
 	if !ok || place.Index >= now.Head.Size {
 		// The place of an entry that is not under the head yet becomes known by the next round.
 		return nil, nil

@@ -20,7 +20,8 @@ import (
 type seen struct {
 	// accepted is the newest state that this node accepted. Its line and text are empty if only the memory has it.
 	accepted state
-	// newest is the state of the text that was read last, and heard is when that was, by Elapsed.
+	// newest is the state of the text that was read last, or that this node's own swap put there, and heard is when that
+	// was, by Elapsed.
 	newest *state
 	heard  time.Duration
 	// isVouched says that enough witnesses cosigned the newest head again since this node started, or since it could
@@ -28,6 +29,10 @@ type seen struct {
 	isVouched bool
 	// asked is when the witnesses were asked for the time, by Elapsed.
 	asked time.Duration
+	// isMade says that this node made the newest state, and that it is published and answered.
+	isMade bool
+	// listed is the list of the heads that was made last beside a swap, or nil.
+	listed *listing
 }
 
 // maxUnheard is for how long a node may not have read the lock, until it looks for heads that are later than what it
@@ -44,7 +49,7 @@ func (l *Loop) accept(ctx context.Context, k *state, objects []step.Object) erro
 	if l.isAccepted(k) {
 		return nil
 	}
-	if err := l.descends(ctx, k, objects); err != nil {
+	if err := l.descends(ctx, k, objects, l.listHeads); err != nil {
 		return err
 	}
 	return l.keep(ctx, k)
@@ -59,10 +64,30 @@ func (l *Loop) keep(ctx context.Context, k *state) error {
 	return nil
 }
 
+// lister lists the heads after a name.
+type lister func(ctx context.Context, after string) ([]string, error)
+
+// listHeads lists the store's heads after a name.
+func (l *Loop) listHeads(ctx context.Context, after string) ([]string, error) {
+	names, err := l.config.Stores.Objects.List(ctx, headsPrefix, after, stores.MaxListed)
+	if err != nil {
+		return nil, fmt.Errorf("node: the heads: %w", err)
+	}
+	return names, nil
+}
+
+// newestAccepted returns the name of the newest head that this node accepted, or nothing.
+func (l *Loop) newestAccepted() string {
+	if accepted := l.seen.accepted.head(); accepted.Timestamp > 0 {
+		return headName(accepted.Size, accepted.Timestamp)
+	}
+	return ""
+}
+
 // descends returns ErrRolledBack unless a state continues from the newest that this node accepted, and the store has no
 // head of another history.
-func (l *Loop) descends(ctx context.Context, k *state, objects []step.Object) error {
-	err := l.compare(ctx, k, objects)
+func (l *Loop) descends(ctx context.Context, k *state, objects []step.Object, heads lister) error {
+	err := l.compare(ctx, k, objects, heads)
 	if errors.Is(err, ErrRolledBack) && l.seen.accepted.text != "" {
 		// The lock must not be held to the state that was refused: it may come back from there.
 		accepted := l.seen.accepted
@@ -71,14 +96,14 @@ func (l *Loop) descends(ctx context.Context, k *state, objects []step.Object) er
 	return err
 }
 
-func (l *Loop) compare(ctx context.Context, k *state, objects []step.Object) error {
+func (l *Loop) compare(ctx context.Context, k *state, objects []step.Object, heads lister) error {
 	accepted := l.seen.accepted
 	// This is decided again below, after the store was read. Here the refusal says in which way the state is older.
 	if k.head() != accepted.head() && !follows(k.Size, k.Timestamp, accepted.head()) {
 		return isOlder(k, accepted.head())
 	}
 	isNext := accepted.line != "" && k.Before == step.Digest(accepted.line)
-	between, err := l.headsUpTo(ctx, k, isNext)
+	between, err := l.headsUpTo(ctx, k, isNext, heads)
 	if err != nil {
 		return err
 	}
@@ -109,15 +134,12 @@ func isOlder(k *state, accepted signer.Head) error {
 // headsUpTo compares the names of the store's heads from the newest accepted one on. In one history they are in the
 // order of their timestamps and end with the state's, unless other nodes went on meanwhile. If the state is the very
 // next, there is none between. The last one before the state's is returned.
-func (l *Loop) headsUpTo(ctx context.Context, k *state, isNext bool) (last string, err error) {
-	after, before, own := "", l.seen.accepted.head(), headName(k.Size, k.Timestamp)
-	if before.Timestamp > 0 {
-		after = headName(before.Size, before.Timestamp)
-	}
+func (l *Loop) headsUpTo(ctx context.Context, k *state, isNext bool, heads lister) (last string, err error) {
+	after, before, own := l.newestAccepted(), l.seen.accepted.head(), headName(k.Size, k.Timestamp)
 	for {
-		names, err := l.config.Stores.Objects.List(ctx, headsPrefix, after, stores.MaxListed)
+		names, err := heads(ctx, after)
 		if err != nil {
-			return "", fmt.Errorf("node: the heads: %w", err)
+			return "", err
 		}
 		for _, name := range names {
 			if name > own {

@@ -56,22 +56,36 @@ func (l *Loop) putRight(ctx context.Context, name string, content []byte) error 
 	return nil
 }
 
-// deleteUnneeded deletes the staged batches that this node knows of, if the decider says that no node needs them any
-// more.
-func (p *pass) deleteUnneeded(ctx context.Context) error {
-	for _, name := range p.last.unneeded {
-		if err := p.goOn(decider.Listed(name)); err != nil {
-			return err
+// deletions returns what deletes the staged batches that this node knows of, if the decider says that no node needs
+// them any more. They may be deleted beside the commands that follow, since a command may be carried out late
+// (docs/NODE.md, "The machine").
+func (l *Loop) deletions() (calls []func(context.Context) error, err error) {
+	for _, name := range l.last.unneeded {
+		next, err := l.config.Proved.Decider.Next(l.last.stepping, decider.Listed(name))
+		if err != nil {
+			return nil, fmt.Errorf("node: %w", err)
 		}
-		if p.command.Do == decider.Step {
+		if next.Do != decider.Delete {
 			continue
 		}
-		if _, err := p.carryOut(ctx); err != nil {
-			return err
-		}
+		calls = append(calls, func(ctx context.Context) error {
+			defer l.took(decider.Delete, l.config.Machine.Clock.Elapsed())
+			// An object that stays takes room only, so the outcome does not matter.
+			_ = l.config.Stores.Objects.Delete(ctx, next.Bundle)
+			return nil
+		})
 	}
-	p.last.unneeded = nil
-	return nil
+	l.last.unneeded = nil
+	return calls, nil
+}
+
+// deleteUnneeded deletes the staged batches that this node knows of and that no node needs any more.
+func (l *Loop) deleteUnneeded(ctx context.Context) error {
+	calls, err := l.deletions()
+	if err != nil || len(calls) == 0 {
+		return err
+	}
+	return l.config.Machine.Parallel(ctx, calls...)
 }
 
 // references names objects for the decider.

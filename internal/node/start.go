@@ -69,8 +69,7 @@ func (l *Loop) takeUp(ctx context.Context, remembered *signer.Head) (bool, error
 	if creates {
 		return false, l.create(ctx)
 	}
-	l.seen.newest, l.seen.heard = f.k, l.config.Machine.Clock.Elapsed()
-	l.newest.Store(f.k)
+	l.hears(f.k, l.config.Machine.Clock.Elapsed())
 	if !f.published.Before(f.k.published()) {
 		if err := l.knowsNewest(ctx, f.k); err != nil {
 			return false, err

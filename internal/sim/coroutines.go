@@ -26,6 +26,8 @@ type process struct {
 	dead bool
 	// pausedUntil is until when the process is paused.
 	pausedUntil time.Duration
+	// unread is the text of the lock that the process's own swap put there, if it has not read the lock since.
+	unread string
 }
 
 // coroutine is one of a process, or of the world if it has none.

@@ -53,10 +53,16 @@ type Stats struct {
 	// Answers and Repeats count what clients got, and Reads what readers got.
 	Answers, Repeats, Reads int
 	Tidied
+	Contended
 }
 
 // Published counts what was published.
 type Published struct{ Heads, Cosigned, Entries, Checkpoints int }
+
+// Contended counts how nodes met. Unknown swaps did not say whether they were done. Remembered counts swaps that a node
+// made from a text that it had put there itself and not read since, and Overtaken those of them that were lost. Late
+// counts heads that were put after the lock had got a later text.
+type Contended struct{ Lost, Unknown, Remembered, Overtaken, Late int }
 
 // Tidied counts what the janitors deleted and read again.
 type Tidied struct{ Deleted, Partials, OldHeads, Staged, Reread int }
@@ -140,6 +146,9 @@ func (j *judge) putHead(name, note string) {
 	}
 	if head.Timestamp > j.newest.Timestamp {
 		j.newest = head
+	}
+	if now := cells(j.w.stores.text); now != nil && head.Timestamp < now.timestamp {
+		j.stats.Late++
 	}
 	j.standing = append(j.standing, standing{head.Size, head.Timestamp, j.w.now})
 	j.stats.Heads++

@@ -135,6 +135,8 @@ type Plan struct {
 	Clients []Client
 	// Answers is how many answers the clients get at least, if the plan says so.
 	Answers int
+	// MaxBatch is how many entries a step takes at most, and 0 is the usual number.
+	MaxBatch int
 }
 
 func (p Plan) String() string {
@@ -153,8 +155,34 @@ func (p Plan) String() string {
 // publicEach is how many histories there are for each one with a checkpoint for readers without a node.
 const publicEach = 3
 
+// queuesEach is how many histories there are for each one in which submissions wait for several steps.
+const queuesEach = 23
+
 // NewPlan returns the plan of a seed.
 func NewPlan(seed int64) Plan {
+	plan := newPlan(seed)
+	if seed%queuesEach == queuesEach/2 {
+		plan.queues()
+	}
+	return plan
+}
+
+// queues has steps take few entries, and has the same entries submitted twice at once, in two orders. So the second
+// submission of an entry is looked up before its step, and waits until several steps later.
+func (p *Plan) queues() {
+	p.MaxBatch = 2
+	const entries = 8
+	for begins := time.Second; begins < 4*time.Second; begins += time.Second {
+		up, down := Client{Begins: begins, Burst: true}, Client{Begins: begins, Burst: true}
+		for n := range entries {
+			first := 4000 + entries*int(begins/time.Second)
+			up.Numbers, down.Numbers = append(up.Numbers, first+n), append(down.Numbers, first+entries-1-n)
+		}
+		p.Clients = append(p.Clients, up, down)
+	}
+}
+
+func newPlan(seed int64) Plan {
 	random := rand.New(rand.NewSource(seed))
 	plan := Plan{Seed: seed, Machines: 1 + random.Intn(3), Public: seed%publicEach == publicEach-1}
 	if random.Intn(3) == 0 {

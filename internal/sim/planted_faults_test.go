@@ -4,13 +4,13 @@ package sim_test
 var all = []planted{
 	{"nothing is staged", []edit{
 		{"pass.go",
-			"err := p.config.Stores.Objects.Put(ctx, p.command.New.Bundle, p.made.content)",
-			"err := error(nil)",
+			"		return p.config.Stores.Objects.Put(ctx, p.command.New.Bundle, p.made.content)",
+			"		return nil",
 		},
 	}},
 	{"the swap comes before the staging", []edit{
 		{"pass.go", "told, err = p.stage(ctx)", "told = decider.Done()"},
-		{"pass.go",
+		{"swap.go",
 			"	p.last.decided = true\n	if !won {",
 			"	if won {\n		_ = p.config.Stores.Objects.Put(ctx, p.command.New.Bundle, p.made.content)\n	}\n" +
 				"	p.last.decided = true\n	if !won {",
@@ -23,31 +23,19 @@ var all = []planted{
 		},
 	}},
 	{"a lost swap counts as won", []edit{
-		{"pass.go",
+		{"swap.go",
 			"			return false, nil\n		}\n		if errors.Is(err, stores.ErrUnknown) {",
 			"			return true, nil\n		}\n		if errors.Is(err, stores.ErrUnknown) {",
 		},
 	}},
 	{"a swap of unknown outcome counts as won", []edit{
-		{"pass.go",
+		{"swap.go",
 			"		if err == nil {\n			return true, nil\n		}",
 			"		if err == nil || errors.Is(err, stores.ErrUnknown) {\n			return true, nil\n		}",
 		},
-	}},
-	{"a swap of unknown outcome counts as won, and the text is not compared", []edit{
-		{"pass.go",
-			"		if err == nil {\n			return true, nil\n		}",
-			"		if err == nil || errors.Is(err, stores.ErrUnknown) {\n			return true, nil\n		}",
-		},
-		{"pass.go", "	if k.text != p.command.New.Text {", "	if false {"},
-		{"pass.go", "	if p.command.New.Text != p.from.text {", "	if false {"},
-	}},
-	{"the text after a swap is not compared", []edit{
-		{"pass.go", "	if k.text != p.command.New.Text {", "	if false {"},
-		{"pass.go", "	if p.command.New.Text != p.from.text {", "	if false {"},
 	}},
 	{"a state is not compared after the swap", []edit{
-		{"pass.go", "	if err := p.descends(ctx, k, p.made.objects); err != nil {", "	if false {"},
+		{"swap.go", "	if err := p.descends(ctx, k, p.made.objects, heads.after); err != nil {", "	if false {"},
 	}},
 	{"a tile is not put", []edit{
 		{"pass.go", "range p.made.objects {\n		calls", "range p.made.objects[1:] {\n		calls"},
@@ -208,14 +196,17 @@ var all = []planted{
 		},
 	}},
 	{"the store's heads are not compared", []edit{
-		{"seen.go", "	between, err := l.headsUpTo(ctx, k, isNext)", "	_, between, err := isNext, \"\", error(nil)"},
+		{"seen.go",
+			"	between, err := l.headsUpTo(ctx, k, isNext, heads)",
+			"	_, _, between, err := isNext, heads, \"\", error(nil)",
+		},
 	}},
 	{"a state need not go on from the accepted one", []edit{
 		{"seen.go", "	if err := l.extends(ctx, k, accepted.head(), objects); err != nil || between == \"\" {", "	if true {"},
 	}},
 	{"nothing is compared at all", []edit{
 		{"seen.go", "	if l.isAccepted(k) {", "	if true {"},
-		{"pass.go", "	if err := p.descends(ctx, k, p.made.objects); err != nil {", "	if false {"},
+		{"swap.go", "	if err := p.descends(ctx, k, p.made.objects, heads.after); err != nil {", "	if false {"},
 	}},
 	{"an older text of the lock is taken", []edit{
 		{"loop.go",
@@ -229,7 +220,7 @@ var all = []planted{
 			"		if false {",
 		},
 		{"seen.go", "	if l.isAccepted(k) {", "	if true {"},
-		{"pass.go", "	if err := p.descends(ctx, k, p.made.objects); err != nil {", "	if false {"},
+		{"swap.go", "	if err := p.descends(ctx, k, p.made.objects, heads.after); err != nil {", "	if false {"},
 	}},
 	{"a node that was away does not look back", []edit{
 		{"loop.go", "	if l.config.Machine.Clock.Elapsed()-l.seen.heard > maxUnheard {", "	if false {"},
@@ -320,10 +311,70 @@ var all = []planted{
 		},
 	}},
 	{"the round does not ask the index", []edit{
-		{"loop.go",
+		{"known.go",
 			"		if ok && place.Index < k.Size && (t.wrong == nil || *t.wrong != place) {",
 			"		if ok && place.Index > 1<<50 {",
 		},
+	}},
+	{"the identities of the last step are not remembered", []edit{
+		{"known.go",
+			"	r.text = to.text\n",
+			"	clear(one.identities)\n	r.text = to.text\n",
+		},
+	}},
+	{"the identities of a step are forgotten after the next one", []edit{
+		{"known.go",
+			"	r.text = to.text\n",
+			"	for _, old := range r.steps {\n		clear(old.identities)\n	}\n	r.text = to.text\n",
+		},
+	}},
+	{"steps are forgotten, and the rest counts as all since the lookup", []edit{
+		{"known.go",
+			"		if !t.isAbsent || t.size < from {",
+			"		if !t.isAbsent || t.size < from && false {",
+		},
+	}},
+	{"a submission that was not looked up is taken for absent", []edit{
+		{"known.go",
+			"		if !t.isAbsent || t.size < from {",
+			"		if t.isAbsent && t.size < from {",
+		},
+	}},
+	{"identities are remembered for another node's state, too", []edit{
+		{"known.go",
+			"	if r.text == k.text {\n		from",
+			"	if len(r.steps) > 0 {\n		from",
+		},
+		{"known.go", "	if r.text != k.text {", "	if false {"},
+	}},
+	{"the lock is read only before a node's first step", []edit{
+		{"loop.go",
+			"	l.seen.isMade = false\n	if isMade && !l.pool.isEmpty() && l.Fault() == nil &&\n" +
+				"		l.config.Machine.Clock.Elapsed()-l.seen.heard <= maxUnheard {",
+			"	if isMade {",
+		},
+	}},
+	{"the lock is not read if no submission waits", []edit{
+		{"loop.go",
+			"	l.seen.isMade = false\n	if isMade && !l.pool.isEmpty() && l.Fault() == nil &&\n" +
+				"		l.config.Machine.Clock.Elapsed()-l.seen.heard <= maxUnheard {",
+			"	l.seen.isMade = isMade && l.pool.isEmpty()\n	if isMade && l.Fault() == nil {",
+		},
+	}},
+	{"a lost swap from a remembered text counts as won", []edit{
+		{"loop.go", "	recent recent\n", "	recent recent\n	remembers bool\n"},
+		{"loop.go", "	isMade := l.seen.isMade\n", "	isMade := l.seen.isMade\n	l.remembers = false\n"},
+		{"loop.go",
+			"		return l.seen.newest, nil\n	}\n	return l.learn(ctx)",
+			"		l.remembers = true\n		return l.seen.newest, nil\n	}\n	return l.learn(ctx)",
+		},
+		{"swap.go", "	if !won {", "	if !won && !p.remembers {"},
+	}},
+	{"the heads are not listed beside a swap", []edit{
+		{"swap.go", "		h.names, h.err = h.listHeads(ctx, h.from)\n", ""},
+	}},
+	{"a list of the heads is good for an hour", []edit{
+		{"swap.go", "const maxUnlisted = 100 * time.Millisecond", "const maxUnlisted = time.Hour"},
 	}},
 	{"a submission is not looked up", []edit{
 		{"requests.go", "	if now == nil || now.Head.Size == 0 {", "	if true {"},
@@ -358,7 +409,7 @@ var all = []planted{
 		},
 	}},
 	{"a staged batch is deleted without asking", []edit{
-		{"pass.go",
+		{"swap.go",
 			"	p.keepEdge()\n",
 			"	p.keepEdge()\n	_ = p.config.Stores.Objects.Delete(ctx, p.command.New.Bundle)\n",
 		},
@@ -401,7 +452,10 @@ var all = []planted{
 	}},
 	{"the seen head is forgotten, and the store's heads are not compared", []edit{
 		{"seen.go", "	l.seen.accepted = *k", "	_ = k"},
-		{"seen.go", "	between, err := l.headsUpTo(ctx, k, isNext)", "	_, between, err := isNext, \"\", error(nil)"},
+		{"seen.go",
+			"	between, err := l.headsUpTo(ctx, k, isNext, heads)",
+			"	_, _, between, err := isNext, heads, \"\", error(nil)",
+		},
 	}},
 	{"an older text is taken, and a state behind the accepted one need not go on from it", []edit{
 		{"seen.go",
@@ -436,7 +490,7 @@ var all = []planted{
 	}},
 	{"a node that was away does not look back, and a state is not compared after the swap", []edit{
 		{"loop.go", "	if l.config.Machine.Clock.Elapsed()-l.seen.heard > maxUnheard {", "	if false {"},
-		{"pass.go", "	if err := p.descends(ctx, k, p.made.objects); err != nil {", "	if false {"},
+		{"swap.go", "	if err := p.descends(ctx, k, p.made.objects, heads.after); err != nil {", "	if false {"},
 	}},
 	{"a start is never refused, and nothing is compared at all", []edit{
 		{"start.go",
@@ -444,7 +498,7 @@ var all = []planted{
 			"	if errors.As(err, &refusal) && f.k != nil {\n		err = nil\n	} else if errors.As(err, &refusal) {",
 		},
 		{"seen.go", "	if l.isAccepted(k) {", "	if true {"},
-		{"pass.go", "	if err := p.descends(ctx, k, p.made.objects); err != nil {", "	if false {"},
+		{"swap.go", "	if err := p.descends(ctx, k, p.made.objects, heads.after); err != nil {", "	if false {"},
 	}},
 	{"readers see an older head again, since an older text is taken and nothing is compared", []edit{
 		{"node.go", "now == nil || now.Head.before(head)", "now == nil || true"},
@@ -454,7 +508,7 @@ var all = []planted{
 			"		if false {",
 		},
 		{"seen.go", "	if l.isAccepted(k) {", "	if true {"},
-		{"pass.go", "	if err := p.descends(ctx, k, p.made.objects); err != nil {", "	if false {"},
+		{"swap.go", "	if err := p.descends(ctx, k, p.made.objects, heads.after); err != nil {", "	if false {"},
 	}},
 	{"an older checkpoint wins", []edit{
 		{"checkpoint.go", "		if stored.Note != nil && !stored.before(head) {", "		if false {"},
@@ -478,14 +532,14 @@ var all = []planted{
 // missed are the planted faults that 2,000 histories do not find, with the check that hides each. all has a fault in
 // which the hiding check is taken out as well, and which is found.
 var missed = map[string]string{
-	"the text after a swap is not compared":       "the head must match the state",
 	"an old state's lost edge is damage":          "a deleted partial tile is read as the beginning of its full one",
 	"the seen head is forgotten":                  "a state is compared with the store's heads",
 	"a state behind the accepted one is accepted": "the proved decision refuses it, and an older text is refused",
 	"an older text of the lock is taken":          "the state is compared with the accepted one",
 	"a lock that is gone is made again": "an engine refuses to create a lock twice, and a new lock is older than " +
 		"the store's heads",
-	"a node that was away does not look back": "the state is compared after the swap",
+	"a node that was away does not look back":     "the state is compared after the swap",
+	"the lock is not read if no submission waits": "the next swap is lost, and the lock is read after that",
 	"readers see an older head again": "an older text than the last one is refused, " +
 		"and so is a state behind the accepted one",
 }

@@ -56,6 +56,9 @@ func TestHistories(t *testing.T) {
 		(s.Partials == 0 || s.OldHeads == 0 || s.Staged == 0 || s.Reread == 0 || s.Cosigned == 0 || s.Checkpoints == 0) {
 		t.Errorf("janitors, witnesses or checkpoints did nothing of a kind: %+v", s)
 	}
+	if c := total.Stats.Contended; histories >= 300 && (c.Lost == 0 || c.Unknown == 0 || c.Overtaken == 0 || c.Late == 0) {
+		t.Errorf("nodes did not meet in a kind of way: %+v", c)
+	}
 }
 
 // runHistories runs the histories of the seeds up to an end, and adds them to the totals.

@@ -3,6 +3,7 @@ package sim
 import (
 	"bytes"
 	"context"
+	"errors"
 	"fmt"
 	"sort"
 	"strings"
@@ -240,12 +241,13 @@ func (l lock) Read(ctx context.Context) (text string, err error) {
 	if err != nil {
 		return "", err
 	}
+	l.m.process.unread = ""
 	return text, nil
 }
 
 func (l lock) Swap(ctx context.Context, old, new string) error {
 	s, by := &l.m.w.stores, l.m.process
-	return l.m.call(ctx, "lock", "swap "+short(old)+" for "+short(new), true, func() error {
+	err := l.m.call(ctx, "lock", "swap "+short(old)+" for "+short(new), true, func() error {
 		switch s.text {
 		case "":
 			return stores.ErrAbsent
@@ -258,6 +260,28 @@ func (l lock) Swap(ctx context.Context, old, new string) error {
 		}
 		return stores.ErrLost
 	})
+	l.m.w.judge.stats.meet(by, old, new, err)
+	return err
+}
+
+// meet counts a swap by its outcome.
+func (c *Contended) meet(by *process, old, new string, err error) {
+	isUnread := by.unread == old
+	if isUnread {
+		c.Remembered++
+	}
+	by.unread = ""
+	switch {
+	case err == nil:
+		by.unread = new
+	case errors.Is(err, stores.ErrLost):
+		c.Lost++
+		if isUnread {
+			c.Overtaken++
+		}
+	case errors.Is(err, stores.ErrUnknown):
+		c.Unknown++
+	}
 }
 
 func (l lock) Published(ctx context.Context) (published stores.Published, err error) {

@@ -37,6 +37,11 @@ func (t *Totals) Add(r Result) {
 	s.Reads += r.Stats.Reads
 	s.Starts += r.Stats.Starts
 	s.Checkpoints += r.Stats.Checkpoints
+	s.Lost += r.Stats.Lost
+	s.Unknown += r.Stats.Unknown
+	s.Remembered += r.Stats.Remembered
+	s.Overtaken += r.Stats.Overtaken
+	s.Late += r.Stats.Late
 	for kind, times := range r.Counts {
 		t.happened[kind] += times
 		if times > 0 {

@@ -1,6 +1,7 @@
 package sim
 
 import (
+	"cmp"
 	"context"
 	"errors"
 	"fmt"
@@ -169,6 +170,9 @@ func (m *machine) carry() {
 	_ = loop.Run(ctx)
 }
 
+// usualBatch is how many entries a step takes at most, unless the plan says less.
+const usualBatch = 300
+
 // maxSkew is how far a clock may be off by the nodes' configuration.
 const maxSkew = 10 * time.Second
 
@@ -191,7 +195,7 @@ func (m *machine) config() node.Config {
 			Call: 2 * time.Second, Cosign: 3 * time.Second, Round: 60 * time.Second, Patience: 5 * time.Second,
 			MaxSkew: maxSkew,
 		},
-		Limits: node.Limits{MaxBatch: 300, MaxQueue: 1000},
+		Limits: node.Limits{MaxBatch: cmp.Or(m.w.plan.MaxBatch, usualBatch), MaxQueue: 1000},
 	}
 }
 
