@@ -6,6 +6,7 @@ import (
 	"crypto/ed25519"
 	"crypto/rand"
 	"errors"
+	"fmt"
 	"io"
 	"net/http"
 	"net/http/httptest"
@@ -108,9 +109,10 @@ func (p *place) witnessed(config *serve.Config) *asked {
 	p.t.Helper()
 	_, private, err := ed25519.GenerateKey(rand.Reader)
 	must(p.t, err)
-	s, err := witness.New(witness.Options{Name: "w.example", Key: private})
+	name := fmt.Sprintf("w%d.example", len(config.Witnesses))
+	s, err := witness.New(witness.Options{Name: name, Key: private})
 	must(p.t, err)
-	state, err := stores.OpenFile(p.path("witness"))
+	state, err := stores.OpenFile(p.path(name))
 	must(p.t, err)
 	p.t.Cleanup(func() { must(p.t, state.Close()) })
 	of := witness.Log{Origin: config.Origin, State: state,
@@ -122,7 +124,7 @@ func (p *place) witnessed(config *serve.Config) *asked {
 	p.t.Cleanup(over.Close)
 	one, err := witness.ReadOne(over.URL + "," + s.VerifierKey())
 	must(p.t, err)
-	config.Witnesses, config.Quorums = []witness.One{one}, witness.Quorums{Publish: 1, Start: 1}
+	config.Witnesses, config.Quorums = append(config.Witnesses, one), witness.Quorums{Publish: 1, Start: 1}
 	return a
 }
 
