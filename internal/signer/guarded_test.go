@@ -1052,16 +1052,29 @@ func TestTooManyConnections(t *testing.T) {
 	second := asks(t, path)
 	for _, c := range []*Client{first, second} {
 		if _, err := c.Last(ctx); err != nil || c.Starts() != 1 {
-			t.Errorf("%v, opened %d times", err, c.Starts())
+			t.Fatalf("%v, opened %d times", err, c.Starts())
 		}
 	}
-	for i, waits := range map[int]time.Duration{0: trial.Longest, len(silent) - 1: 300 * time.Millisecond} {
-		must(t, silent[i].SetReadDeadline(time.Now().Add(waits)))
-		_, err := silent[i].Read(make([]byte, 1))
-		var late net.Error
-		if stays := errors.As(err, &late) && late.Timeout(); stays == (i == 0) {
-			t.Errorf("the silent one %d: %v", i, err)
+	closed := make(chan int, len(silent))
+	for i, connection := range silent {
+		go func() {
+			// The server sends nothing, so this ends only with the connection.
+			_, _ = connection.Read(make([]byte, 1))
+			closed <- i
+		}()
+	}
+	select {
+	case i := <-closed:
+		if i != 0 {
+			t.Fatalf("the silent connection %d was closed, and not the one that was idle for the longest", i)
 		}
+	case <-ctx.Done():
+		t.Fatal("no silent connection was closed")
+	}
+	must(t, silent[len(silent)-1].SetReadDeadline(time.Now().Add(300*time.Millisecond)))
+	var late net.Error
+	if _, err := silent[len(silent)-1].Read(make([]byte, 1)); !errors.As(err, &late) || !late.Timeout() {
+		t.Errorf("the last silent connection: %v", err)
 	}
 	end()
 }

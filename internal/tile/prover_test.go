@@ -139,15 +139,16 @@ func TestReadings(t *testing.T) {
 	}
 }
 
-// TestClientGoes: a client that goes away ends the reading for it, and its place is free again. A client that is gone
-// already asks for nothing, and if no place is free no client waits.
+// TestClientGoes: a client that goes away ends the reading for it, and its place is free again once the reading is done.
+// A client that is gone already asks for nothing, and if no place is free no client waits.
 func TestClientGoes(t *testing.T) {
-	asked, tile := make(chan context.Context, 4), sha256.Sum256([]byte{0, 0})
+	asked, tile, done := make(chan context.Context, 4), sha256.Sum256([]byte{0, 0}), make(chan struct{})
 	isThere := false
 	r := NewProver(func(ctx context.Context, _ string, _ int64) ([]byte, error) {
 		asked <- ctx
 		if !isThere {
 			<-ctx.Done()
+			<-done
 			return nil, ctx.Err()
 		}
 		return tile[:], nil
@@ -174,6 +175,20 @@ func TestClientGoes(t *testing.T) {
 	if err := <-came; !errors.Is(err, context.Canceled) {
 		t.Errorf("a client that goes: %v", err)
 	}
+	beside := make(chan error, 1)
+	go func() {
+		_, err := r.Root(limited(t), 1, 1)
+		beside <- err
+	}()
+	select {
+	case err := <-beside:
+		if !errors.Is(err, ErrBusy) {
+			t.Errorf("beside a reading that is not done: %v", err)
+		}
+	case <-asked:
+		t.Fatal("the place of a reading that is not done is another one's")
+	}
+	close(done)
 	trial.Eventually(t, "the place is free", func() bool { return len(r.places) == 0 })
 	isThere = true
 	if root, err := r.Root(limited(t), 1, 1); err != nil || root != tlog.Hash(tile) {

@@ -60,8 +60,8 @@ func TestAnswersAreBounded(t *testing.T) {
 	// One that has more bytes than it was taken to have.
 	f.log.Change("tile/data/001.p/4", dataTileOf(700000, 700000, 700000, 700000))
 	refused(t, "a large tile", f.get("/tile/data/001.p/4"), 503, "busy")
-	if used := f.front.uses.answers.used.Load(); used != 0 {
-		t.Errorf("%d bytes are still counted", used)
+	if used := f.front.uses.answers.used.Load(); used != 0 || len(f.front.uses.answersOf.of) != 0 {
+		t.Errorf("%d bytes and %v of addresses are still counted", used, f.front.uses.answersOf.of)
 	}
 }
 

@@ -54,6 +54,28 @@ func TestConnectionsAreBounded(t *testing.T) {
 	}
 }
 
+// TestRefusedConnectionsDoNotCount: a connection that is refused since there are too many does not count for its address.
+func TestRefusedConnectionsDoNotCount(t *testing.T) {
+	f := newFixture(t, 0, func(o *Options) {
+		o.Limits.Connections, o.Limits.ConnectionsByAddress, o.Limits.Reading = 2, 100, time.Hour
+	})
+	f.log.Slow = time.Hour
+	address, _ := f.listening(nil)
+	for range 2 {
+		fmt.Fprint(dial(t, address), "GET /checkpoint HTTP/1.1\r\nHost: log\r\n\r\n")
+	}
+	isAsked(f, 2)
+	for range 3 {
+		closed(t, "one above the bound", dial(t, address))
+	}
+	by := &f.front.uses.connections.byAddress
+	by.mutex.Lock()
+	defer by.mutex.Unlock()
+	if own := by.of[groupOf(addressOf(address))]; own != 2 || len(by.of) != 1 {
+		t.Errorf("of two connections, %d count for the address, and %d addresses have some", own, len(by.of))
+	}
+}
+
 // looked is a connection that calls a function when it is closed. oneOf is a listener that returns only this
 // connection.
 type looked struct {

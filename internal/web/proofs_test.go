@@ -159,6 +159,13 @@ type elsewhere struct {
 	index uint64
 }
 
+// withUnusedBits returns a hash in base64 whose last sign has bits that belong to no byte (RFC 4648, section 3.5).
+func withUnusedBits(hash [32]byte) string {
+	const alphabet = "ABCDEFGHIJKLMNOPQRSTUVWXYZabcdefghijklmnopqrstuvwxyz0123456789+/"
+	text := base64.StdEncoding.EncodeToString(hash[:])
+	return text[:42] + alphabet[strings.IndexByte(alphabet, text[42])+1:][:1] + "="
+}
+
 func (e elsewhere) IndexOf(context.Context, [32]byte) (uint64, error) { return e.index, nil }
 
 func TestProofsThatAreRefused(t *testing.T) {
@@ -175,6 +182,7 @@ func TestProofsThatAreRefused(t *testing.T) {
 		"get-proof-by-hash?tree_size=6&hash=" + hash(leaves[1]), "get-proof-by-hash?tree_size=5&hash=AA==",
 		"get-proof-by-hash?tree_size=5&hash=%", "get-proof-by-hash?tree_size=5&hash=" + hash(leaves[1]) + "&hash=" +
 			hash(leaves[1]), "get-proof-by-hash?tree_size=5&hash=" + hash(leaves[1]) + "A",
+		"get-proof-by-hash?tree_size=5&hash=" + url.QueryEscape(withUnusedBits(leaves[1])),
 		"get-entry-and-proof?leaf_index=0", "get-entry-and-proof?tree_size=1",
 		"get-entry-and-proof?leaf_index=1&tree_size=1", "get-entry-and-proof?leaf_index=1&tree_size=6",
 	} {
