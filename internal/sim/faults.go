@@ -275,7 +275,9 @@ func (w *world) rollsBack(f Fault) bool {
 	if f.Kind == AllRolledBack {
 		// An operator stops all nodes before the stores are put back.
 		for _, m := range w.machines {
-			m.process.dead = true
+			if m.process != nil {
+				m.process.dead = true
+			}
 			if len(w.observers) > 0 {
 				// The machines are rolled back as well, and only the witnesses show it.
 				m.remembered = nil

@@ -111,3 +111,19 @@ func TestTimestampsAfterAnOldBackup(t *testing.T) {
 		}
 	}
 }
+
+// TestAllRolledBackBeforeAllStarted has all rolled back at the very first call, when no other machine has begun to start
+// its node. The fault must stop those that run, and no others.
+func TestAllRolledBackBeforeAllStarted(t *testing.T) {
+	for seed := range int64(20) {
+		plan := sim.Plan{
+			Seed: seed, Machines: 3,
+			Witnesses: sim.Witnesses{Count: 3, Quorums: witness.Quorums{Publish: 2, Start: 2}},
+			Faults:    []sim.Fault{{At: 1, Kind: sim.AllRolledBack, Count: 9}},
+			Clients:   []sim.Client{{Begins: 2 * time.Second, Machine: 2, Numbers: numbers(0, 2)}},
+		}
+		if result := sim.Run(plan, proved, false); result.Violation != nil {
+			t.Errorf("seed %d: %v\n%s", seed, result.Violation, sim.Explain(plan, proved))
+		}
+	}
+}
