@@ -66,7 +66,7 @@ func TestJanitorDeletes(t *testing.T) {
 	}
 }
 
-// TestJanitorsLeaveOneHead has a node start again, so that its janitor does not know how long a head stands. It must not
+// TestJanitorsLeaveOneHead has a node start again, so that its janitor does not know how old a head is. It must not
 // delete that head for the one before it, which the other node's janitor deletes meanwhile as an old one.
 func TestJanitorsLeaveOneHead(t *testing.T) {
 	for seed := range int64(100) {
@@ -88,9 +88,34 @@ func TestJanitorsLeaveOneHead(t *testing.T) {
 	}
 }
 
+// TestPausedJanitorThinsNoOldHeads has a node that was paused thin heads, while the other node's janitor deletes those
+// as old ones for which the paused one would delete others. Something must stay of them.
+func TestPausedJanitorThinsNoOldHeads(t *testing.T) {
+	for _, seed := range []int64{107_903, 1, 2, 3} {
+		plan := sim.Plan{
+			Seed: seed, Machines: 2, Janitors: true, Public: true,
+			Faults: []sim.Fault{{At: 1, On: "lock: read", Of: 1, After: 1392 * time.Millisecond, Kind: sim.Paused,
+				Long: 7 * time.Second}},
+			Clients: []sim.Client{
+				{Numbers: numbers(2000, 4)},
+				{Machine: 1, Numbers: numbers(2010, 4)},
+				{Begins: 5331 * time.Millisecond, Machine: 1, Numbers: numbers(0, 4)},
+				{Begins: 1953 * time.Millisecond, Machine: 1, Numbers: []int{4, 5, 3}},
+				{Begins: 2292 * time.Millisecond, Machine: 1, Numbers: numbers(6, 272), Burst: true},
+				{Begins: 8292 * time.Millisecond, Machine: 1, Numbers: []int{0, 278, 279}},
+				{Machine: 1, Numbers: numbers(0, 3)},
+				{Begins: 4292 * time.Millisecond, Numbers: numbers(0, 3), Burst: true},
+			},
+		}
+		if result := sim.Run(plan, proved, false); result.Violation != nil {
+			t.Errorf("%v\n%s", result.Violation, sim.Explain(plan, proved))
+		}
+	}
+}
+
 // TestTimestampsAfterAnOldBackup has a node whose clock is ahead publish a second head of one tree, and then all rolled
-// back to the first one. The witnesses saw that tree, so the log goes on, and its next head may be earlier than the second
-// one was.
+// back to the first one. The witnesses saw that tree, so the log goes on, and its next head may be earlier than the
+// second one was.
 func TestTimestampsAfterAnOldBackup(t *testing.T) {
 	for seed := range int64(21) {
 		for at := 195; at < 225; at += 3 {
@@ -106,14 +131,14 @@ func TestTimestampsAfterAnOldBackup(t *testing.T) {
 				},
 			}
 			if result := sim.Run(plan, proved, false); result.Violation != nil {
-				t.Fatalf("%v\n%s", result.Violation, sim.Explain(plan, proved))
+				t.Errorf("seed %d: %v", seed, result.Violation)
 			}
 		}
 	}
 }
 
-// TestAllRolledBackBeforeAllStarted has all rolled back at the very first call, when no other machine has begun to start
-// its node. The fault must stop those that run, and no others.
+// TestAllRolledBackBeforeAllStarted has all rolled back at the very first call, when no other machine has begun to
+// start its node. The fault must stop those that run, and no others.
 func TestAllRolledBackBeforeAllStarted(t *testing.T) {
 	for seed := range int64(20) {
 		plan := sim.Plan{

@@ -161,7 +161,7 @@ var all = []planted{
 		{"janitor/pass.go", "newest.Head, now, keep.Thin)", "newest.Head, now, 0)"},
 	}},
 	{"all but the newest heads are thinned", []edit{
-		{"janitor/pass.go", "timestamp < kept+uint64(j.config.Keep.Apart.Milliseconds())", "timestamp > kept"},
+		{"janitor/heads.go", "timestamp/apart == first/apart", "timestamp > first"},
 	}},
 	{"the decider is not asked for a staged batch", []edit{
 		{"janitor/pass.go",
@@ -173,7 +173,14 @@ var all = []planted{
 		{"janitor/pass.go", "	if err != nil || len(partials) == 0 {", "	if true {"},
 	}},
 	{"no head is deleted", []edit{
-		{"janitor/pass.go", "		if !ok || name >= old && !isThin {", "		if !ok || isThin || name != old {"},
+		{"janitor/heads.go", "		if name >= old && !(isThin", "		if name >= old || !(isThin"},
+		{"janitor/heads.go", "j.stays(firstName)", "name == firstName"},
+	}},
+	{"heads are thinned long after the newest one was looked for", []edit{
+		{"janitor/heads.go", "{ return j.config.Keep.Heads - j.config.Keep.Call }", "{ return time.Hour }"},
+	}},
+	{"heads are thinned by what the node knows", []edit{
+		{"janitor/heads.go", "	later, err := j.list(ctx, headsPrefix, newest)", "	later, err := []string{}, error(nil)"},
 	}},
 	{"no staged batch is listed", []edit{
 		{"janitor/pass.go", "	if newest.Stepping == nil || now < j.staged.due {", "	if true {"},
