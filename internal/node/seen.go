@@ -23,6 +23,9 @@ type seen struct {
 	// newest is the state of the text that was read last, and heard is when that was, by Elapsed.
 	newest *state
 	heard  time.Duration
+	// left is a text that the lock did not have any more when this node tried to replace it, or empty. No text of the
+	// lock comes back.
+	left string
 	// isVouched says that enough witnesses cosigned the newest head again since this node started, or since it could
 	// not read the lock.
 	isVouched bool

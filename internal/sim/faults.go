@@ -8,6 +8,7 @@ import (
 	"sort"
 	"strings"
 
+	"wagtenib/internal/signer"
 	"wagtenib/internal/stores"
 )
 
@@ -268,6 +269,11 @@ func (w *world) rollsBack(f Fault) bool {
 		// (OPERATING.md, "Backup").
 		return false
 	}
+	waits := f.Kind == LockAndGuardRolledBack && w.hasUnputHead()
+	if waits && len(w.observers) == 0 {
+		// A node that did not see that head would put one of another list (OPERATING.md, "Backup").
+		return false
+	}
 	happened := false
 	for _, one := range of {
 		happened = w.stores.rollBack(one, w.events.calls-10*f.Count) || happened
@@ -289,8 +295,18 @@ func (w *world) rollsBack(f Fault) bool {
 	case LockRolledBack, LockAndGuardRolledBack, ObjectsAndLockRolledBack, AllRolledBack:
 		w.excuses.tiles, w.excuses.repeats = true, true
 	}
-	w.excuses.missing, w.bentAt = true, w.now
+	w.excuses.missing, w.bentAt, w.excuses.unput = true, w.now, w.excuses.unput || waits && happened
 	return happened
+}
+
+// hasUnputHead reports whether the head that the guard approved last is not in the store.
+func (w *world) hasUnputHead() bool {
+	guard, err := signer.ReadState(w.stores.guard)
+	if err != nil || guard.Last() == nil {
+		return false
+	}
+	_, isPut := w.stores.objects[fmt.Sprintf("heads/%020d-%020d", guard.Last().Size, guard.Last().Timestamp)]
+	return !isPut
 }
 
 // allRemember reports whether every machine's memory has the newest head that is published.

@@ -152,3 +152,57 @@ func TestAllRolledBackBeforeAllStarted(t *testing.T) {
 		}
 	}
 }
+
+// TestReplacedTextComesBack has a node lose a swap, and then the lock and the guard rolled back to before the step that
+// won. The node saw that the text was replaced, so it must not make another step from it.
+func TestReplacedTextComesBack(t *testing.T) {
+	plan := sim.Plan{
+		Seed: 123_133, Machines: 3,
+		Witnesses: sim.Witnesses{Count: 3, Quorums: witness.Quorums{Publish: 3, Start: 2, Faults: 1}},
+		Faults: []sim.Fault{{At: 71, Kind: sim.StoreFull, Long: 700 * time.Millisecond, Count: 6},
+			{At: 182, On: "lock: swap", Kind: sim.Paused, Long: 1900 * time.Millisecond},
+			{At: 257, Kind: sim.LockAndGuardRolledBack, Count: 7}},
+		Clients: []sim.Client{
+			{Begins: 124 * time.Millisecond, Numbers: numbers(1000, 8)},
+			{Begins: 26 * time.Millisecond, Machine: 1, Numbers: numbers(2000, 8)},
+			{Begins: 11 * time.Millisecond, Machine: 2, Numbers: numbers(3000, 8)},
+			{Begins: 1061 * time.Millisecond, Machine: 2, Numbers: numbers(3100, 6), Burst: true},
+			{Begins: 5435 * time.Millisecond, Machine: 2, Numbers: []int{0, 0}},
+			{Begins: 4747 * time.Millisecond, Machine: 2, Numbers: numbers(1, 4)},
+			{Begins: 4698 * time.Millisecond, Numbers: numbers(5, 3)},
+		},
+	}
+	result := sim.Run(plan, proved, false)
+	if result.Violation != nil {
+		t.Errorf("%v\n%s", result.Violation, sim.Explain(plan, proved))
+	}
+	if result.Counts[sim.LockAndGuardRolledBack] != 1 {
+		t.Error("the lock and the guard were not rolled back")
+	}
+}
+
+// TestLockFallsWhileHeadWaits has the lock and the guard rolled back while a head waits for the last witness. A node
+// that did not see that head may have one of another list signed. No witness may cosign it, and nobody may put it.
+func TestLockFallsWhileHeadWaits(t *testing.T) {
+	for _, seed := range []int64{92, 133, 301, 385, 474, 556, 578, 641, 661} {
+		plan := sim.Plan{
+			Seed: seed, Machines: 2,
+			Witnesses: sim.Witnesses{Count: 3, Quorums: witness.Quorums{Publish: 3, Start: 2, Faults: 1}},
+			Faults: []sim.Fault{{At: 1, On: "witness2: add", Of: 1, After: 3500 * time.Millisecond,
+				Kind: sim.LockAndGuardRolledBack, Count: 2}},
+			Clients: []sim.Client{
+				{Begins: 300 * time.Millisecond, Numbers: numbers(0, 2)},
+				{Begins: 3500 * time.Millisecond, Numbers: numbers(10, 4), Burst: true},
+				{Begins: 3550 * time.Millisecond, Machine: 1, Numbers: numbers(20, 4), Burst: true},
+				{Begins: 3600 * time.Millisecond, Machine: 1, Numbers: numbers(30, 4), Burst: true},
+			},
+		}
+		result := sim.Run(plan, proved, false)
+		if result.Violation != nil {
+			t.Errorf("%v\n%s", result.Violation, sim.Explain(plan, proved))
+		}
+		if result.Counts[sim.LockAndGuardRolledBack] != 1 {
+			t.Errorf("seed %d: the lock and the guard were not rolled back", seed)
+		}
+	}
+}

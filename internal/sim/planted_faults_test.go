@@ -230,6 +230,9 @@ var all = []planted{
 			"		if false {",
 		},
 	}},
+	{"a text that was replaced is taken again", []edit{
+		{"loop.go", "	if text == l.seen.left {", "	if false {"},
+	}},
 	{"an older text is taken and nothing is compared", []edit{
 		{"loop.go",
 			"		if k.head() != before.head() && !follows(k.Size, k.Timestamp, before.head()) {",

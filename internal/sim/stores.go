@@ -3,6 +3,7 @@ package sim
 import (
 	"bytes"
 	"context"
+	"errors"
 	"fmt"
 	"sort"
 	"strings"
@@ -245,7 +246,10 @@ func (l lock) Read(ctx context.Context) (text string, err error) {
 
 func (l lock) Swap(ctx context.Context, old, new string) error {
 	s, by := &l.m.w.stores, l.m.process
-	return l.m.call(ctx, "lock", "swap "+short(old)+" for "+short(new), true, func() error {
+	if old == by.replaced {
+		l.m.w.judge.breaks("a replaced text does not come back", "%s makes a step from %s again", l.m.name, short(old))
+	}
+	err := l.m.call(ctx, "lock", "swap "+short(old)+" for "+short(new), true, func() error {
 		switch s.text {
 		case "":
 			return stores.ErrAbsent
@@ -258,6 +262,10 @@ func (l lock) Swap(ctx context.Context, old, new string) error {
 		}
 		return stores.ErrLost
 	})
+	if errors.Is(err, stores.ErrLost) {
+		by.replaced = old
+	}
+	return err
 }
 
 func (l lock) Published(ctx context.Context) (published stores.Published, err error) {

@@ -96,6 +96,9 @@ type excuses struct {
 	// signed says that only the witnesses show that the log was longer. They see a head after it was signed, so one of
 	// another list may be signed. It must not be put.
 	signed bool
+	// unput says that the lock and the guard's state were rolled back under running nodes while a signed head was not
+	// put. A node that did not see that head may have one of another list signed, and no witness cosigns it.
+	unput bool
 	// again has the identities that may get one more entry.
 	again map[[32]byte]bool
 }
