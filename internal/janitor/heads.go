@@ -41,18 +41,16 @@ func (j *Janitor) deleteHeads(ctx context.Context, newest Newest) error {
 		return err
 	}
 	old, crowded := headName(j.heads.head), headName(j.thin.crowded.head)
-	apart := uint64(j.config.Keep.Apart.Milliseconds())
-	first, firstName, left := uint64(0), "", maxDeleted
+	first, left := "", maxDeleted
 	for _, name := range names {
-		timestamp, ok := timestampOf(name)
-		if !ok {
+		if _, ok := timestampOf(name); !ok {
 			continue
 		}
-		isThin := firstName != "" && apart > 0 && timestamp/apart == first/apart
+		isThin := j.areTogether(first, name)
 		if !isThin {
-			first, firstName = timestamp, name
+			first = name
 		}
-		if name >= old && !(isThin && name < crowded && j.stays(firstName)) {
+		if name >= old && !(isThin && name < crowded && j.stays(first)) {
 			continue
 		}
 		if left--; left < 0 {
@@ -66,6 +64,14 @@ func (j *Janitor) deleteHeads(ctx context.Context, newest Newest) error {
 		j.thin.due = now + j.config.Keep.Thin
 	}
 	return nil
+}
+
+// areTogether reports whether the timestamps of two heads are in the same Keep.Apart.
+func (j *Janitor) areTogether(first, other string) bool {
+	apart := uint64(j.config.Keep.Apart.Milliseconds())
+	one, isHead := timestampOf(first)
+	two, isOther := timestampOf(other)
+	return isHead && isOther && apart > 0 && one/apart == two/apart
 }
 
 // thinWindow returns for how long after a mark heads may be thinned. The deletion that begins last ends before any head

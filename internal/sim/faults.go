@@ -279,17 +279,7 @@ func (w *world) rollsBack(f Fault) bool {
 		happened = w.stores.rollBack(one, w.events.calls-10*f.Count) || happened
 	}
 	if f.Kind == AllRolledBack {
-		// An operator stops all nodes before the stores are put back.
-		for _, m := range w.machines {
-			if m.process != nil {
-				m.process.dead = true
-			}
-			if len(w.observers) > 0 {
-				// The machines are rolled back as well, and only the witnesses show it.
-				m.remembered = nil
-			}
-		}
-		w.excuses.signed = w.excuses.signed || len(w.observers) > 0
+		w.stopsAll()
 	}
 	switch f.Kind {
 	case LockRolledBack, LockAndGuardRolledBack, ObjectsAndLockRolledBack, AllRolledBack:
@@ -297,6 +287,21 @@ func (w *world) rollsBack(f Fault) bool {
 	}
 	w.excuses.missing, w.bentAt, w.excuses.unput = true, w.now, w.excuses.unput || waits && happened
 	return happened
+}
+
+// stopsAll ends all nodes, as an operator does before the stores are put back. With witnesses the machines are rolled
+// back as well, and only the witnesses show it.
+func (w *world) stopsAll() {
+	isWitnessed := len(w.observers) > 0
+	for _, m := range w.machines {
+		if m.process != nil {
+			m.process.dead = true
+		}
+		if isWitnessed {
+			m.remembered = nil
+		}
+	}
+	w.excuses.signed = w.excuses.signed || isWitnessed
 }
 
 // hasUnputHead reports whether the head that the guard approved last is not in the store.

@@ -161,7 +161,7 @@ var all = []planted{
 		{"janitor/pass.go", "newest.Head, now, keep.Thin)", "newest.Head, now, 0)"},
 	}},
 	{"all but the newest heads are thinned", []edit{
-		{"janitor/heads.go", "timestamp/apart == first/apart", "timestamp > first"},
+		{"janitor/heads.go", "one/apart == two/apart", "one < two"},
 	}},
 	{"the decider is not asked for a staged batch", []edit{
 		{"janitor/pass.go",
@@ -174,7 +174,7 @@ var all = []planted{
 	}},
 	{"no head is deleted", []edit{
 		{"janitor/heads.go", "		if name >= old && !(isThin", "		if name >= old || !(isThin"},
-		{"janitor/heads.go", "j.stays(firstName)", "name == firstName"},
+		{"janitor/heads.go", "j.stays(first)", "name == first"},
 	}},
 	{"heads are thinned long after the newest one was looked for", []edit{
 		{"janitor/heads.go", "{ return j.config.Keep.Heads - j.config.Keep.Call }", "{ return time.Hour }"},
