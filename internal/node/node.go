@@ -313,12 +313,8 @@ func (n *Node) IsEnding() bool { return n.pool.isEnding() }
 // returned only.
 func (n *Node) RefuseAll(err error) int { return n.pool.refuse(err) }
 
-// show makes a head the one that readers see, unless they see a later one.
-func (n *Node) show(head Head, line string) {
-	if now := n.snapshot.Load(); now == nil || now.Head.before(head) {
-		n.snapshot.Store(&Snapshot{Head: head, Line: line})
-	}
-}
+// show makes a head the one that readers see. It is no earlier one, since no state is accepted after a later one.
+func (n *Node) show(head Head, line string) { n.snapshot.Store(&Snapshot{Head: head, Line: line}) }
 
 // newNode returns a node that does nothing yet.
 func newNode(config Config) *Node {

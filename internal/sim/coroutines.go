@@ -26,8 +26,8 @@ type process struct {
 	dead bool
 	// pausedUntil is until when the process is paused.
 	pausedUntil time.Duration
-	// replaced is the text of the lock that this process tried to replace last when the lock had another one.
-	replaced string
+	// known is what the process must know of the lock.
+	known known
 }
 
 // coroutine is one of a process, or of the world if it has none.
