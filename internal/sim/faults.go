@@ -269,7 +269,8 @@ func (w *world) rollsBack(f Fault) bool {
 		// (OPERATING.md, "Backup").
 		return false
 	}
-	waits := f.Kind == LockAndGuardRolledBack && w.hasUnputHead()
+	unput := w.unputHead()
+	waits := f.Kind == LockAndGuardRolledBack && unput != nil
 	if waits && len(w.observers) == 0 {
 		// A node that did not see that head would put one of another list (OPERATING.md, "Backup").
 		return false
@@ -285,7 +286,12 @@ func (w *world) rollsBack(f Fault) bool {
 	case LockRolledBack, LockAndGuardRolledBack, ObjectsAndLockRolledBack, AllRolledBack:
 		w.excuses.tiles, w.excuses.repeats = true, true
 	}
-	w.excuses.missing, w.bentAt, w.excuses.unput = true, w.now, w.excuses.unput || waits && happened
+	for _, m := range w.machines {
+		if seen := m.remembered; waits && (seen == nil || seen.Timestamp < unput.Timestamp) {
+			w.excuses.unput[m] = true
+		}
+	}
+	w.excuses.missing, w.bentAt = true, w.now
 	return happened
 }
 
@@ -304,14 +310,17 @@ func (w *world) stopsAll() {
 	w.excuses.signed = w.excuses.signed || isWitnessed
 }
 
-// hasUnputHead reports whether the head that the guard approved last is not in the store.
-func (w *world) hasUnputHead() bool {
+// unputHead returns the head that the guard approved last if it is not in the store, and nil otherwise.
+func (w *world) unputHead() *signer.Head {
 	guard, err := signer.ReadState(w.stores.guard)
 	if err != nil || guard.Last() == nil {
-		return false
+		return nil
 	}
-	_, isPut := w.stores.objects[fmt.Sprintf("heads/%020d-%020d", guard.Last().Size, guard.Last().Timestamp)]
-	return !isPut
+	last := guard.Last()
+	if _, isPut := w.stores.objects[fmt.Sprintf("heads/%020d-%020d", last.Size, last.Timestamp)]; isPut {
+		return nil
+	}
+	return last
 }
 
 // allRemember reports whether every machine's memory has the newest head that is published.
