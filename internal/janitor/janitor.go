@@ -5,7 +5,7 @@
 //
 //   - a partial tile, Keep.Tiles after a head has its full tile, if the full tile is whole;
 //   - a head, Keep.Heads after a later one was published;
-//   - a head that came less than Keep.Apart after one that stays, Keep.Thin after a later one was published;
+//   - a head that is not the first one of its Keep.Apart, Keep.Thin after a later one was published;
 //   - a staged batch that no step needs any more, as the proved decider says (docs/NODE.md).
 //
 // A partial tile is the beginning of its full tile, so readers find what it had. While the node has a fault, the
@@ -70,7 +70,8 @@ type Keep struct {
 	Every time.Duration
 	// Tiles is for partial tiles, Heads for heads, and Staged is the time between two listings of staged batches.
 	Tiles, Heads, Staged time.Duration
-	// Thin is how long heads stay that are less than Apart after another one that stays.
+	// Thin is how long heads stay that are not the first ones of their Apart: the timestamps from one multiple of Apart
+	// to the next.
 	Thin, Apart time.Duration
 	// Reread is how long it takes until each old tile was read again, if a pass need not read more than maxReread.
 	Reread time.Duration
@@ -135,13 +136,6 @@ type Janitor struct {
 		sync.Mutex
 		Report
 	}
-}
-
-// thinning is what is known for thinning the heads: one that was published for Keep.Thin, one that was published for
-// longer and is not old yet, and when the heads are listed again.
-type thinning struct {
-	crowded, recent settled
-	due             time.Duration
 }
 
 // listing is where the listing of a prefix ended, and when it is due again.

@@ -5,8 +5,6 @@ import (
 	"errors"
 	"fmt"
 	"regexp"
-	"strconv"
-	"strings"
 	"time"
 
 	"golang.org/x/mod/sumdb/tlog"
@@ -60,7 +58,6 @@ func (j *Janitor) pass(ctx context.Context) {
 	j.tiles.look(newest.Head, now, keep.Tiles)
 	j.heads.look(newest.Head, now, keep.Heads)
 	j.thin.crowded.look(newest.Head, now, keep.Thin)
-	j.thin.recent.look(newest.Head, now, 2*(keep.Thin+keep.Every))
 	for _, part := range []struct {
 		what string
 		do   func(context.Context, Newest) error
@@ -177,65 +174,6 @@ func (j *Janitor) whole(ctx context.Context, full tlog.Tile, newest signer.Head)
 		return err
 	}
 	return tile.Whole(ctx, full, newest, j.read)
-}
-
-// deleteHeads deletes the heads before the newest one that is older than Keep.Heads. Of those before the newest one
-// that is older than Keep.Thin it keeps one in each Keep.Apart. A node needs the newest head, and otherwise checks only
-// whether there is a later one.
-//
-// A head is only deleted for the one that is kept before it if no other node deletes that one as an old one meanwhile:
-// all later heads must have been published for less than Keep.Heads. So heads are thinned only after one that was seen at
-// most five times Keep.Thin and Keep.Every ago. Otherwise two nodes would leave neither of two heads.
-func (j *Janitor) deleteHeads(ctx context.Context, _ Newest) error {
-	now := j.config.Clock.Elapsed()
-	if j.thin.crowded.head == (signer.Head{}) || now < j.thin.due {
-		return nil
-	}
-	names, err := j.list(ctx, headsPrefix, "")
-	if err != nil {
-		return err
-	}
-	old, crowded, recent := headName(j.heads.head), headName(j.thin.crowded.head), headName(j.thin.recent.head)
-	mayThin := j.thin.recent.head != (signer.Head{}) && 5*(j.config.Keep.Thin+j.config.Keep.Every) <= j.config.Keep.Heads
-	kept, keptName, left := uint64(0), "", maxDeleted
-	for _, name := range names {
-		timestamp, ok := timestampOf(name)
-		isThin := name < crowded && kept > 0 && timestamp < kept+uint64(j.config.Keep.Apart.Milliseconds())
-		if !ok || name >= old && !isThin {
-			kept, keptName = timestamp, name
-			continue
-		}
-		if name >= old && !(mayThin && keptName >= recent) {
-			// The one that is kept stays the same, so that all nodes thin alike.
-			continue
-		}
-		if left--; left < 0 {
-			return nil
-		}
-		if err := j.remove(ctx, name, &j.report.Heads); err != nil {
-			return err
-		}
-	}
-	if len(names) < stores.MaxListed {
-		j.thin.due = now + j.config.Keep.Thin
-	}
-	return nil
-}
-
-// headName returns the name of a head's object. Names are in the order of states.
-func headName(head signer.Head) string {
-	return fmt.Sprintf("%s%020d-%020d", headsPrefix, head.Size, head.Timestamp)
-}
-
-// timestampOf reads the timestamp in a head's name, and reports false for any other name.
-func timestampOf(name string) (timestamp uint64, ok bool) {
-	digits, ok := strings.CutPrefix(name, headsPrefix)
-	if !ok || len(digits) != 41 || digits[20] != '-' {
-		return 0, false
-	}
-	_, wrong := strconv.ParseUint(digits[:20], 10, 64)
-	timestamp, err := strconv.ParseUint(digits[21:], 10, 64)
-	return timestamp, wrong == nil && err == nil
 }
 
 // batchName matches the names of staged batches. The janitor leaves an object with any other name: no node put it.

@@ -158,39 +158,3 @@ func TestLeavesWhatNoNodeStaged(t *testing.T) {
 		t.Errorf("%d parts failed: %v", report.Failures, report.Failed)
 	}
 }
-
-// TestThinsAfterARecentHeadOnly: of two heads that are close together, the later one goes only if the earlier one was
-// published a short while ago. Another node might delete an earlier one as an old one meanwhile.
-func TestThinsAfterARecentHeadOnly(t *testing.T) {
-	headOf := func(size, timestamp uint64) signer.Head {
-		return signer.Head{Size: size, Timestamp: timestamp, Root: [32]byte{byte(size)}}
-	}
-	nameOf := func(head signer.Head) string {
-		return fmt.Sprintf("heads/%020d-%020d", head.Size, head.Timestamp)
-	}
-	long, first, close, newest := headOf(1, 1_000), headOf(2, 100_000), headOf(3, 101_000), headOf(4, 102_000)
-	for _, test := range []struct {
-		what string
-		// seen is the newest head in the first six seconds.
-		seen  signer.Head
-		stays bool
-	}{{"the first of them is new", long, false}, {"the first of them is old", newest, true}} {
-		kept := janitor.Kept{}
-		for _, head := range []signer.Head{long, first, close, newest} {
-			kept[nameOf(head)] = []byte("a head")
-		}
-		clock := &moved{waits: seconds(8)}
-		config := configOf(kept, clock, newest)
-		config.Newest = func() (janitor.Newest, bool) {
-			if clock.now <= 6*time.Second {
-				return janitor.Newest{Head: test.seen}, true
-			}
-			return janitor.Newest{Head: newest}, true
-		}
-		config.Keep.Thin, config.Keep.Apart = time.Second, 5*time.Second
-		run(t, config)
-		if _, stays := kept[nameOf(close)]; stays != test.stays || len(kept) < 3 {
-			t.Errorf("%s: the later one stays: %t, and %d heads are left", test.what, stays, len(kept))
-		}
-	}
-}

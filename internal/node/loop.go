@@ -252,6 +252,9 @@ func (l *Loop) learn(ctx context.Context) (*state, error) {
 	if l.config.Machine.Clock.Elapsed()-l.seen.heard > maxUnvouched {
 		l.seen.isVouched = false
 	}
+	if text == l.seen.left {
+		return nil, fmt.Errorf("%w: it has a text again that another node's step had replaced", ErrRolledBack)
+	}
 	k := before
 	if text != before.text {
 		if k, err = l.read(text); err != nil {

@@ -209,24 +209,39 @@ type Config struct {
 
 // check returns ErrConfig if something is missing.
 func (c *Config) check() error {
-	switch {
-	case c.Stores.Objects == nil || c.Stores.Lock == nil || c.Stores.Index == nil:
-		return fmt.Errorf("%w: a store is missing (set all three of Stores)", ErrConfig)
-	case c.Proved.Decider == nil || c.Proved.Steps == nil || c.Signer == nil:
-		return fmt.Errorf("%w: the decider, the steps or the signer is missing", ErrConfig)
-	case c.Machine.Clock == nil || c.Machine.Memory == nil || c.Machine.Parallel == nil || c.Machine.Random == nil:
-		return fmt.Errorf("%w: the clock, the memory, Parallel or Random of Machine is missing", ErrConfig)
-	case c.Origin == "" || strings.ContainsAny(c.Origin, " +\n\r\t"):
-		return fmt.Errorf("%w: the origin %q is empty, or has a space or a plus sign", ErrConfig, c.Origin)
-	case c.Pace.Look <= 0 || c.Pace.Refresh <= 0 || c.Pace.Call <= 0 || c.Pace.Round <= 0 || c.Pace.Patience <= 0 ||
-		c.Pace.MaxSkew <= 0 || c.Pace.Help < 0:
-		return fmt.Errorf("%w: a time of Pace is not above 0", ErrConfig)
-	case c.Limits.MaxBatch <= 0 || c.Limits.MaxQueue <= 0:
-		return fmt.Errorf("%w: a number of Limits is not above 0", ErrConfig)
-	case c.Pace.Interval < 0 || c.Limits.MaxBatchBytes < 0 || c.Limits.MaxQueueBytes < 0 || c.Limits.MaxWritten < 0:
-		return fmt.Errorf("%w: the interval or a number of bytes is below 0", ErrConfig)
+	for _, one := range []struct {
+		isWrong bool
+		what    string
+	}{
+		{c.Stores.lack(), "a store is missing (set all three of Stores)"},
+		{c.Proved.Decider == nil || c.Proved.Steps == nil || c.Signer == nil,
+			"the decider, the steps or the signer is missing"},
+		{c.Machine.lacks(), "the clock, the memory, Parallel or Random of Machine is missing"},
+		{c.Origin == "" || strings.ContainsAny(c.Origin, " +\n\r\t"),
+			fmt.Sprintf("the origin %q is empty, or has a space or a plus sign", c.Origin)},
+		{!c.Pace.lasts(), "a time of Pace is not above 0"},
+		{c.Limits.MaxBatch <= 0 || c.Limits.MaxQueue <= 0, "a number of Limits is not above 0"},
+		{min(int64(c.Pace.Interval), int64(c.Limits.MaxBatchBytes), int64(c.Limits.MaxQueueBytes),
+			int64(c.Limits.MaxWritten)) < 0, "the interval or a number of bytes is below 0"},
+	} {
+		if one.isWrong {
+			return fmt.Errorf("%w: %s", ErrConfig, one.what)
+		}
 	}
 	return c.Witnesses.check(c.Pace.Cosign)
+}
+
+// lack reports whether a store is missing that each log needs.
+func (s Stores) lack() bool { return s.Objects == nil || s.Lock == nil || s.Index == nil }
+
+// lacks reports whether something is missing that each node needs of its machine.
+func (m Machine) lacks() bool {
+	return m.Clock == nil || m.Memory == nil || m.Parallel == nil || m.Random == nil
+}
+
+// lasts reports whether all times are above 0 that must be.
+func (p Pace) lasts() bool {
+	return min(p.Look, p.Refresh, p.Call, p.Round, p.Patience, p.MaxSkew) > 0 && p.Help >= 0
 }
 
 // Snapshot is what readers see of a log: its newest published head that this node knows. It never changes.
@@ -298,12 +313,8 @@ func (n *Node) IsEnding() bool { return n.pool.isEnding() }
 // returned only.
 func (n *Node) RefuseAll(err error) int { return n.pool.refuse(err) }
 
-// show makes a head the one that readers see, unless they see a later one.
-func (n *Node) show(head Head, line string) {
-	if now := n.snapshot.Load(); now == nil || now.Head.before(head) {
-		n.snapshot.Store(&Snapshot{Head: head, Line: line})
-	}
-}
+// show makes a head the one that readers see. It is no earlier one, since no state is accepted after a later one.
+func (n *Node) show(head Head, line string) { n.snapshot.Store(&Snapshot{Head: head, Line: line}) }
 
 // newNode returns a node that does nothing yet.
 func newNode(config Config) *Node {

@@ -179,13 +179,8 @@ func (p *pass) step(ctx context.Context) error {
 		stepped, err = p.stepOver(ctx)
 	}
 	if errors.Is(err, ErrDamaged) {
-		_, failed := p.restore(ctx, p.from)
-		switch {
-		case failed == nil:
+		if _, failed := p.restore(ctx, p.from); failed == nil {
 			stepped, err = p.stepOver(ctx)
-		case errors.Is(failed, errMoves):
-			// What an old state needs may be deleted.
-			return failed
 		}
 	}
 	if err != nil {

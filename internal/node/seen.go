@@ -24,6 +24,9 @@ type seen struct {
 	// was, by Elapsed.
 	newest *state
 	heard  time.Duration
+	// left is a text that the lock did not have any more when this node tried to replace it, or empty. No text of the
+	// lock comes back.
+	left string
 	// isVouched says that enough witnesses cosigned the newest head again since this node started, or since it could
 	// not read the lock.
 	isVouched bool
@@ -98,10 +101,6 @@ func (l *Loop) descends(ctx context.Context, k *state, objects []step.Object, he
 
 func (l *Loop) compare(ctx context.Context, k *state, objects []step.Object, heads lister) error {
 	accepted := l.seen.accepted
-	// This is decided again below, after the store was read. Here the refusal says in which way the state is older.
-	if k.head() != accepted.head() && !follows(k.Size, k.Timestamp, accepted.head()) {
-		return isOlder(k, accepted.head())
-	}
 	isNext := accepted.line != "" && k.Before == step.Digest(accepted.line)
 	between, err := l.headsUpTo(ctx, k, isNext, heads)
 	if err != nil {
@@ -119,16 +118,6 @@ func (l *Loop) compare(ctx context.Context, k *state, objects []step.Object, hea
 		return err
 	}
 	return l.extends(ctx, k, head.Head, objects)
-}
-
-// isOlder is the refusal of a state that is older than a head that this node accepted.
-func isOlder(k *state, accepted signer.Head) error {
-	if k.Size == accepted.Size && k.Timestamp == accepted.Timestamp {
-		return fmt.Errorf("%w: it has another root of %d entries at %d ms than this node accepted", ErrRolledBack,
-			k.Size, k.Timestamp)
-	}
-	return fmt.Errorf("%w: it has %d entries at %d ms, and this node accepted %d at %d ms", ErrRolledBack, k.Size,
-		k.Timestamp, accepted.Size, accepted.Timestamp)
 }
 
 // headsUpTo compares the names of the store's heads from the newest accepted one on. In one history they are in the

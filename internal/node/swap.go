@@ -31,6 +31,7 @@ func (p *pass) swap(ctx context.Context) (decider.Told, error) {
 	}
 	p.last.decided = true
 	if !won {
+		p.seen.left = p.command.Seen.Text
 		p.config.Machine.Observer.Count(LostSwap)
 		p.last.unneeded = append(p.last.unneeded, p.command.New.Bundle)
 		return decider.Lost(), nil

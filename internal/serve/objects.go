@@ -22,33 +22,48 @@ func (l *Log) Object(ctx context.Context, name string, most int64) ([]byte, erro
 	if !strings.HasPrefix(name, tile.Prefix) && !strings.HasPrefix(name, issuersPrefix) {
 		return nil, fmt.Errorf("%w: %.80q is not published", stores.ErrName, name)
 	}
-	content, err := l.config.Stores.Objects.Get(ctx, name, most)
-	var long stores.TooLong
-	if errors.Is(err, stores.ErrName) || errors.As(err, &long) && long.Length <= stores.MaxObject {
-		return nil, err
-	}
+	content, err := l.stored(ctx, name, most)
 	isMissing := errors.Is(err, stores.ErrAbsent)
 	if err != nil && !isMissing {
-		return nil, fault{log.ErrStore, err}
+		return nil, err
 	}
 	of, isTile := tile.Parse(name)
 	if !isTile || !isMissing && of.W < tile.Width && !errors.Is(l.node.Fault(), node.ErrDamaged) {
 		return content, err
 	}
 	head, err := l.headWith(ctx, of)
-	if err != nil {
+	switch {
+	case err != nil:
 		return nil, err
+	case tile.WidthIn(of, head.Size) == of.W:
+		return l.compared(ctx, name, head, content, isMissing)
+	case isMissing || of.W == tile.Width:
+		return nil, fmt.Errorf("stores: %s: %w", name, stores.ErrAbsent)
 	}
-	if tile.WidthIn(of, head.Size) != of.W {
-		// The tree has no tile of this name, or a wider one.
-		if isMissing || of.W == tile.Width {
-			return nil, fmt.Errorf("stores: %s: %w", name, stores.ErrAbsent)
-		}
-		return content, nil
+	// The tree has a wider tile than this one, or none.
+	return content, nil
+}
+
+// stored reads an object from the store. An error that is not one of the request is a fault of the store.
+func (l *Log) stored(ctx context.Context, name string, most int64) ([]byte, error) {
+	content, err := l.config.Stores.Objects.Get(ctx, name, most)
+	var long stores.TooLong
+	switch {
+	case err == nil, errors.Is(err, stores.ErrAbsent), errors.Is(err, stores.ErrName),
+		errors.As(err, &long) && long.Length <= stores.MaxObject:
+		return content, err
 	}
-	if isMissing {
-		err = fmt.Errorf("%w: %s is missing (put it back from a backup)", tile.ErrDamaged, name)
-	} else {
+	return nil, fault{log.ErrStore, err}
+}
+
+// compared returns the content of a tile of a head's tree if it is that tree's. If it is not, or if the tile is
+// missing, that is a fault of the store. The janitor learns of each full tile that is damaged.
+func (l *Log) compared(
+	ctx context.Context, name string, head signer.Head, content []byte, isMissing bool,
+) ([]byte, error) {
+	of, _ := tile.Parse(name)
+	err := fmt.Errorf("%w: %s is missing (put it back from a backup)", tile.ErrDamaged, name)
+	if !isMissing {
 		err = l.comparer.Compare(ctx, head, of, content)
 	}
 	if errors.Is(err, tile.ErrDamaged) && of.W == tile.Width {

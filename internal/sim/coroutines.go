@@ -28,6 +28,8 @@ type process struct {
 	pausedUntil time.Duration
 	// unread is the text of the lock that the process's own swap put there, if it has not read the lock since.
 	unread string
+	// known is what the process must know of the lock.
+	known known
 }
 
 // coroutine is one of a process, or of the world if it has none.

@@ -8,6 +8,7 @@ import (
 	"sort"
 	"strings"
 
+	"wagtenib/internal/signer"
 	"wagtenib/internal/stores"
 )
 
@@ -268,27 +269,58 @@ func (w *world) rollsBack(f Fault) bool {
 		// (OPERATING.md, "Backup").
 		return false
 	}
+	unput := w.unputHead()
+	waits := f.Kind == LockAndGuardRolledBack && unput != nil
+	if waits && len(w.observers) == 0 {
+		// A node that did not see that head would put one of another list (OPERATING.md, "Backup").
+		return false
+	}
 	happened := false
 	for _, one := range of {
 		happened = w.stores.rollBack(one, w.events.calls-10*f.Count) || happened
 	}
 	if f.Kind == AllRolledBack {
-		// An operator stops all nodes before the stores are put back.
-		for _, m := range w.machines {
-			m.process.dead = true
-			if len(w.observers) > 0 {
-				// The machines are rolled back as well, and only the witnesses show it.
-				m.remembered = nil
-			}
-		}
-		w.excuses.signed = w.excuses.signed || len(w.observers) > 0
+		w.stopsAll()
 	}
 	switch f.Kind {
 	case LockRolledBack, LockAndGuardRolledBack, ObjectsAndLockRolledBack, AllRolledBack:
 		w.excuses.tiles, w.excuses.repeats = true, true
 	}
+	for _, m := range w.machines {
+		if seen := m.remembered; waits && (seen == nil || seen.Timestamp < unput.Timestamp) {
+			w.excuses.unput[m] = true
+		}
+	}
 	w.excuses.missing, w.bentAt = true, w.now
 	return happened
+}
+
+// stopsAll ends all nodes, as an operator does before the stores are put back. With witnesses the machines are rolled
+// back as well, and only the witnesses show it.
+func (w *world) stopsAll() {
+	isWitnessed := len(w.observers) > 0
+	for _, m := range w.machines {
+		if m.process != nil {
+			m.process.dead = true
+		}
+		if isWitnessed {
+			m.remembered = nil
+		}
+	}
+	w.excuses.signed = w.excuses.signed || isWitnessed
+}
+
+// unputHead returns the head that the guard approved last if it is not in the store, and nil otherwise.
+func (w *world) unputHead() *signer.Head {
+	guard, err := signer.ReadState(w.stores.guard)
+	if err != nil || guard.Last() == nil {
+		return nil
+	}
+	last := guard.Last()
+	if _, isPut := w.stores.objects[fmt.Sprintf("heads/%020d-%020d", last.Size, last.Timestamp)]; isPut {
+		return nil
+	}
+	return last
 }
 
 // allRemember reports whether every machine's memory has the newest head that is published.

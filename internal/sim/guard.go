@@ -177,7 +177,7 @@ func (g *guarded) SignHead(ctx context.Context, head signer.Head, consistency []
 	if err := g.swap(inner, state, next); err != nil {
 		return nil, err
 	}
-	g.m.w.judge.signs(head)
+	g.m.w.judge.signs(g.m, head)
 	if !bytes.Equal(next.Signed(), headMessage(head)) {
 		g.m.w.judge.breaks("a signed head is the list's", "the guard has other bytes signed")
 	}

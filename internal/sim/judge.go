@@ -181,8 +181,11 @@ func (j *judge) judgeTime(head signer.Head, name string) {
 	}
 }
 
-// signs judges a head that the key signs. All of its tree must be in the store by then.
-func (j *judge) signs(head signer.Head) {
+// signs judges a head that a machine has the key sign. All of its tree must be in the store by then.
+func (j *judge) signs(m *machine, head signer.Head) {
+	if j.w.excuses.unput[m] {
+		return
+	}
 	j.isLists(head, fmt.Sprintf("a signed head of %d entries at %d ms", head.Size, head.Timestamp),
 		"a signed head is the list's")
 }

@@ -66,7 +66,7 @@ func TestJanitorDeletes(t *testing.T) {
 	}
 }
 
-// TestJanitorsLeaveOneHead has a node start again, so that its janitor does not know how long a head stands. It must not
+// TestJanitorsLeaveOneHead has a node start again, so that its janitor does not know how old a head is. It must not
 // delete that head for the one before it, which the other node's janitor deletes meanwhile as an old one.
 func TestJanitorsLeaveOneHead(t *testing.T) {
 	for seed := range int64(100) {
@@ -88,9 +88,34 @@ func TestJanitorsLeaveOneHead(t *testing.T) {
 	}
 }
 
+// TestPausedJanitorThinsNoOldHeads has a node that was paused thin heads, while the other node's janitor deletes those
+// as old ones for which the paused one would delete others. Something must stay of them.
+func TestPausedJanitorThinsNoOldHeads(t *testing.T) {
+	for _, seed := range []int64{107_903, 1, 2, 3} {
+		plan := sim.Plan{
+			Seed: seed, Machines: 2, Janitors: true, Public: true,
+			Faults: []sim.Fault{{At: 1, On: "lock: read", Of: 1, After: 1392 * time.Millisecond, Kind: sim.Paused,
+				Long: 7 * time.Second}},
+			Clients: []sim.Client{
+				{Numbers: numbers(2000, 4)},
+				{Machine: 1, Numbers: numbers(2010, 4)},
+				{Begins: 5331 * time.Millisecond, Machine: 1, Numbers: numbers(0, 4)},
+				{Begins: 1953 * time.Millisecond, Machine: 1, Numbers: []int{4, 5, 3}},
+				{Begins: 2292 * time.Millisecond, Machine: 1, Numbers: numbers(6, 272), Burst: true},
+				{Begins: 8292 * time.Millisecond, Machine: 1, Numbers: []int{0, 278, 279}},
+				{Machine: 1, Numbers: numbers(0, 3)},
+				{Begins: 4292 * time.Millisecond, Numbers: numbers(0, 3), Burst: true},
+			},
+		}
+		if result := sim.Run(plan, proved, false); result.Violation != nil {
+			t.Errorf("%v\n%s", result.Violation, sim.Explain(plan, proved))
+		}
+	}
+}
+
 // TestTimestampsAfterAnOldBackup has a node whose clock is ahead publish a second head of one tree, and then all rolled
-// back to the first one. The witnesses saw that tree, so the log goes on, and its next head may be earlier than the second
-// one was.
+// back to the first one. The witnesses saw that tree, so the log goes on, and its next head may be earlier than the
+// second one was.
 func TestTimestampsAfterAnOldBackup(t *testing.T) {
 	for seed := range int64(21) {
 		for at := 195; at < 225; at += 3 {
@@ -106,8 +131,78 @@ func TestTimestampsAfterAnOldBackup(t *testing.T) {
 				},
 			}
 			if result := sim.Run(plan, proved, false); result.Violation != nil {
-				t.Fatalf("%v\n%s", result.Violation, sim.Explain(plan, proved))
+				t.Errorf("seed %d: %v", seed, result.Violation)
 			}
+		}
+	}
+}
+
+// TestAllRolledBackBeforeAllStarted has all rolled back at the very first call, when no other machine has begun to
+// start its node. The fault must stop those that run, and no others.
+func TestAllRolledBackBeforeAllStarted(t *testing.T) {
+	for seed := range int64(20) {
+		plan := sim.Plan{
+			Seed: seed, Machines: 3,
+			Witnesses: sim.Witnesses{Count: 3, Quorums: witness.Quorums{Publish: 2, Start: 2}},
+			Faults:    []sim.Fault{{At: 1, Kind: sim.AllRolledBack, Count: 9}},
+			Clients:   []sim.Client{{Begins: 2 * time.Second, Machine: 2, Numbers: numbers(0, 2)}},
+		}
+		if result := sim.Run(plan, proved, false); result.Violation != nil {
+			t.Errorf("seed %d: %v\n%s", seed, result.Violation, sim.Explain(plan, proved))
+		}
+	}
+}
+
+// TestReplacedTextComesBack has a node lose a swap, and then the lock and the guard rolled back to before the step that
+// won. The node saw that the text was replaced, so it must not make another step from it.
+func TestReplacedTextComesBack(t *testing.T) {
+	plan := sim.Plan{
+		Seed: 123_133, Machines: 3,
+		Witnesses: sim.Witnesses{Count: 3, Quorums: witness.Quorums{Publish: 3, Start: 2, Faults: 1}},
+		Faults: []sim.Fault{{At: 71, Kind: sim.StoreFull, Long: 700 * time.Millisecond, Count: 6},
+			{At: 182, On: "lock: swap", Kind: sim.Paused, Long: 1900 * time.Millisecond},
+			{At: 257, Kind: sim.LockAndGuardRolledBack, Count: 7}},
+		Clients: []sim.Client{
+			{Begins: 124 * time.Millisecond, Numbers: numbers(1000, 8)},
+			{Begins: 26 * time.Millisecond, Machine: 1, Numbers: numbers(2000, 8)},
+			{Begins: 11 * time.Millisecond, Machine: 2, Numbers: numbers(3000, 8)},
+			{Begins: 1061 * time.Millisecond, Machine: 2, Numbers: numbers(3100, 6), Burst: true},
+			{Begins: 5435 * time.Millisecond, Machine: 2, Numbers: []int{0, 0}},
+			{Begins: 4747 * time.Millisecond, Machine: 2, Numbers: numbers(1, 4)},
+			{Begins: 4698 * time.Millisecond, Numbers: numbers(5, 3)},
+		},
+	}
+	result := sim.Run(plan, proved, false)
+	if result.Violation != nil {
+		t.Errorf("%v\n%s", result.Violation, sim.Explain(plan, proved))
+	}
+	if result.Counts[sim.LockAndGuardRolledBack] != 1 {
+		t.Error("the lock and the guard were not rolled back")
+	}
+}
+
+// TestLockFallsWhileHeadWaits has the lock and the guard rolled back while a head waits for the last witness. A node
+// that did not see that head may have one of another list signed. No witness may cosign it, and nobody may put it.
+func TestLockFallsWhileHeadWaits(t *testing.T) {
+	for _, seed := range []int64{92, 133, 301, 385, 474, 556, 578, 641, 661} {
+		plan := sim.Plan{
+			Seed: seed, Machines: 2,
+			Witnesses: sim.Witnesses{Count: 3, Quorums: witness.Quorums{Publish: 3, Start: 2, Faults: 1}},
+			Faults: []sim.Fault{{At: 1, On: "witness2: add", Of: 1, After: 3500 * time.Millisecond,
+				Kind: sim.LockAndGuardRolledBack, Count: 2}},
+			Clients: []sim.Client{
+				{Begins: 300 * time.Millisecond, Numbers: numbers(0, 2)},
+				{Begins: 3500 * time.Millisecond, Numbers: numbers(10, 4), Burst: true},
+				{Begins: 3550 * time.Millisecond, Machine: 1, Numbers: numbers(20, 4), Burst: true},
+				{Begins: 3600 * time.Millisecond, Machine: 1, Numbers: numbers(30, 4), Burst: true},
+			},
+		}
+		result := sim.Run(plan, proved, false)
+		if result.Violation != nil {
+			t.Errorf("%v\n%s", result.Violation, sim.Explain(plan, proved))
+		}
+		if result.Counts[sim.LockAndGuardRolledBack] != 1 {
+			t.Errorf("seed %d: the lock and the guard were not rolled back", seed)
 		}
 	}
 }

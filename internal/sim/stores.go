@@ -191,6 +191,9 @@ func (o objects) List(ctx context.Context, prefix, after string, max int) (names
 	if err != nil {
 		return nil, err
 	}
+	if prefix == "heads/" {
+		o.m.process.known.heard = o.m.w.now
+	}
 	return names, nil
 }
 
@@ -232,21 +235,28 @@ func (l lock) Create(ctx context.Context, text string) error {
 }
 
 func (l lock) Read(ctx context.Context) (text string, err error) {
+	l.m.begins()
 	err = l.m.call(ctx, "lock", "read", false, func() error {
 		if text = l.m.w.stores.text; text == "" {
 			return stores.ErrAbsent
 		}
+		l.m.finds(text)
 		return nil
 	})
 	if err != nil {
 		return "", err
 	}
 	l.m.process.unread = ""
+	l.m.process.known.read(text)
+	l.m.process.known.heard = l.m.w.now
 	return text, nil
 }
 
 func (l lock) Swap(ctx context.Context, old, new string) error {
 	s, by := &l.m.w.stores, l.m.process
+	if why := by.known.isOld(old); why != "" {
+		l.m.w.judge.breaks("no step from an old text", "%s makes one from %s: %s", l.m.name, short(old), why)
+	}
 	err := l.m.call(ctx, "lock", "swap "+short(old)+" for "+short(new), true, func() error {
 		switch s.text {
 		case "":
@@ -261,6 +271,13 @@ func (l lock) Swap(ctx context.Context, old, new string) error {
 		return stores.ErrLost
 	})
 	l.m.w.judge.stats.meet(by, old, new, err)
+	switch {
+	case err == nil:
+		by.known.read(new)
+		by.known.heard = l.m.w.now
+	case errors.Is(err, stores.ErrLost):
+		by.known.old, by.known.why = old, "it saw that text replaced"
+	}
 	return err
 }
 
@@ -292,6 +309,7 @@ func (l lock) Published(ctx context.Context) (published stores.Published, err er
 	if err != nil {
 		return stores.Published{}, err
 	}
+	l.m.process.known.heard = l.m.w.now
 	return published, nil
 }
 

@@ -97,6 +97,9 @@ type excuses struct {
 	// signed says that only the witnesses show that the log was longer. They see a head after it was signed, so one of
 	// another list may be signed. It must not be put.
 	signed bool
+	// unput has the machines that did not accept a signed head when the lock and the guard's state were rolled back
+	// before that head was put. Their nodes may have a head of another list signed, and no witness cosigns it.
+	unput map[*machine]bool
 	// again has the identities that may get one more entry.
 	again map[[32]byte]bool
 }
@@ -114,7 +117,7 @@ func newWorld(plan Plan, proved node.Proved, logs bool) *world {
 	w := &world{plan: plan, proved: proved, events: events{faults: slices.Clone(plan.Faults)}, stores: newMemory(),
 		observed: observed{history: history{isKept: logs}, bentAt: -readWithin}}
 	w.random = rand.New(rand.NewSource(plan.Seed ^ 0x5deece66d))
-	w.judge, w.excuses.again = newJudge(w), map[[32]byte]bool{}
+	w.judge, w.excuses.again, w.excuses.unput = newJudge(w), map[[32]byte]bool{}, map[*machine]bool{}
 	w.newObservers()
 	for i := range plan.Machines {
 		m := &machine{w: w, name: fmt.Sprintf("n%d", i+1)}
