@@ -10,13 +10,13 @@ import (
 )
 
 // TestWritesOfAStep: a step of one entry puts its staged batch, two partial tiles and its head. It swaps and raises the
-// lock once, adds to both parts of the index once, and deletes the staged batch before it. It makes few other calls.
+// lock once, makes one call to the index, and deletes the staged batch before it. It makes few other calls.
 func TestWritesOfAStep(t *testing.T) {
 	t.Parallel()
 	p, got, calls := newPlace(t), &answers{}, &stores.Calls{}
 	config := p.config()
 	config.Stores.Objects, config.Stores.Lock, config.Stores.Index = calls.Objects(config.Stores.Objects),
-		calls.Register(config.Stores.Lock), calls.Places(config.Stores.Index)
+		calls.Register(config.Stores.Lock), calls.Index(config.Stores.Index)
 	l := started(t, config)
 	count := func() map[string]uint64 {
 		counts := map[string]uint64{}
@@ -33,7 +33,7 @@ func TestWritesOfAStep(t *testing.T) {
 		got.submit(t, l, 5+i, 6+i)
 	}
 	after := count()
-	for call, writes := range map[string]uint64{"objects put": 4, "lock swap": 1, "lock raise": 1, "index add": 2,
+	for call, writes := range map[string]uint64{"objects put": 4, "lock swap": 1, "lock raise": 1, "index add": 1,
 		"objects delete": 1, "lock create": 0, "index replace": 0} {
 		if made := after[call] - before[call]; made != steps*writes {
 			t.Errorf("%d steps made %d calls %s, and not %d", steps, made, call, steps*writes)
