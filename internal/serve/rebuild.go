@@ -38,7 +38,7 @@ func RebuildIndex(ctx context.Context, of Stores, told func(left uint64)) error 
 }
 
 // publishedHead returns the newest head that is published. That is the newest state's, or, if that one is not published
-// yet, the head in the store that the lock names. A node that starts adds what comes after it.
+// yet, the head in the store that the lock names. A node that starts adds the entries after it.
 func publishedHead(ctx context.Context, of Stores) (head signer.Head, err error) {
 	text, err := of.Lock.Read(ctx)
 	if err != nil {

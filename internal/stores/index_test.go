@@ -19,7 +19,7 @@ func rowOf(id Identity, place Place) Row { return Row{id, leafOf(id), place} }
 
 func rowAt(i int) Row { return rowOf(identity(i), Place{uint64(i), 1767225600000 + uint64(i)}) }
 
-// someOf returns the identities and rows of a range of numbers, and the places that they have if all of them were added.
+// someOf returns the identities and rows of a range of numbers, and the places that they have if all were added.
 func someOf(from, to int) (identities []Identity, all []Row, found map[Identity]Place) {
 	found = map[Identity]Place{}
 	for i := from; i < to; i++ {

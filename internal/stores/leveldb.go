@@ -20,8 +20,8 @@ import (
 // inLevelDB keeps an index in a folder, by goleveldb. Only one process can have it open. A step's rows of both tables
 // are one write, which is on the disk before Add returns.
 //
-// Identities and leaf hashes are random, so a table that is kept in order (a B-tree) writes a page for each row. LevelDB
-// writes rows one behind another, and sorts many of them at once.
+// Identities and leaf hashes are random, so a table that is kept in order (a B-tree) writes a page for each row.
+// LevelDB writes rows one after another, and sorts many of them at once.
 type inLevelDB struct {
 	path    string
 	files   *levelFiles
@@ -62,7 +62,7 @@ var levelOptions = opt.Options{
 	CompactionGPOverlapsFactor: 40,
 	// Look-ups must not cause writes.
 	DisableSeeksCompaction: true,
-	// Of the keys that a table does not have, its filter (10 bits a row) rules out 99 of 100.
+	// A table's filter (10 bits a row) rules out 99 of 100 keys that the table does not have.
 	Filter: filter.NewBloomFilter(10),
 	// This bounds the memory for filters, lists of blocks and blocks, and the next one the open files.
 	BlockCacheCapacity:     32 << 20,
@@ -119,8 +119,8 @@ func (l *inLevelDB) failed(what string, err error) error {
 	return fmt.Errorf("stores: index %s: %s: %w", l.path, what, err)
 }
 
-// reopen opens the index again after a write failed. LevelDB's journal is of no use then: it may have a part of a row. If
-// nothing can be written yet, the index is opened to be read, so that look-ups go on.
+// reopen opens the index again after a write failed. LevelDB's journal is of no use then: it may have a part of a row.
+// If nothing can be written yet, the index is opened to be read, so that look-ups go on.
 func (l *inLevelDB) reopen() error {
 	l.mu.Lock()
 	defer l.mu.Unlock()

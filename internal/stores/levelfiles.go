@@ -21,8 +21,8 @@ import (
 //     the manifest before it. If power failed in between, there would be none.
 //   - The name of a new journal is on the disk as soon as the first row in it. goleveldb syncs the folder only with a
 //     manifest.
-//   - A record that a kill or a power cut left unfinished at the end of a journal or a manifest is cut off. Nobody was
-//     told that it was written. With opt.StrictAll, goleveldb refuses such a file, and without it it also drops damaged
+//   - A record that a kill or a power cut left unfinished at the end of a journal or a manifest is cut off. It was not
+//     acknowledged. With opt.StrictAll, goleveldb refuses such a file, and without it it also drops damaged
 //     records in the middle.
 type levelFiles struct {
 	storage.Storage
@@ -81,8 +81,8 @@ func (l *levelFiles) Open(fd storage.FileDesc) (storage.Reader, error) {
 }
 
 // isNewest returns an error unless the journal is there that a manifest names. After the rows of a journal are in a
-// table, the manifest names the table and the next journal, and then the journal is deleted. So if the manifest has lost
-// that record, the journal that it names is missing. Before the first journal there is no table.
+// table, the manifest names the table and the next journal, and then the journal is deleted. So if the manifest has
+// lost that record, the journal that it names is missing. Before the first journal there is no table.
 func (l *levelFiles) isNewest(manifest []byte) error {
 	number, err := journalIn(manifest)
 	if err != nil {
@@ -103,8 +103,8 @@ func (l *levelFiles) isNewest(manifest []byte) error {
 	return nil
 }
 
-// The fields of LevelDB's manifests, by their tags: a comparer's name, numbers, a key of a level, a deleted table and an
-// added one.
+// The fields of LevelDB's manifests, by their tags: a comparer's name, numbers, a key of a level, a deleted table and
+// an added one.
 const (
 	comparerField, journalField, fileField, sequenceField, earlierField = 1, 2, 3, 4, 9
 	keyField, deletedField, addedField                                  = 5, 6, 7
