@@ -3,8 +3,8 @@
 
     large.py [--entries 10400,1000000] [--asks 200] [--seconds 10] [--keep FOLDER [--make]]
 
-Nobody submitted these entries. bench/fabricate writes the tiles (with a certificate of 60 bytes each). This script writes the deduplication index in SQLite,
-and the register's text, with a state that is decided and not published yet. So ctserve publishes its head at its first start, and continues from it. Then it
+Nobody submitted these entries. bench/fabricate writes the tiles (with a certificate of 60 bytes each) and the deduplication index. This script writes
+the register's text, with a state that is decided and not published yet. So ctserve publishes its head at its first start, and continues from it. Then it
 measures for each size: the seconds until the log serves, at its second start; a proof by leaf hash, 32 entries and a consistency proof, at random places,
 each checked; one submission, a repeat of it, and 64 clients at the same time; the memory of ctserve and its signer, and the disk. At last it has the log read
 all data tiles again quickly, and measures the tiles a second and the time for all of them. The logs stay in FOLDER, and are used again where they are there;
@@ -20,9 +20,7 @@ import pathlib
 import random
 import re
 import shutil
-import sqlite3
 import statistics
-import subprocess
 import sys
 import tempfile
 import time
@@ -35,24 +33,6 @@ sys.path += [str(TESTS), str(TESTS / "tiles")]
 
 from merkle import fault_of_path, fault_of_proof, leaf_hash, root_by_path  # noqa: E402
 from states import State, state_of, written  # noqa: E402
-
-# How many bytes a row of places has, as fabricate writes it, and how many rows go into a table at once.
-ROW, ROWS = 40, 32768
-
-
-def fill(places, name, fabricate, folder, entries, moment):
-    """Fills a table of places with the rows that fabricate gives in order."""
-    to = sqlite3.connect(places)
-    to.executescript("pragma journal_mode=off; pragma synchronous=off; pragma cache_size=-65536;")
-    to.execute("begin")
-    with subprocess.Popen([fabricate, "rows", name, folder, str(entries), str(moment)], stdout=subprocess.PIPE) as given:
-        while rows := given.stdout.read(ROW * ROWS):
-            cut = (rows[at : at + ROW] for at in range(0, len(rows), ROW))
-            to.executemany(f"insert into {name} values (?, ?, {moment})", [(row[:32], int.from_bytes(row[32:], "big")) for row in cut])
-    if given.returncode:
-        stop(f"fabricate ended with status {given.returncode}")
-    to.commit()
-    to.close()
 
 
 def vector(width, content):
@@ -91,9 +71,7 @@ def fabricated(folder, fabricate, entries):
     until(lambda: size_of(log) == 0, "there is no head", log.process, log.said)
     log.end()
     moment = decide(log.stored(), fabricate, entries)
-    (folder / "rows").mkdir()
-    for name in ("places", "leaves"):
-        fill(log.stored() / "places", name, fabricate, folder / "rows", entries, moment)
+    run(fabricate, "index", log.stored() / "index", entries, moment)
     log.start()
     until(lambda: size_of(log) == entries, "the head isn't published", log.process, log.said)
     log.end()
@@ -232,7 +210,7 @@ def measure(folder, fabricate, words, entries):
         count, took, middle, *_ = load(log, 64, "--for", f"{words.seconds}s")
         cells["64 clients, a second"] = f"{count / took:,.0f} (median {1000 * middle:.0f} ms)"
         cells["memory, MB"] = f"{memory(log.process.pid) / 1e6:.0f}"
-        cells["disk, GB"] = f"{disk_used(log.stored() / 'objects') / 1e9:.2f} + {(log.stored() / 'places').stat().st_size / 1e9:.2f}"
+        cells["disk, GB"] = f"{disk_used(log.stored() / 'objects') / 1e9:.2f} + {disk_used(log.stored() / 'index') / 1e9:.2f}"
         log.end()
         # (old tiles are read again once a head is as old as delete-tiles-after)
         log.settings.write_text(log.settings.read_text() + "scrub-interval 100ms\nscrub-period 1m\ndelete-tiles-after 1s\n")

@@ -1,26 +1,25 @@
-// Writes the tiles of a log that nobody submitted to, in C2SP static-ct-api's form, and the rows of its places (bench/large.py).
+// Writes the tiles of a log that nobody submitted to, in C2SP static-ct-api's form, and its deduplication index
+// (bench/large.py).
 //
 //	fabricate tiles OBJECTS ENTRIES MOMENT              writes data and hash tiles below the folder OBJECTS; prints the root, the digest of the partial
 //	                                                    data tile, and a line with the name of each partial tile: of data, then by levels
-//	fabricate rows TABLE FOLDER ENTRIES MOMENT > rows   the rows of TABLE, places or leaves, in their order: 32 bytes and an index of 8, each;
-//	                                                    FOLDER has for a while what they are sorted by
+//	fabricate index FOLDER ENTRIES MOMENT               adds the entries to the index in FOLDER
 //
 // The certificate at index i is 52 zero bytes, followed by i in 8 bytes. All entries have the moment MOMENT, in milliseconds.
 package main
 
 import (
-	"bufio"
-	"bytes"
+	"context"
 	"crypto/sha256"
 	"encoding/binary"
 	"fmt"
-	"io"
 	"math/bits"
 	"os"
 	"path/filepath"
-	"sort"
 	"strconv"
 	"sync"
+
+	"wagtenib/internal/stores"
 )
 
 const (
@@ -30,10 +29,6 @@ const (
 	certificate = 60
 	// workers is how many goroutines make tiles.
 	workers = 2
-	// buckets is into how many files rows go, by their first byte, before each is sorted.
-	buckets = 256
-	// row is how many bytes one has: a hash and an index.
-	row = 32 + 8
 )
 
 type hash = [32]byte
@@ -58,7 +53,7 @@ func entry(index, timestamp uint64) []byte {
 // leafHash is MTH of the one leaf (RFC 6962, section 2.1): of MerkleTreeLeaf, which has version and type before the entry.
 func leafHash(entry []byte) hash { return sha256.Sum256(append([]byte{0, 0, 0}, entry...)) }
 
-// identity is what places are looked up by: the hash of the entry's type and certificate.
+// identity is what the index knows an entry by: the hash of the entry's type and certificate.
 func identity(index uint64) hash {
 	signed := entry(index, 0)[13 : 13+certificate]
 	return sha256.Sum256(append([]byte{0, 0}, signed...))
@@ -207,46 +202,20 @@ func tiles(objects string, entries int, timestamp uint64) {
 	}
 }
 
-// spread writes the rows of a table into files by their first byte.
-func spread(folder string, key func(uint64) hash, entries uint64) []*os.File {
-	files, to := make([]*os.File, buckets), make([]*bufio.Writer, buckets)
-	for i := range files {
-		var err error
-		files[i], err = os.Create(filepath.Join(folder, fmt.Sprintf("%02x", i)))
-		stop(err)
-		to[i] = bufio.NewWriterSize(files[i], 1<<16)
-	}
-	for i := uint64(0); i < entries; i++ {
-		key := key(i)
-		_, err := to[key[0]].Write(binary.BigEndian.AppendUint64(key[:], i))
-		stop(err)
-	}
-	for _, one := range to {
-		stop(one.Flush())
-	}
-	return files
-}
-
-func rows(key func(uint64) hash, folder string, entries uint64) {
-	out := bufio.NewWriterSize(os.Stdout, 1<<20)
-	for _, file := range spread(folder, key, entries) {
-		_, err := file.Seek(0, io.SeekStart)
-		stop(err)
-		b, err := io.ReadAll(file)
-		stop(err)
-		sorted := make([][]byte, len(b)/row)
-		for at := range sorted {
-			sorted[at] = b[row*at : row*(at+1)]
+// index adds entries to the index in a folder.
+func index(folder string, entries, timestamp uint64) {
+	to, err := stores.OpenLevelDB(context.Background(), folder)
+	stop(err)
+	rows := make([]stores.Row, 0, stores.MaxRows)
+	for i := range entries {
+		rows = append(rows, stores.Row{Identity: identity(i), Leaf: leafHash(entry(i, timestamp)),
+			Place: stores.Place{Index: i, Timestamp: timestamp}})
+		if len(rows) == stores.MaxRows || i == entries-1 {
+			stop(to.Add(context.Background(), rows))
+			rows = rows[:0]
 		}
-		sort.Slice(sorted, func(i, j int) bool { return bytes.Compare(sorted[i], sorted[j]) < 0 })
-		for _, one := range sorted {
-			_, err := out.Write(one)
-			stop(err)
-		}
-		stop(file.Close())
-		stop(os.Remove(file.Name()))
 	}
-	stop(out.Flush())
+	stop(to.Close())
 }
 
 func number(word string) uint64 {
@@ -260,13 +229,10 @@ func main() {
 	switch {
 	case len(words) == 4 && words[0] == "tiles":
 		tiles(words[1], int(number(words[2])), number(words[3]))
-	case len(words) == 5 && words[0] == "rows" && words[1] == "places":
-		rows(identity, words[2], number(words[3]))
-	case len(words) == 5 && words[0] == "rows" && words[1] == "leaves":
-		timestamp := number(words[4])
-		rows(func(index uint64) hash { return leafHash(entry(index, timestamp)) }, words[2], number(words[3]))
+	case len(words) == 4 && words[0] == "index":
+		index(words[1], number(words[2]), number(words[3]))
 	default:
-		fmt.Fprintln(os.Stderr, "fabricate: tiles OBJECTS ENTRIES MOMENT, or rows places|leaves FOLDER ENTRIES MOMENT")
+		fmt.Fprintln(os.Stderr, "fabricate: tiles OBJECTS ENTRIES MOMENT, or index FOLDER ENTRIES MOMENT")
 		os.Exit(2)
 	}
 }

@@ -127,7 +127,7 @@ func (s *settings) settleArchive() error {
 	}
 	for name, given := range map[string]string{"origin": n.origin, "signing-key": n.signingKey,
 		"signer-socket": n.signerAt, "roots": strings.Join(s.roots.Paths, ""), "store": n.store, "lock": n.register,
-		"index": n.places} {
+		"index": n.index} {
 		if given != "" {
 			return fmt.Errorf("--archive has everything of the log: remove --%s", name)
 		}

@@ -50,6 +50,7 @@ func TestSettings(t *testing.T) {
 		{file(needed + "idle-timeout 0s"), "--idle-timeout 0s is not above 0 (write for example 30s, or leave"},
 		{file(needed + "scrub-period -1s"), "--scrub-period -1s is not above 0"},
 		{file(needed + "interval 0s"), "interval: 0s is not above 0 (write for example 50ms or 30s)"},
+		{file(needed + "index sqlite:x"), "an index is no longer in SQLite (write leveldb:PATH"},
 		{file(needed + "interval 50"), `interval: "50" is not a duration`},
 		{file(needed + "max-connections 0"), "--max-connections 0 is too small (write at least 1, or leave"},
 		{file(needed + "max-queued-bytes 1000"), "--max-queued-bytes 1000 is too small (write at least 1048576,"},
@@ -92,7 +93,7 @@ func TestSettings(t *testing.T) {
 		s.rules.Window.From.Year() != 2027 ||
 		s.node.guardState != "file:ct-log.guard" || s.node.latestHead != "ct-log.latest-head" ||
 		s.node.namedDay != "ct-log.day" || !s.node.isGuarded() || s.node.store != "folder:ct-log/objects" ||
-		s.node.register != "file:ct-log/register" || s.node.places != "sqlite:ct-log/places" {
+		s.node.register != "file:ct-log/register" || s.node.index != "leveldb:ct-log/index" {
 		t.Errorf("%+v", s)
 	}
 	if s, err := parse(file(needed+"submitters 203.0.113.9/24=512, 2001:db8::7=9"), io.Discard); err != nil ||

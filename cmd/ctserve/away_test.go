@@ -64,8 +64,8 @@ func TestReadsGoOn(t *testing.T) {
 			disk, more := at.path("log"), []string{"--signing-key", at.path("log.pem"), "--submission-timeout", "3s"}
 			if strings.Contains(what, "disk") {
 				disk = at.mount(t)
-				// SQLite has files open for writing, so the file system could not be made read-only.
-				more = append(more, "--index", "sqlite:"+at.path("places"), "--guard-state", "file:"+
+				// LevelDB has files open for writing, so the file system could not be made read-only.
+				more = append(more, "--index", "leveldb:"+at.path("index"), "--guard-state", "file:"+
 					at.path("log/guard"), "--latest-head", at.path("log/latest-head"))
 			}
 			words := at.realWords(more...)
@@ -159,10 +159,10 @@ func TestObjectsAway(t *testing.T) {
 	}
 	if status, told, faults := does(append([]string{"index"}, words...)...); status != 1 ||
 		!strings.Contains(faults, "the folder of the objects") {
-		t.Errorf("places: %d, %q, %q", status, told, faults)
+		t.Errorf("index: %d, %q, %q", status, told, faults)
 	}
 	if isThere(objects) {
-		t.Fatal("places makes another folder of objects")
+		t.Fatal("index makes another folder of objects")
 	}
 	submitted(503, "without the objects' folder")
 	if err := os.Rename(objects+".away", objects); err != nil {

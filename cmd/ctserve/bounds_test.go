@@ -76,14 +76,14 @@ func TestWhatCantBeOpened(t *testing.T) {
 	for what, words := range map[string][]string{
 		"mkdir " + at.path("file"): {"--folder", at.path("file/log"), "--latest-head",
 			at.path("latest-head"), "--guard-state", "file:" + at.path("guard")},
-		"mkdir " + at.path("file/below"):         {"--latest-head", at.path("file/below/latest-head")},
-		at.path("file/objects"):                  {"--store", "folder:" + at.path("file/objects")},
-		at.path("file/register"):                 {"--lock", "file:" + at.path("file/register")},
-		"the index in " + at.path("file/places"): {"--index", "sqlite:" + at.path("file/places")},
-		"open " + at.path("none.pem"):            {"--signing-key", at.path("none.pem")},
-		"objects are at folder:PATH":             {"--store", "nowhere:x"},
-		"a register is at file:PATH":             {"--lock", "nowhere:x"},
-		"an index is at sqlite:PATH":             {"--index", "nowhere:x"},
+		"mkdir " + at.path("file/below"): {"--latest-head", at.path("file/below/latest-head")},
+		at.path("file/objects"):          {"--store", "folder:" + at.path("file/objects")},
+		at.path("file/register"):         {"--lock", "file:" + at.path("file/register")},
+		at.path("file/index"):            {"--index", "leveldb:" + at.path("file/index")},
+		"open " + at.path("none.pem"):    {"--signing-key", at.path("none.pem")},
+		"objects are at folder:PATH":     {"--store", "nowhere:x"},
+		"a register is at file:PATH":     {"--lock", "nowhere:x"},
+		"an index is at leveldb:PATH":    {"--index", "nowhere:x"},
 	} {
 		whole := at.realWords("--signing-key", at.path("log.pem"))
 		whole = append(append(whole, "--create"), words...)

@@ -307,7 +307,7 @@ func TestBucketAloneThroughKills(t *testing.T) {
 func (p *place) bucketWords(url string) []string {
 	p.t.Helper()
 	store := "s3://key:secret@" + strings.TrimPrefix(url, "http://") + "/" + testbucket.Name + "?tls=no&region=us-east-1"
-	return p.words("--store", store, "--lock", "file:"+p.path("lock"), "--index", "sqlite:"+p.path("index"),
+	return p.words("--store", store, "--lock", "file:"+p.path("lock"), "--index", p.sharedIndex(),
 		"--guard-state", "file:"+p.path("guard"))
 }
 

@@ -118,7 +118,7 @@ func (c *checks) lookAtStores(s *settings) {
 	}{
 		{"store", s.node.store, stores.CheckObjects},
 		{"lock", s.node.register, stores.CheckRegister},
-		{"index", s.node.places, stores.CheckPlaces},
+		{"index", s.node.index, stores.CheckIndex},
 		{"guard-state", s.node.guardState, stores.CheckRegister},
 	} {
 		if address.text == "" {

@@ -286,12 +286,14 @@ func runVersion(answers io.Writer) int {
 
 // indexPage is what `ctserve index --help` prints.
 const indexPage = `ctserve index FILE builds the deduplication index of the log with the settings FILE again, from
-the log's tiles, the newest entries first. After each part it prints how many entries are left. After the first line you
-may start the log. Run it as the user of the log, who must own the index's files. Instead of FILE you can give the
-settings as flags (ctserve --help). The exit status is 0 if the index has all entries, 1 if it does not, and 2 if a
+the log's tiles, the newest entries first. After each part it prints how many entries are left. If the index is in a
+folder, stop the log first. If you stop the command after its first line, the log builds the rest when it runs. Run it as
+the user of the log, who must own the index's files. Instead of FILE you can give the settings as flags
+(ctserve --help). The exit status is 0 if the index has all entries, 1 if it does not, and 2 if a
 setting or an argument is refused.`
 
-// runIndex builds a log's deduplication index again from its tiles. The log may run at the same time.
+// runIndex builds a log's deduplication index again from its tiles. The log may run at the same time if the index is in
+// PostgreSQL.
 func runIndex(words []string, answers, faults io.Writer) (err error) {
 	s, err := parseSettings("index", indexPage, words, faults)
 	if err != nil {

@@ -203,6 +203,8 @@ type place struct {
 	t         *testing.T
 	folder    string
 	authority *standin.Authority
+	// shared is the address of an index that nodes share, or empty.
+	shared string
 }
 
 func newPlace(t *testing.T) *place {

@@ -7,7 +7,6 @@ import (
 	"net"
 	"os"
 	"os/exec"
-	"path/filepath"
 	"strings"
 	"syscall"
 	"testing"
@@ -73,9 +72,9 @@ func TestFolderPutBack(t *testing.T) {
 	}
 }
 
-// TestPlacesAnew: if a log's index is lost, the start is refused with a status of its own. After the index was built
+// TestIndexAnew: if a log's index is lost, the start is refused with a status of its own. After the index was built
 // again, it has the first place of a duplicate.
-func TestPlacesAnew(t *testing.T) {
+func TestIndexAnew(t *testing.T) {
 	t.Parallel()
 	at := newPlace(t)
 	words := at.realWords("--signing-key", at.path("log.pem"))
@@ -87,15 +86,10 @@ func TestPlacesAnew(t *testing.T) {
 	}
 	p.signal(syscall.SIGTERM)
 	p.ends()
-	left, err := filepath.Glob(at.path("log/places*"))
-	if err != nil || len(left) == 0 {
-		t.Fatal(left, err)
+	if !isThere(at.path("log/index/CURRENT")) {
+		t.Fatal("the log has no index in its folder")
 	}
-	for _, path := range left {
-		if err := os.Remove(path); err != nil {
-			t.Fatal(err)
-		}
-	}
+	trial.Must(t, os.RemoveAll(at.path("log/index")))
 	if status, told := runs(words); status != statusSetBack {
 		t.Errorf("status %d: %s", status, told)
 	}
@@ -104,6 +98,12 @@ func TestPlacesAnew(t *testing.T) {
 		t.Errorf("%d, %q, %q", status, told, faults)
 	}
 	p = started(t, "", words...)
+	// Beside the log that runs, the command refuses: only one process can use the folder.
+	if status, told, faults := does(append([]string{"index"}, words...)...); status != 1 || told != "" ||
+		!strings.Contains(faults, "in use") || !strings.Contains(faults, at.path("log/index")) ||
+		!strings.Contains(faults, "stop the log") {
+		t.Errorf("beside the log: %d, %q, %q", status, told, faults)
+	}
 	var first, again struct {
 		Timestamp  uint64 `json:"timestamp"`
 		Extensions []byte `json:"extensions"`
@@ -189,7 +189,7 @@ func TestSignerAtASocket(t *testing.T) {
 	t.Parallel()
 	at := newPlace(t)
 	socket := at.path("signer")
-	words := at.realWords("--signer-socket", socket)
+	words := at.realWords("--signer-socket", socket, "--index", at.sharedIndex())
 	listening := func(key string) (kills func()) {
 		t.Helper()
 		for until := time.Now().Add(trial.Longest); ; {

@@ -113,7 +113,7 @@ func TestForwards(t *testing.T) {
 	authority := at.newNodesAuthority("nodes")
 	authority.issue(at, "one")
 	authority.issue(at, "two")
-	words := at.realWords("--signing-key", at.path("log.pem"))
+	words := at.realWords("--signing-key", at.path("log.pem"), "--index", at.sharedIndex())
 	first, second := freeAddress(t), freeAddress(t)
 	one := started(t, "", append(append(words, at.nodeWords("one", first)...), "--create")...)
 	two := started(t, "", append(words, at.nodeWords("two", second)...)...)
@@ -203,7 +203,7 @@ func TestSettingsOfNodes(t *testing.T) {
 	at.newNodesAuthority("nodes").issue(at, "one")
 	at.write("empty.pem", nil)
 	with := func(changed ...string) []string {
-		words := append(at.words(), at.nodeWords("one", "127.0.0.1:1")...)
+		words := append(at.words("--index", "postgres://127.0.0.1/none?log=test"), at.nodeWords("one", "127.0.0.1:1")...)
 		return append(words, changed...)
 	}
 	for _, test := range []struct {
@@ -212,7 +212,7 @@ func TestSettingsOfNodes(t *testing.T) {
 	}{
 		{at.words("--nodes-listen", "127.0.0.1:1"), "need one another"},
 		{with("--nodes-ca", ""), "need one another"},
-		{with("--lock", "etcd://127.0.0.1:2379/log"), "must share one index"},
+		{with("--index", "leveldb:"+at.path("index")), "must share one index"},
 		{with("--nodes-address", "http://127.0.0.1:1"), "write https://HOST:PORT"},
 		{with("--nodes-address", "https://127.0.0.1:1/a/path"), "write https://HOST:PORT"},
 		{with("--nodes-certificate", at.path("none")), "no such file"},

@@ -2,10 +2,16 @@ package main
 
 import (
 	"context"
+	"errors"
+	"fmt"
+	"io/fs"
+	"os"
 	"path/filepath"
+	"strings"
 	"time"
 
 	"wagtenib/internal/chains"
+	lognode "wagtenib/internal/node"
 	"wagtenib/internal/serve"
 	"wagtenib/internal/stores"
 	"wagtenib/internal/tile"
@@ -25,6 +31,26 @@ func (s *shared) close() {
 		_ = s.closers[i]()
 	}
 	s.closers = nil
+}
+
+// indexAt opens the index at an address. The tests have nodes that share one in their memory.
+var indexAt = stores.IndexAt
+
+// earlierIndex is the file in a log's folder in which an earlier ctserve kept the index, by SQLite.
+const earlierIndex = "places"
+
+// checkEarlierIndex returns node.ErrIndex if only an earlier ctserve's index is there.
+func checkEarlierIndex(n node) error {
+	path, isFolder := strings.CutPrefix(n.index, "leveldb:")
+	earlier := filepath.Join(n.folder, earlierIndex)
+	if _, err := os.Stat(earlier); !isFolder || err != nil {
+		return nil
+	}
+	if _, err := os.Stat(path); !errors.Is(err, fs.ErrNotExist) {
+		return nil
+	}
+	return fmt.Errorf("%w: an earlier ctserve kept it in SQLite, in %s, and %s is missing "+
+		"(run ctserve index, which builds it from the tiles; then delete %s)", lognode.ErrIndex, earlier, path, earlier)
 }
 
 // openStores opens the stores of a log.
@@ -48,11 +74,11 @@ func openStores(ctx context.Context, n node) (s *shared, err error) {
 		return s, err
 	}
 	s.Lock, s.closers = s.calls.Register(lock), append(s.closers, lock.Close)
-	index, err := stores.PlacesAt(ctx, n.places)
+	index, err := indexAt(ctx, n.index)
 	if err != nil {
 		return s, err
 	}
-	s.Index, s.closers = s.calls.Places(index), append(s.closers, index.Close)
+	s.Index, s.closers = s.calls.Index(index), append(s.closers, index.Close)
 	return s, nil
 }
 
@@ -95,6 +121,9 @@ func openNode(ctx context.Context, n node) (of *opened, err error) {
 		if err := stores.ObjectsThere(n.store); err != nil {
 			return nil, err
 		}
+	}
+	if err := checkEarlierIndex(n); err != nil {
+		return nil, err
 	}
 	if s, err = openStores(ctx, n); err != nil {
 		return nil, err

@@ -36,9 +36,9 @@ type settings struct {
 type node struct {
 	origin, signingKey string
 	// guard is whether the signer has a guard. nil means that no setting says so, and then it has one.
-	guard                           *bool
-	guardState, signerAt            string
-	folder, store, register, places string
+	guard                          *bool
+	guardState, signerAt           string
+	folder, store, register, index string
 	// archive is the folder of an archive that is served in place of a log. It is empty for a log.
 	archive                          string
 	latestHead, namedDay             string
@@ -62,7 +62,7 @@ func (n *node) isGuarded() bool { return n.guard == nil || *n.guard }
 // isAway reports whether a store is not a folder or file of this machine.
 func (n *node) isAway() bool {
 	return !strings.HasPrefix(n.store, "folder:") || !strings.HasPrefix(n.register, "file:") ||
-		!strings.HasPrefix(n.places, "sqlite:")
+		!strings.HasPrefix(n.index, "leveldb:")
 }
 
 // errUsage reports a command line or a file of settings that is refused.
@@ -201,8 +201,8 @@ func (n *node) storeFlags(flags *flag.FlagSet) {
 	flags.StringVar(&n.register, "lock", "",
 		"`address` of the lock, which has the log's newest state: "+
 			"file:PATH, etcd://HOST:PORT/PREFIX, postgres://HOST/DATABASE?log=NAME")
-	flags.StringVar(&n.places, "index", "",
-		"`address` of the deduplication index: sqlite:PATH, postgres://HOST/DATABASE?log=NAME")
+	flags.StringVar(&n.index, "index", "",
+		"`address` of the deduplication index: leveldb:PATH, postgres://HOST/DATABASE?log=NAME")
 	flags.StringVar(&n.archive, "archive", "",
 		"`folder` of an archive of another log (ctserve archive --help), which is served read-only. "+
 			"The archive has the log's key, origin and last head, so it replaces these settings and the stores")

@@ -135,7 +135,7 @@ func (n *node) settleStores() error {
 	}{
 		{&n.store, "folder:" + filepath.Join(n.folder, "objects")},
 		{&n.register, "file:" + filepath.Join(n.folder, "register")},
-		{&n.places, "sqlite:" + filepath.Join(n.folder, "places")},
+		{&n.index, "leveldb:" + filepath.Join(n.folder, "index")},
 	} {
 		if *address.of == "" {
 			*address.of, n.makesFolder = address.text, true
@@ -151,9 +151,12 @@ func (n *node) settleStores() error {
 	if err := n.peers.check(); err != nil {
 		return err
 	}
-	if n.peers.isSet() && strings.HasPrefix(n.places, "sqlite:") && !strings.HasPrefix(n.register, "file:") {
-		return errors.New("--nodes-address: nodes on several machines must share one index: " +
-			"use PostgreSQL (--index postgres://HOST/DATABASE?log=NAME) instead of a file on each machine")
+	if n.peers.isSet() && strings.HasPrefix(n.index, "leveldb:") {
+		return errors.New("--nodes-address: several nodes must share one index, and only one process can use a folder: " +
+			"use PostgreSQL (--index postgres://HOST/DATABASE?log=NAME)")
+	}
+	if strings.HasPrefix(n.index, "sqlite:") {
+		return fmt.Errorf("--index: %w", stores.CheckIndex(n.index))
 	}
 	return nil
 }

@@ -45,6 +45,22 @@ func (p *place) kept(name string) string {
 	return string(content)
 }
 
+// indexed has the index built, as a start demands that finds only the one of the earlier ctserve.
+func (p *place) indexed(words []string) {
+	p.t.Helper()
+	if status, told := runs(words); status != statusSetBack || !strings.Contains(told, p.path("log/places")) ||
+		!strings.Contains(told, "run ctserve index") {
+		p.t.Errorf("a start without a new index: status %d: %s", status, told)
+	}
+	if isThere(p.path("log/index")) {
+		p.t.Error("the start makes an empty index")
+	}
+	if status, told, faults := does(append([]string{"index"}, words...)...); status != 0 ||
+		told != "0 entries are left\n" {
+		p.t.Fatalf("index: status %d, %q, %q", status, told, faults)
+	}
+}
+
 // goesOn starts a log that was taken over, and sees that it keeps what it promised, and takes more.
 func (p *place) goesOn(words []string) {
 	p.t.Helper()
@@ -84,6 +100,7 @@ func (p *place) goesOn(words []string) {
 func TestTakesOver(t *testing.T) {
 	t.Parallel()
 	p, words := takenOver(t)
+	p.indexed(words)
 	p.goesOn(words)
 }
 
@@ -102,6 +119,7 @@ func TestTakesOverUnpublished(t *testing.T) {
 	if err := os.Remove(p.path("log.latest-head")); err != nil {
 		t.Fatal(err)
 	}
+	p.indexed(words)
 	p.goesOn(words)
 }
 
@@ -117,8 +135,9 @@ func TestTakesOverNothingOlder(t *testing.T) {
 			"the lock is older than the log"},
 		{"the guard's state is gone", func(p *place) error { return os.RemoveAll(p.path("log.guard")) },
 			"no valid guard state"},
-		{"the index is gone", func(p *place) error { return os.RemoveAll(p.path("log/places")) },
-			"the index is not the log's"},
+		{"the index is gone", func(p *place) error {
+			return errors.Join(os.RemoveAll(p.path("log/places")), os.RemoveAll(p.path("log/index")))
+		}, "the index is not the log's"},
 		{"this machine saw more", func(p *place) error {
 			text := strings.Replace(p.kept("log.latest-head"), `"tree_size":3`, `"tree_size":4`, 1)
 			return errors.Join(os.Remove(p.path("log.latest-head")), os.WriteFile(p.path("log.latest-head"),
@@ -126,6 +145,7 @@ func TestTakesOverNothingOlder(t *testing.T) {
 		}, "the lock is older than the log"},
 	} {
 		p, words := takenOver(t)
+		p.indexed(words)
 		if err := test.do(p); err != nil {
 			t.Fatal(err)
 		}

@@ -81,7 +81,7 @@ const (
 type folder struct {
 	path    string
 	objects stores.Objects
-	index   stores.Places
+	index   *leafIndex
 	lock    *os.File
 	writing func(name string)
 }
@@ -122,23 +122,14 @@ func (f *folder) open(ctx context.Context, of Log) (err error) {
 	if f.objects, err = stores.OpenFolder(filepath.Join(f.path, objectsName)); err != nil {
 		return fmt.Errorf("archive: %w", err)
 	}
-	f.index, err = openIndex(ctx, f.path)
+	f.index, err = openLeafIndex(ctx, filepath.Join(f.path, indexName))
 	return err
-}
-
-// openIndex opens the index of leaf hashes.
-func openIndex(ctx context.Context, path string) (stores.Places, error) {
-	index, err := stores.PlacesAt(ctx, "sqlite:"+filepath.Join(path, indexName))
-	if err != nil {
-		return nil, fmt.Errorf("archive: %w", err)
-	}
-	return index, nil
 }
 
 // close closes what is open. Everything that was written is on the disk by then.
 func (f *folder) close() {
 	if f.index != nil {
-		_ = f.index.Close()
+		_ = f.index.close()
 	}
 	if f.objects != nil {
 		_ = f.objects.Close()

@@ -9,7 +9,6 @@ import (
 
 	"wagtenib/bindings/go/wagtenib"
 	"wagtenib/internal/logclient"
-	"wagtenib/internal/stores"
 	"wagtenib/internal/tile"
 )
 
@@ -148,12 +147,5 @@ func (d dataTile) write(ctx context.Context, f *folder, name string) error {
 // addToIndex adds the hashes of leaves from an index on. A hash that occurs twice keeps its first index.
 func (f *folder) addToIndex(ctx context.Context, at uint64, hashes []wagtenib.Hash) error {
 	f.writing(indexName)
-	placed := make([]stores.Placed, len(hashes))
-	for i, hash := range hashes {
-		placed[i] = stores.Placed{Identity: hash, Place: stores.Place{Index: at + uint64(i)}}
-	}
-	if err := f.index.Leaves().Add(ctx, placed); err != nil {
-		return fmt.Errorf("archive: the index: %w", err)
-	}
-	return nil
+	return f.index.add(ctx, at, hashes)
 }

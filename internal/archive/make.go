@@ -321,7 +321,7 @@ func (m *maker) hasIndex(ctx context.Context) error {
 	if err != nil {
 		return err
 	}
-	if has, err := indexHas(ctx, m.index, hashes[len(hashes)-1]); err != nil || has {
+	if _, has, err := m.index.find(ctx, hashes[len(hashes)-1]); err != nil || has {
 		return err
 	}
 	for at := uint64(0); at < m.entries; at += tile.Width {
@@ -348,13 +348,4 @@ func (m *maker) leafHashes(ctx context.Context, of tlog.Tile) ([]wagtenib.Hash, 
 		return nil, fmt.Errorf("%w: %w", ErrDamaged, err)
 	}
 	return hashes, nil
-}
-
-// indexHas reports whether an index has a leaf.
-func indexHas(ctx context.Context, index stores.Places, leafHash wagtenib.Hash) (bool, error) {
-	found, err := index.Leaves().Find(ctx, []stores.Identity{leafHash})
-	if err != nil {
-		return false, fmt.Errorf("archive: the index: %w", err)
-	}
-	return len(found) > 0, nil
 }

@@ -24,7 +24,7 @@ type Served struct {
 	head     log.Head
 	tree     signer.Head
 	objects  stores.Objects
-	index    stores.Places
+	index    *leafIndex
 	comparer *tile.Comparer
 	// edge has the partial tiles of the tree, by their names. A process that goes on with the archive deletes them.
 	edge map[string][]byte
@@ -68,7 +68,7 @@ func Open(ctx context.Context, path string) (s *Served, err error) {
 		return nil, fmt.Errorf("archive: %w", err)
 	}
 	s.comparer = tile.NewComparer(s.read, tile.LeavesOfArchive)
-	s.index, err = openIndex(ctx, path)
+	s.index, err = openLeafIndex(ctx, filepath.Join(path, indexName))
 	if err == nil {
 		err = s.keepEdge(ctx)
 	}
@@ -123,7 +123,7 @@ func (s *Served) isWhole(ctx context.Context) error {
 	if err != nil {
 		return fmt.Errorf("%w: %w", ErrDamaged, err)
 	}
-	has, err := indexHas(ctx, s.index, wagtenib.Hash(content[len(content)-wagtenib.HashSize:]))
+	_, has, err := s.index.find(ctx, wagtenib.Hash(content[len(content)-wagtenib.HashSize:]))
 	if err == nil && !has {
 		err = fmt.Errorf("%w: the index does not have the last entry (delete the file %s, and run ctserve archive again)",
 			ErrDamaged, indexName)
@@ -153,7 +153,7 @@ func (s *Served) Key() []byte { return s.of.PublicKey }
 // Close closes what is open.
 func (s *Served) Close() {
 	if s.index != nil {
-		_ = s.index.Close()
+		_ = s.index.close()
 	}
 	if s.objects != nil {
 		_ = s.objects.Close()
@@ -198,15 +198,14 @@ func (s *Served) Object(ctx context.Context, name string, most int64) ([]byte, e
 
 // IndexOf is log.Log's.
 func (s *Served) IndexOf(ctx context.Context, leafHash [32]byte) (uint64, error) {
-	found, err := s.index.Leaves().Find(ctx, []stores.Identity{leafHash})
+	index, ok, err := s.index.find(ctx, leafHash)
 	if err != nil {
 		return 0, fmt.Errorf("%w: %w", log.ErrStore, err)
 	}
-	place, ok := found[leafHash]
 	if !ok {
 		return 0, fmt.Errorf("%w: a leaf of this hash", stores.ErrAbsent)
 	}
-	return place.Index, nil
+	return index, nil
 }
 
 // End is log.Log's. Nothing waits.

@@ -17,10 +17,7 @@ type limited struct {
 
 func limit(config Config) Stores {
 	l := &limited{config.Machine.Clock, config.Pace.Call, config.Stores}
-	all := Stores{Objects: limitedObjects{l}, Lock: limitedLock{l}, Index: limitedIndex{l, config.Stores.Index}}
-	if config.Stores.Leaves != nil {
-		all.Leaves = limitedIndex{l, config.Stores.Leaves}
-	}
+	all := Stores{Objects: limitedObjects{l}, Lock: limitedLock{l}, Index: limitedIndex{l}}
 	if config.Stores.Current != nil {
 		all.Current = limitedCurrent{l}
 	}
@@ -92,22 +89,26 @@ func (l limitedLock) Raise(ctx context.Context, published stores.Published) erro
 	return done(ctx, l.limited, func(ctx context.Context) error { return l.of.Lock.Raise(ctx, published) })
 }
 
-type limitedIndex struct {
-	*limited
-	index Index
-}
+type limitedIndex struct{ *limited }
 
 func (i limitedIndex) Find(ctx context.Context,
 	identities []stores.Identity) (map[stores.Identity]stores.Place, error) {
 	return within(ctx, i.limited, func(ctx context.Context) (map[stores.Identity]stores.Place, error) {
-		return i.index.Find(ctx, identities)
+		return i.of.Index.Find(ctx, identities)
 	})
 }
 
-func (i limitedIndex) Add(ctx context.Context, placed []stores.Placed) error {
-	return done(ctx, i.limited, func(ctx context.Context) error { return i.index.Add(ctx, placed) })
+func (i limitedIndex) FindLeaves(ctx context.Context,
+	hashes []stores.Identity) (map[stores.Identity]stores.Place, error) {
+	return within(ctx, i.limited, func(ctx context.Context) (map[stores.Identity]stores.Place, error) {
+		return i.of.Index.FindLeaves(ctx, hashes)
+	})
 }
 
-func (i limitedIndex) Replace(ctx context.Context, placed []stores.Placed) error {
-	return done(ctx, i.limited, func(ctx context.Context) error { return i.index.Replace(ctx, placed) })
+func (i limitedIndex) Add(ctx context.Context, rows []stores.Row) error {
+	return done(ctx, i.limited, func(ctx context.Context) error { return i.of.Index.Add(ctx, rows) })
+}
+
+func (i limitedIndex) Replace(ctx context.Context, rows []stores.Row) error {
+	return done(ctx, i.limited, func(ctx context.Context) error { return i.of.Index.Replace(ctx, rows) })
 }

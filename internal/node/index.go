@@ -5,53 +5,33 @@ import (
 	"crypto/sha256"
 	"errors"
 	"fmt"
+	"slices"
 
 	"wagtenib/internal/stores"
 	"wagtenib/internal/tile"
 )
 
-// index adds the places of the entries, so many at once as the index takes. Those of this node's own step replace what
+// index adds the rows of the entries, so many at once as the index takes. Those of this node's own step replace what
 // the index has wrong: the round before the step found it. Another node's step, or one from before a restart, comes out
 // of its staged batch, which does not say what the index had wrong, so each is compared.
 func (p *pass) index(ctx context.Context) error {
-	if p.config.Stores.Leaves != nil {
-		if err := addAll(ctx, p.config.Stores.Leaves, p.made.leaves); err != nil {
-			return err
-		}
-	}
 	replaced := p.made.replaced
-	for placed := p.made.placed; len(placed) > 0; {
-		some := placed[:min(len(placed), stores.MaxPlaces)]
-		if err := p.config.Stores.Index.Add(ctx, some); err != nil {
+	for rows := range slices.Chunk(p.made.rows, stores.MaxRows) {
+		if err := p.config.Stores.Index.Add(ctx, rows); err != nil {
 			return fmt.Errorf("node: the index: %w", err)
 		}
 		if !p.made.isNew {
-			wrong, err := p.wrongOf(ctx, some)
+			wrong, err := p.wrongOf(ctx, rows)
 			if err != nil {
 				return err
 			}
 			replaced = append(replaced, wrong...)
 		}
-		placed = placed[len(some):]
 	}
-	for len(replaced) > 0 {
-		some := replaced[:min(len(replaced), stores.MaxPlaces)]
-		if err := p.config.Stores.Index.Replace(ctx, some); err != nil {
+	for rows := range slices.Chunk(replaced, stores.MaxRows) {
+		if err := p.config.Stores.Index.Replace(ctx, rows); err != nil {
 			return fmt.Errorf("node: the index: %w", err)
 		}
-		replaced = replaced[len(some):]
-	}
-	return nil
-}
-
-// addAll adds places, so many at once as an index takes.
-func addAll(ctx context.Context, to Index, placed []stores.Placed) error {
-	for len(placed) > 0 {
-		some := placed[:min(len(placed), stores.MaxPlaces)]
-		if err := to.Add(ctx, some); err != nil {
-			return fmt.Errorf("node: the index: %w", err)
-		}
-		placed = placed[len(some):]
 	}
 	return nil
 }
@@ -77,11 +57,10 @@ func (l *Loop) indexWorks(ctx context.Context, k *state) error {
 		return err
 	}
 	place := stores.Place{Index: k.Size - 1, Timestamp: newest.Timestamp}
-	if err := addAll(ctx, l.config.Stores.Index, []stores.Placed{{Identity: id, Place: place}}); err != nil ||
-		l.config.Stores.Leaves == nil {
-		return err
+	if err := l.config.Stores.Index.Add(ctx, []stores.Row{{Identity: id, Leaf: leaf, Place: place}}); err != nil {
+		return fmt.Errorf("node: the index: %w", err)
 	}
-	return addAll(ctx, l.config.Stores.Leaves, []stores.Placed{{Identity: leaf, Place: place}})
+	return nil
 }
 
 // newestLeaf returns a state's newest entry, or nil if there is none, or if it is missing or damaged: then the step
@@ -100,20 +79,26 @@ func (l *Loop) newestLeaf(ctx context.Context, k *state) (*tile.Leaf, error) {
 	return leaf, nil
 }
 
-// wrongOf returns those places of which the index has another one that is not the entry's. They were added, so the
-// index has one of each.
-func (p *pass) wrongOf(ctx context.Context, placed []stores.Placed) (wrong []stores.Placed, err error) {
-	identities, right := make([]stores.Identity, 0, len(placed)), map[stores.Placed]bool{}
-	for _, one := range placed {
-		identities, right[one] = append(identities, one.Identity), true
+// place is where an index says that an entry is.
+type place struct {
+	identity stores.Identity
+	stores.Place
+}
+
+// wrongOf returns those rows of which the index has another place that is not the entry's. They were added, so the
+// index has a place of each.
+func (p *pass) wrongOf(ctx context.Context, rows []stores.Row) (wrong []stores.Row, err error) {
+	identities, right := make([]stores.Identity, 0, len(rows)), map[place]bool{}
+	for i := range rows {
+		identities, right[place{rows[i].Identity, rows[i].Place}] = append(identities, rows[i].Identity), true
 	}
 	found, err := p.config.Stores.Index.Find(ctx, identities)
 	if err != nil {
 		return nil, fmt.Errorf("node: the index: %w", err)
 	}
-	for _, one := range placed {
-		place, ok := found[one.Identity]
-		stored := stores.Placed{Identity: one.Identity, Place: place}
+	for i := range rows {
+		at, ok := found[rows[i].Identity]
+		stored := place{rows[i].Identity, at}
 		if ok && right[stored] {
 			continue
 		}
@@ -121,24 +106,23 @@ func (p *pass) wrongOf(ctx context.Context, placed []stores.Placed) (wrong []sto
 			return nil, err
 		} else if !ok || !isIts {
 			// The next ones of this identity need not be compared.
-			wrong, right[stored] = append(wrong, one), true
+			wrong, right[stored] = append(wrong, rows[i]), true
 		}
 	}
 	return wrong, nil
 }
 
 // isPlaceOf reports whether the state has an entry at its place. An entry that is damaged proves nothing.
-func (p *pass) isPlaceOf(ctx context.Context, placed stores.Placed) (bool, error) {
-	if placed.Place.Index >= p.from.Size {
+func (p *pass) isPlaceOf(ctx context.Context, of place) (bool, error) {
+	if of.Index >= p.from.Size {
 		return false, nil
 	}
-	leaf, err := tile.LeafAt(ctx, placed.Place.Index, p.from.head(), p.reading(p.made.objects))
+	leaf, err := tile.LeafAt(ctx, of.Index, p.from.head(), p.reading(p.made.objects))
 	if errors.Is(err, ErrDamaged) {
 		return false, nil
 	}
 	if err != nil {
 		return false, err
 	}
-	return identity(leaf.Type, leaf.IssuerKeyHash, leaf.Certificate) == placed.Identity &&
-		leaf.Timestamp == placed.Place.Timestamp, nil
+	return identity(leaf.Type, leaf.IssuerKeyHash, leaf.Certificate) == of.identity && leaf.Timestamp == of.Timestamp, nil
 }

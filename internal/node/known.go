@@ -34,12 +34,12 @@ type ownStep struct {
 
 // add remembers a step that the lock took. If it was not made of the last one that is remembered, that and those before
 // it are forgotten.
-func (r *recent) add(from, to *state, placed []stores.Placed) {
+func (r *recent) add(from, to *state, rows []stores.Row) {
 	if r.text != from.text {
 		r.steps = nil
 	}
 	one := ownStep{size: from.Size, identities: map[stores.Identity]bool{}}
-	for _, entry := range placed {
+	for _, entry := range rows {
 		one.identities[entry.Identity] = true
 	}
 	r.text = to.text

@@ -81,6 +81,9 @@ func parseText(text string) (*state, error) {
 	return k, nil
 }
 
+// HeadName returns the name of the object that has a head.
+func HeadName(of stores.Published) string { return headName(of.Size, of.Timestamp) }
+
 // HeadIn returns the head of the state that a text of the lock names. The error is ErrDamaged if it is not one of a
 // log.
 func HeadIn(text string) (signer.Head, error) {
@@ -141,25 +144,23 @@ func identity(of chains.EntryType, what ...[]byte) (id stores.Identity) {
 	return id
 }
 
-// placesIn returns the places of all entries in a step's objects, by their identities and by the hashes of their
-// leaves. A partial tile that grew has those of earlier steps as well.
-func placesIn(objects []step.Object) (placed, hashed []stores.Placed, err error) {
+// rowsIn returns the index's rows of all entries in a step's objects. A partial tile that grew has those of earlier
+// steps as well.
+func rowsIn(objects []step.Object) (rows []stores.Row, err error) {
 	for _, object := range objects {
 		if !strings.HasPrefix(object.Name, tile.DataPrefix) {
 			continue
 		}
 		leaves, err := tile.Leaves(object.Name, object.Content)
 		if err != nil {
-			return nil, nil, err
+			return nil, err
 		}
 		for i := range leaves {
 			l := &leaves[i]
 			index, _ := l.Index()
-			place := stores.Place{Index: index, Timestamp: l.Timestamp}
-			placed = append(placed, stores.Placed{Identity: identity(l.Type, l.IssuerKeyHash,
-				l.Certificate), Place: place})
-			hashed = append(hashed, stores.Placed{Identity: stores.Identity(l.Hash()), Place: place})
+			rows = append(rows, stores.Row{Identity: identity(l.Type, l.IssuerKeyHash, l.Certificate),
+				Leaf: stores.Identity(l.Hash()), Place: stores.Place{Index: index, Timestamp: l.Timestamp}})
 		}
 	}
-	return placed, hashed, nil
+	return rows, nil
 }

@@ -64,11 +64,13 @@ type Lock interface {
 	Raise(ctx context.Context, published stores.Published) error
 }
 
-// Index finds the places of entries by their identities (stores.Places has what an engine owes).
+// Index finds the places of entries by their identities, and by the hashes of their leaves (stores.Index has what an
+// engine owes).
 type Index interface {
 	Find(ctx context.Context, identities []stores.Identity) (map[stores.Identity]stores.Place, error)
-	Add(ctx context.Context, placed []stores.Placed) error
-	Replace(ctx context.Context, placed []stores.Placed) error
+	FindLeaves(ctx context.Context, hashes []stores.Identity) (map[stores.Identity]stores.Place, error)
+	Add(ctx context.Context, rows []stores.Row) error
+	Replace(ctx context.Context, rows []stores.Row) error
 }
 
 // Memory keeps the newest head that this machine accepted. It must not be in any store or backup: it shows that all
@@ -131,8 +133,6 @@ type Stores struct {
 	Objects Objects
 	Lock    Lock
 	Index   Index
-	// Leaves finds the places of leaves by their hashes (RFC 6962, section 2.1). It is nil if nobody asks for them.
-	Leaves Index
 	// Current keeps the checkpoint that readers fetch without a node. It is nil if nobody does.
 	Current Current
 }

@@ -24,9 +24,8 @@ type pass struct {
 	batch   []*Ticket
 }
 
-// places are those of a step's entries by their identities, and by the hashes of their leaves. replaced are those that
-// the index has wrong.
-type places struct{ placed, leaves, replaced []stores.Placed }
+// places are those of a step's entries. replaced are those that the index has wrong.
+type places struct{ rows, replaced []stores.Row }
 
 // made is a step of this node, or another node's out of its staged batch.
 type made struct {
@@ -149,7 +148,7 @@ func (p *pass) look(ctx context.Context) (decider.Told, error) {
 	if err != nil {
 		return nil, err
 	}
-	placed, leaves, err := placesIn(resumed.Objects)
+	rows, err := rowsIn(resumed.Objects)
 	if err != nil {
 		return nil, err
 	}
@@ -157,7 +156,7 @@ func (p *pass) look(ctx context.Context) (decider.Told, error) {
 		return nil, err
 	}
 	p.config.Machine.Observer.Count(ResumedStep)
-	p.made = made{objects: resumed.Objects, head: resumed.Head, places: places{placed: placed, leaves: leaves}}
+	p.made = made{objects: resumed.Objects, head: resumed.Head, places: places{rows: rows}}
 	return decider.Bundled(references(resumed.Objects)), nil
 }
 
@@ -199,12 +198,11 @@ func (p *pass) step(ctx context.Context) error {
 			continue
 		}
 		next++
-		placed := stores.Placed{Identity: t.identity, Place: stores.Place{Index: r.LeafIndex, Timestamp: r.Timestamp}}
-		p.made.placed = append(p.made.placed, placed)
-		p.made.leaves = append(p.made.leaves, stores.Placed{Identity: stores.Identity(tlog.RecordHash(r.Sign)),
-			Place: placed.Place})
+		row := stores.Row{Identity: t.identity, Leaf: stores.Identity(tlog.RecordHash(r.Sign)),
+			Place: stores.Place{Index: r.LeafIndex, Timestamp: r.Timestamp}}
+		p.made.rows = append(p.made.rows, row)
 		if t.misplaced {
-			p.made.replaced = append(p.made.replaced, placed)
+			p.made.replaced = append(p.made.replaced, row)
 		}
 	}
 	m := &p.made

@@ -343,15 +343,12 @@ func (l *Loop) knows(ctx context.Context, id, leaf stores.Identity, index uint64
 	if err != nil {
 		return fmt.Errorf("node: the index: %w", err)
 	}
-	isKnown := len(places) > 0
-	if l.config.Stores.Leaves != nil {
-		leaves, err := l.config.Stores.Leaves.Find(ctx, []stores.Identity{leaf})
-		if err != nil {
-			return fmt.Errorf("node: the index: %w", err)
-		}
-		place, ok := leaves[leaf]
-		isKnown = isKnown && ok && place.Index == index
+	leaves, err := l.config.Stores.Index.FindLeaves(ctx, []stores.Identity{leaf})
+	if err != nil {
+		return fmt.Errorf("node: the index: %w", err)
 	}
+	at, isKnown := leaves[leaf]
+	isKnown = isKnown && at.Index == index && len(places) > 0
 	if !isKnown {
 		return fmt.Errorf("%w: it lacks the newest entry, %d (all nodes must share one index; build a lost one from "+
 			"the tiles again by ctserve index)", ErrIndex, index)

@@ -43,7 +43,7 @@ func (p *pass) swap(ctx context.Context) (decider.Told, error) {
 	if err != nil {
 		return nil, err
 	}
-	p.recent.add(p.from, k, p.made.placed)
+	p.recent.add(p.from, k, p.made.rows)
 	p.hears(k, began)
 	p.from = k
 	if err := p.descends(ctx, k, p.made.objects, heads.after); err != nil {

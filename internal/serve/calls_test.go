@@ -194,27 +194,32 @@ func (l watchedLock) Raise(ctx context.Context, published stores.Published) erro
 	return l.Register.Raise(ctx, published)
 }
 
-// watchedIndex is the index. Its additions of leaves are not watched: they and those of identities are one part of a
-// step.
+// watchedIndex is the index.
 type watchedIndex struct {
-	stores.Places
+	stores.Index
 	watch *watch
 }
 
 func (i watchedIndex) Find(ctx context.Context,
 	identities []stores.Identity) (map[stores.Identity]stores.Place, error) {
 	defer i.watch.begins(ctx, "find in index")()
-	return i.Places.Find(ctx, identities)
+	return i.Index.Find(ctx, identities)
 }
 
-func (i watchedIndex) Add(ctx context.Context, placed []stores.Placed) error {
+func (i watchedIndex) FindLeaves(ctx context.Context,
+	hashes []stores.Identity) (map[stores.Identity]stores.Place, error) {
+	defer i.watch.begins(ctx, "find leaves in index")()
+	return i.Index.FindLeaves(ctx, hashes)
+}
+
+func (i watchedIndex) Add(ctx context.Context, rows []stores.Row) error {
 	defer i.watch.begins(ctx, "add to index")()
-	return i.Places.Add(ctx, placed)
+	return i.Index.Add(ctx, rows)
 }
 
-func (i watchedIndex) Replace(ctx context.Context, placed []stores.Placed) error {
+func (i watchedIndex) Replace(ctx context.Context, rows []stores.Row) error {
 	defer i.watch.begins(ctx, "replace in index")()
-	return i.Places.Replace(ctx, placed)
+	return i.Index.Replace(ctx, rows)
 }
 
 // TestCallsOfAStep: if the node made the step before, and no fault is open, a step of one entry makes eight calls to

@@ -15,7 +15,7 @@ const maxJoined = 8
 // finder has lookups that come at the same time share a call to the index: each submission looks up one identity.
 // Lookups that come while a call is made share the next one.
 type finder struct {
-	stores.Places
+	stores.Index
 
 	mu sync.Mutex
 	// next has not begun; nil if nobody waits for it. isGoing says that somebody makes one call after the other.
@@ -31,10 +31,10 @@ type lookup struct {
 	err        error
 }
 
-// Find is stores.Places'.
+// Find is stores.Index's.
 func (f *finder) Find(ctx context.Context, identities []stores.Identity) (map[stores.Identity]stores.Place, error) {
 	if len(identities) > maxJoined {
-		return f.Places.Find(ctx, identities)
+		return f.Index.Find(ctx, identities)
 	}
 	shared := f.join(identities)
 	select {
@@ -58,7 +58,7 @@ func (f *finder) Find(ctx context.Context, identities []stores.Identity) (map[st
 func (f *finder) join(identities []stores.Identity) *lookup {
 	f.mu.Lock()
 	defer f.mu.Unlock()
-	if f.next != nil && len(f.next.identities)+len(identities) > stores.MaxPlaces {
+	if f.next != nil && len(f.next.identities)+len(identities) > stores.MaxRows {
 		full := f.next
 		f.next = nil
 		go f.call(full)
@@ -99,6 +99,6 @@ func (f *finder) call(of *lookup) {
 	for identity := range maps.Keys(of.identities) {
 		identities = append(identities, identity)
 	}
-	of.found, of.err = f.Places.Find(ctx, identities)
+	of.found, of.err = f.Index.Find(ctx, identities)
 	close(of.done)
 }

@@ -37,6 +37,7 @@ type place struct {
 	t      testing.TB
 	folder string
 	key    *signer.Key
+	index  stores.Index
 }
 
 func newPlace(t testing.TB) *place {
@@ -57,6 +58,24 @@ func (p *place) path(name string) string { return filepath.Join(p.folder, name) 
 // object is the path of an object.
 func (p *place) object(name string) string { return filepath.Join(p.folder, "objects", name) }
 
+// opened returns the index. It is opened once, for all configurations, since only one can have its folder open. If a
+// test took the folder away, it is opened again.
+func (p *place) opened() stores.Index {
+	p.t.Helper()
+	if _, err := os.Stat(p.path("index")); p.index != nil && err == nil {
+		return p.index
+	}
+	if p.index == nil {
+		p.t.Cleanup(func() { must(p.t, p.index.Close()) })
+	} else {
+		must(p.t, p.index.Close())
+	}
+	var err error
+	p.index, err = stores.IndexAt(limited(p.t), "leveldb:"+p.path("index"))
+	must(p.t, err)
+	return p.index
+}
+
 // config opens the stores, and closes them at the test's end. Its janitor waits for an hour, and the kernel says that
 // its clock is right.
 func (p *place) config() serve.Config {
@@ -74,10 +93,8 @@ func (p *place) config() serve.Config {
 	must(p.t, err)
 	lock, err := stores.RegisterAt(ctx, "file:"+p.path("register"))
 	must(p.t, err)
-	index, err := stores.PlacesAt(ctx, "sqlite:"+p.path("places"))
-	must(p.t, err)
-	p.t.Cleanup(func() { must(p.t, errors.Join(index.Close(), lock.Close(), objects.Close())) })
-	config.Stores = serve.Stores{Objects: objects, Lock: lock, Index: index}
+	p.t.Cleanup(func() { must(p.t, errors.Join(lock.Close(), objects.Close())) })
+	config.Stores = serve.Stores{Objects: objects, Lock: lock, Index: p.opened()}
 	state, err := stores.OpenFile(p.path("guard"))
 	must(p.t, err)
 	config.Signer, err = signer.NewGuarded(ctx, p.key, signer.Guard{State: state, Create: true})

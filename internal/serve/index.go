@@ -5,13 +5,11 @@ import (
 	"crypto/rand"
 	"crypto/sha256"
 	"encoding/binary"
-	"errors"
 	"fmt"
 	"strings"
 
 	"wagtenib/internal/node"
 	"wagtenib/internal/stores"
-	"wagtenib/internal/tile"
 )
 
 // Which index is the log's says a random id that both have: the index as if it were an identity's place, and the store
@@ -24,13 +22,19 @@ const placesPrefix = "places/"
 // type and what follows.
 var ownIdentity = stores.Identity(sha256.Sum256([]byte("the id of a log's places")))
 
+// own returns a row that is no entry's. There is no leaf of its hash either: a leaf's is one over a zero byte and what
+// follows.
+func own(identity stores.Identity, place stores.Place) stores.Row {
+	return stores.Row{Identity: identity, Leaf: identity, Place: place}
+}
+
 // idName is the name of an id's object.
 func idName(id stores.Place) string {
 	return fmt.Sprintf("%s%016x%016x", placesPrefix, id.Index, id.Timestamp)
 }
 
 // idOf reads the id of an index.
-func idOf(ctx context.Context, in stores.Places) (id stores.Place, ok bool, err error) {
+func idOf(ctx context.Context, in stores.Index) (id stores.Place, ok bool, err error) {
 	found, err := in.Find(ctx, []stores.Identity{ownIdentity})
 	if err != nil {
 		return id, false, fmt.Errorf("serve: the index: %w", err)
@@ -40,14 +44,14 @@ func idOf(ctx context.Context, in stores.Places) (id stores.Place, ok bool, err 
 }
 
 // newID returns an index that has none an id, and reads it, since another node may have been first.
-func newID(ctx context.Context, in stores.Places) (id stores.Place, err error) {
+func newID(ctx context.Context, in stores.Index) (id stores.Place, err error) {
 	var chance [16]byte
 	if _, err := rand.Read(chance[:]); err != nil {
 		return id, fmt.Errorf("serve: %w", err)
 	}
 	id.Index, id.Timestamp = binary.BigEndian.Uint64(chance[:8])&stores.MaxNumber,
 		binary.BigEndian.Uint64(chance[8:])&stores.MaxNumber
-	if err := in.Add(ctx, []stores.Placed{{Identity: ownIdentity, Place: id}}); err != nil {
+	if err := in.Add(ctx, []stores.Row{own(ownIdentity, id)}); err != nil {
 		return id, fmt.Errorf("serve: the index: %w", err)
 	}
 	id, ok, err := idOf(ctx, in)
@@ -91,19 +95,19 @@ func (l *Log) hasItsIndex(ctx context.Context) error {
 			return err
 		}
 	}
-	own := "none"
+	its := "none"
 	if ok {
-		own = idName(id)
+		its = idName(id)
 	}
 	if len(names) > 1 {
 		return fmt.Errorf("%w: its id is %s, and the store has %s: nodes with an index of their own each started "+
 			"at once "+
 			"(give all nodes the same index, and delete the other ids)",
-			node.ErrIndex, own, strings.Join(names, " and "))
+			node.ErrIndex, its, strings.Join(names, " and "))
 	}
-	if names[0] != own {
+	if names[0] != its {
 		return fmt.Errorf("%w: its id is %s, and the store has %s "+
-			"(give all nodes the same index; build a lost one again by ctserve index)", node.ErrIndex, own, names[0])
+			"(give all nodes the same index; build a lost one again by ctserve index)", node.ErrIndex, its, names[0])
 	}
 	return nil
 }
@@ -123,53 +127,8 @@ func takeID(ctx context.Context, of Stores) error {
 		idName(id) != names[0] {
 		return fmt.Errorf("%w: the store has %s, which is no id of an index (delete it)", node.ErrIndex, names[0])
 	}
-	if err := of.Index.Replace(ctx, []stores.Placed{{Identity: ownIdentity, Place: id}}); err != nil {
+	if err := of.Index.Replace(ctx, []stores.Row{own(ownIdentity, id)}); err != nil {
 		return fmt.Errorf("serve: the index: %w", err)
-	}
-	return nil
-}
-
-// RebuildIndex sets the places of all entries of a log from its tiles, each of which is compared with the tree of the
-// newest state. It works from the newest entry to the first, so a node may start before it ends, and a duplicate entry
-// gets its first place. After each tile it reports how many entries are left. The log may run at the same time.
-func RebuildIndex(ctx context.Context, of Stores, told func(left uint64)) error {
-	text, err := of.Lock.Read(ctx)
-	if err != nil {
-		return fmt.Errorf("serve: the lock: %w", err)
-	}
-	head, err := node.HeadIn(text)
-	if err != nil {
-		return err
-	}
-	published, err := of.Lock.Published(ctx)
-	if err != nil {
-		return fmt.Errorf("serve: the lock: %w", err)
-	}
-	if published.Before(stores.Published{Size: head.Size, Timestamp: head.Timestamp}) {
-		return fmt.Errorf("%w: the newest state is not published "+
-			"(start a node, which publishes it, and run this again)", node.ErrIndex)
-	}
-	if err := takeID(ctx, of); err != nil {
-		return err
-	}
-	read := tile.Stored(func(ctx context.Context, name string) ([]byte, error) {
-		return of.Objects.Get(ctx, name, stores.MaxObject)
-	})
-	for number := (head.Size + tile.Width - 1) / tile.Width; number > 0; number-- {
-		leaves, err := tile.LeavesOf(ctx, tile.Data((number-1)*tile.Width, head.Size), head, read)
-		if err != nil {
-			return err
-		}
-		var placed, hashed []stores.Placed
-		for i := range leaves {
-			place := stores.Place{Index: (number-1)*tile.Width + uint64(i), Timestamp: leaves[i].Timestamp}
-			placed = append(placed, stores.Placed{Identity: node.Identity(&leaves[i]), Place: place})
-			hashed = append(hashed, stores.Placed{Identity: stores.Identity(leaves[i].Hash()), Place: place})
-		}
-		if err := errors.Join(of.Index.Replace(ctx, placed), of.Index.Leaves().Replace(ctx, hashed)); err != nil {
-			return fmt.Errorf("serve: the index: %w", err)
-		}
-		told((number - 1) * tile.Width)
 	}
 	return nil
 }

@@ -1,10 +1,15 @@
 package serve_test
 
 import (
+	"context"
+	"errors"
+	"fmt"
 	"os"
+	"path/filepath"
 	"strings"
 	"testing"
 
+	"wagtenib/internal/log"
 	"wagtenib/internal/node"
 	"wagtenib/internal/serve"
 	"wagtenib/internal/stores"
@@ -48,7 +53,7 @@ func TestRebuildIndex(t *testing.T) {
 	l := started(t, p.config())
 	got.submit(t, l, 0, 600)
 	ends(t, l)
-	must(t, os.Remove(p.path("places")))
+	must(t, os.RemoveAll(p.path("index")))
 	_, err := serve.Open(limited(t), p.config())
 	wants(t, err, node.ErrIndex)
 	var told []uint64
@@ -82,4 +87,69 @@ func TestRebuildIndexOfDamagedTiles(t *testing.T) {
 	ends(t, l)
 	must(t, damages["bent"](p.object("tile/data/000")))
 	wants(t, serve.RebuildIndex(limited(t), p.config().Stores, func(uint64) {}), node.ErrDamaged)
+}
+
+// An index whose rebuild was stopped is completed by the log itself: it knows the newest entries at once, and the first
+// ones after a while.
+func TestLogCompletesIndex(t *testing.T) {
+	t.Parallel()
+	p, got := newPlace(t), &answers{}
+	l := started(t, p.config())
+	got.submit(t, l, 0, 600)
+	places := map[int]log.Place{}
+	for _, n := range []int{0, 100, 255, 256, 511, 599} {
+		place, err := l.Submit(limited(t), entryOf(n))
+		must(t, err)
+		places[n] = place
+	}
+	ends(t, l)
+	must(t, os.RemoveAll(p.path("index")))
+	ctx, stop := context.WithCancel(limited(t))
+	wants(t, serve.RebuildIndex(ctx, p.config().Stores, func(left uint64) {
+		if left == 512 {
+			stop()
+		}
+	}), context.Canceled)
+	l = started(t, p.config())
+	eventually(t, "each leaf is found", func() bool {
+		for n, place := range places {
+			if index, err := l.IndexOf(limited(t), leafHash(entryOf(n), place)); err != nil || index != place.LeafIndex {
+				return false
+			}
+		}
+		return true
+	})
+	got.submit(t, l, 0, 610)
+	if f := l.Figures(); f.Repeats != 600 || f.Entries != 610 {
+		t.Errorf("%+v", f)
+	}
+}
+
+// If the newest state is not published, the index is built from the published head, and the node that starts adds the
+// rest.
+func TestRebuildIndexOfUnpublishedState(t *testing.T) {
+	t.Parallel()
+	p, got := newPlace(t), &answers{}
+	l := started(t, p.config())
+	got.submit(t, l, 0, 3)
+	got.submit(t, l, 3, 5)
+	ends(t, l)
+	newest, _ := p.newestHead()
+	must(t, os.Remove(newest))
+	before, _ := p.newestHead()
+	var size, timestamp uint64
+	if _, err := fmt.Sscanf(filepath.Base(before), "%d-%d", &size, &timestamp); err != nil || size == 0 || size >= 5 {
+		t.Fatalf("%s, %v", before, err)
+	}
+	must(t, os.WriteFile(p.path("register/head"), fmt.Appendf(nil, "%d %d", size, timestamp), 0o644))
+	must(t, errors.Join(os.RemoveAll(p.path("index")), os.Remove(p.path("latest-head"))))
+	must(t, serve.RebuildIndex(limited(t), p.config().Stores, func(uint64) {}))
+	l = started(t, p.config())
+	got.submit(t, l, 0, 6)
+	if f := l.Figures(); f.Entries != 6 {
+		t.Errorf("%+v", f)
+	}
+	if leaves := p.right(got); leaves != 6 {
+		t.Errorf("%d entries", leaves)
+	}
 }

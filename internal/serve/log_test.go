@@ -255,7 +255,7 @@ func TestFaultAndItsEnd(t *testing.T) {
 // A start is refused by name if a part of the log is older than the rest.
 func TestRefusesOlderParts(t *testing.T) {
 	t.Parallel()
-	for part, kind := range map[string]error{"register": node.ErrRolledBack, "places": node.ErrIndex,
+	for part, kind := range map[string]error{"register": node.ErrRolledBack, "index": node.ErrIndex,
 		"guard": signer.ErrState} {
 		p, got := newPlace(t), &answers{}
 		l := started(t, p.config())
@@ -289,14 +289,14 @@ func TestLatestHead(t *testing.T) {
 	_, err = serve.Open(limited(t), p.config())
 	wants(t, err, node.ErrDamaged)
 	// All stores are rolled back together to nothing: only this file shows it.
-	for _, part := range []string{"objects", "register", "places", "guard", "latest-head"} {
+	for _, part := range []string{"objects", "register", "index", "guard", "latest-head"} {
 		must(t, os.RemoveAll(p.path(part)))
 	}
 	l = started(t, p.config())
 	got = &answers{}
 	got.submit(t, l, 0, 3)
 	ends(t, l)
-	for _, part := range []string{"objects", "register", "places", "guard"} {
+	for _, part := range []string{"objects", "register", "index", "guard"} {
 		must(t, os.RemoveAll(p.path(part)))
 	}
 	_, err = serve.Open(limited(t), p.config())

@@ -123,7 +123,7 @@ func (l *Log) headOf(head node.Head) (log.Head, error) {
 
 // IndexOf is log.Log's.
 func (l *Log) IndexOf(ctx context.Context, leafHash [32]byte) (uint64, error) {
-	found, err := l.config.Stores.Index.Leaves().Find(ctx, []stores.Identity{leafHash})
+	found, err := l.config.Stores.Index.FindLeaves(ctx, []stores.Identity{leafHash})
 	if err != nil {
 		return 0, fault{log.ErrStore, err}
 	}

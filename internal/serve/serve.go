@@ -50,7 +50,7 @@ const (
 type Stores struct {
 	Objects stores.Objects
 	Lock    stores.Register
-	Index   stores.Places
+	Index   stores.Index
 	// Current keeps the checkpoint that readers fetch without a node. It is nil if nobody does.
 	Current stores.Current
 }
@@ -178,7 +178,7 @@ func Open(ctx context.Context, config Config) (*Log, error) {
 	return l, nil
 }
 
-// run starts the loop, the janitor, and what asks other clocks.
+// run starts the loop, the janitor, what completes the index, and what asks other clocks.
 func (l *Log) run(loop *node.Loop) {
 	ctx, cancel := context.WithCancel(context.Background())
 	r := &l.running
@@ -187,7 +187,11 @@ func (l *Log) run(loop *node.Loop) {
 		defer close(r.looped)
 		r.failed = loop.Run(ctx)
 	}()
-	r.all.Add(2)
+	r.all.Add(3)
+	go func() {
+		defer r.all.Done()
+		l.completeIndex(ctx)
+	}()
 	go func() {
 		defer r.all.Done()
 		// It ends with its context only.
@@ -211,8 +215,7 @@ func (l *Log) nodeConfig() (node.Config, error) {
 		return node.Config{}, err
 	}
 	help := helpAfter + time.Duration(by%uint64(helpAfter))
-	shared := node.Stores{Objects: c.Stores.Objects, Lock: c.Stores.Lock, Index: &finder{Places: c.Stores.Index},
-		Leaves: c.Stores.Index.Leaves()}
+	shared := node.Stores{Objects: c.Stores.Objects, Lock: c.Stores.Lock, Index: &finder{Index: c.Stores.Index}}
 	if c.Stores.Current != nil {
 		shared.Current = c.Stores.Current
 	}
@@ -316,9 +319,10 @@ func (l *Log) End(ctx context.Context) error {
 }
 
 // NeedsOperator reports whether a start is refused, and will be until an operator has looked at the log's stores: the
-// lock, the index or the guard's state is gone or older than the log.
+// lock, the index or the guard's state is gone, damaged or older than the log.
 func NeedsOperator(err error) bool {
-	return errors.Is(err, node.ErrRolledBack) || errors.Is(err, node.ErrIndex) || errors.Is(err, signer.ErrState)
+	return errors.Is(err, node.ErrRolledBack) || errors.Is(err, node.ErrIndex) || errors.Is(err, stores.ErrDamaged) ||
+		errors.Is(err, signer.ErrState)
 }
 
 // named returns an error of a kind that package log names.

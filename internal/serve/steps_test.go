@@ -37,8 +37,8 @@ func TestIndexAheadOfTheLog(t *testing.T) {
 	config := p.config()
 	l := started(t, config)
 	got.submit(t, l, 0, 3)
-	must(t, config.Stores.Index.Add(limited(t), []stores.Placed{{Identity: identityOf(entryOf(4)),
-		Place: stores.Place{Index: 1000, Timestamp: 1}}}))
+	must(t, config.Stores.Index.Add(limited(t), []stores.Row{{Identity: identityOf(entryOf(4)),
+		Leaf: stores.Identity{4}, Place: stores.Place{Index: 1000, Timestamp: 1}}}))
 	for range 3 {
 		place, err := l.Submit(limited(t), entryOf(4))
 		must(t, err)
@@ -204,21 +204,21 @@ func TestPublishedAfterItsCheckpoint(t *testing.T) {
 	p.right(got)
 }
 
-// lost is an index that answers nothing after some more calls, while it is set. It counts what it does not answer.
+// lost is an index that finds nothing while it is set. It counts what it does not answer.
 type lost struct {
-	stores.Places
-	is         atomic.Bool
-	left, lost atomic.Int64
+	stores.Index
+	is   atomic.Bool
+	lost atomic.Int64
 }
 
 var errLost = errors.New("the index does not answer")
 
 func (i *lost) Find(ctx context.Context, identities []stores.Identity) (map[stores.Identity]stores.Place, error) {
-	if i.is.Load() && i.left.Add(-1) < 0 {
+	if i.is.Load() {
 		i.lost.Add(1)
 		return nil, errLost
 	}
-	return i.Places.Find(ctx, identities)
+	return i.Index.Find(ctx, identities)
 }
 
 // The fault of an index is not over as long as the index does not answer, although a step without entries would not
@@ -227,14 +227,12 @@ func TestFaultOfTheIndexLasts(t *testing.T) {
 	t.Parallel()
 	p, got := newPlace(t), &answers{}
 	config := p.config()
-	index := &lost{Places: config.Stores.Index}
+	index := &lost{Index: config.Stores.Index}
 	config.Stores.Index = index
 	l := started(t, config)
-	got.submit(t, l, 0, 3)
-	// The submission is looked up, and then the step looks it up again.
-	index.left.Store(1)
+	// Nothing is looked up before the first step, so the step asks the index.
 	index.is.Store(true)
-	_, err := l.Submit(limited(t), entryOf(3))
+	_, err := l.Submit(limited(t), entryOf(0))
 	wants(t, err, errLost)
 	before := index.lost.Load()
 	eventually(t, "the index is asked again", func() bool {
@@ -245,7 +243,7 @@ func TestFaultOfTheIndexLasts(t *testing.T) {
 	})
 	index.is.Store(false)
 	eventually(t, "it goes on", func() bool { return l.Figures().Fault == "" })
-	got.submit(t, l, 3, 4)
+	got.submit(t, l, 0, 1)
 	p.right(got)
 }
 

@@ -56,16 +56,13 @@ var all = []planted{
 		{"pass.go", "			return p.index(ctx)\n", "			return nil\n"},
 	}},
 	{"no leaf is added", []edit{
-		{"index.go", "addAll(ctx, p.config.Stores.Leaves, p.made.leaves)", "error(nil)"},
-		{"start.go", "		isKnown = isKnown && ok && place.Index == index", "		_, _ = ok, place"},
+		{"pass.go", "Leaf: stores.Identity(tlog.RecordHash(r.Sign)),", "Leaf: t.identity,"},
+		{"pass.go", "	\"golang.org/x/mod/sumdb/tlog\"\n\n", ""},
+		{"start.go", "	isKnown = isKnown && at.Index == index && len(places) > 0", "	_, isKnown = at, len(places) > 0"},
 	}},
 	{"a resumed step's leaves are not added", []edit{
-		{"pass.go", "places{placed: placed, leaves: leaves}", "places{placed: placed}"},
-		{"pass.go",
-			"	placed, leaves, err := placesIn(resumed.Objects)",
-			"	placed, _, err := placesIn(resumed.Objects)",
-		},
-		{"start.go", "		isKnown = isKnown && ok && place.Index == index", "		_, _ = ok, place"},
+		{"names.go", "Leaf: stores.Identity(l.Hash()), Place:", "Place:"},
+		{"start.go", "	isKnown = isKnown && at.Index == index && len(places) > 0", "	_, isKnown = at, len(places) > 0"},
 	}},
 	{"a node that ends forgets its queue", []edit{
 		{"pool.go", "	return p.ended && p.open == 0", "	return true"},

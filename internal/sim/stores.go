@@ -338,13 +338,21 @@ func short(text string) string {
 // index is the index as a machine's node sees it.
 type index struct{ m *machine }
 
-func (i index) Find(ctx context.Context,
-	identities []stores.Identity) (found map[stores.Identity]stores.Place, err error) {
-	err = i.m.call(ctx, "index", fmt.Sprintf("find %d", len(identities)), false, func() error {
+func (i index) Find(ctx context.Context, identities []stores.Identity) (map[stores.Identity]stores.Place, error) {
+	return i.find(ctx, fmt.Sprintf("find %d", len(identities)), i.m.w.stores.index, identities)
+}
+
+func (i index) FindLeaves(ctx context.Context, hashes []stores.Identity) (map[stores.Identity]stores.Place, error) {
+	return i.find(ctx, fmt.Sprintf("find %d leaves", len(hashes)), i.m.w.stores.leaves, hashes)
+}
+
+func (i index) find(ctx context.Context, what string, in map[stores.Identity]stores.Place,
+	keys []stores.Identity) (found map[stores.Identity]stores.Place, err error) {
+	err = i.m.call(ctx, "index", what, false, func() error {
 		found = map[stores.Identity]stores.Place{}
-		for _, id := range identities {
-			if place, ok := i.m.w.stores.index[id]; ok {
-				found[id] = place
+		for _, key := range keys {
+			if place, ok := in[key]; ok {
+				found[key] = place
 			}
 		}
 		return nil
@@ -355,55 +363,23 @@ func (i index) Find(ctx context.Context,
 	return found, nil
 }
 
-func (i index) Add(ctx context.Context, placed []stores.Placed) error {
-	return i.change(ctx, "add", placed, false)
+func (i index) Add(ctx context.Context, rows []stores.Row) error {
+	return i.change(ctx, "add", rows, false)
 }
 
-func (i index) Replace(ctx context.Context, placed []stores.Placed) error {
-	return i.change(ctx, "replace", placed, true)
+func (i index) Replace(ctx context.Context, rows []stores.Row) error {
+	return i.change(ctx, "replace", rows, true)
 }
 
-// leaves is the index by the hashes of leaves, as a machine's node sees it.
-type leaves struct{ m *machine }
-
-func (l leaves) Find(ctx context.Context,
-	hashes []stores.Identity) (found map[stores.Identity]stores.Place, err error) {
-	err = l.m.call(ctx, "index", fmt.Sprintf("find %d leaves", len(hashes)), false, func() error {
-		found = map[stores.Identity]stores.Place{}
-		for _, hash := range hashes {
-			if place, ok := l.m.w.stores.leaves[hash]; ok {
-				found[hash] = place
+func (i index) change(ctx context.Context, what string, rows []stores.Row, replaces bool) error {
+	return i.m.call(ctx, "index", fmt.Sprintf("%s %d", what, len(rows)), true, func() error {
+		of := &i.m.w.stores
+		for _, row := range rows {
+			if _, ok := of.index[row.Identity]; !ok || replaces {
+				of.setIndex(row.Identity, row.Place)
 			}
-		}
-		return nil
-	})
-	if err != nil {
-		return nil, err
-	}
-	return found, nil
-}
-
-func (l leaves) Add(ctx context.Context, placed []stores.Placed) error {
-	return l.m.call(ctx, "index", fmt.Sprintf("add %d leaves", len(placed)), true, func() error {
-		for _, one := range placed {
-			if _, ok := l.m.w.stores.leaves[one.Identity]; !ok {
-				l.m.w.stores.leaves[one.Identity] = one.Place
-			}
-		}
-		return nil
-	})
-}
-
-// Replace is called by no node: a leaf has one hash.
-func (l leaves) Replace(context.Context, []stores.Placed) error {
-	panic("sim: a leaf's place is replaced")
-}
-
-func (i index) change(ctx context.Context, what string, placed []stores.Placed, replaces bool) error {
-	return i.m.call(ctx, "index", fmt.Sprintf("%s %d", what, len(placed)), true, func() error {
-		for _, one := range placed {
-			if _, ok := i.m.w.stores.index[one.Identity]; !ok || replaces {
-				i.m.w.stores.setIndex(one.Identity, one.Place)
+			if _, ok := of.leaves[row.Leaf]; !ok || replaces {
+				of.leaves[row.Leaf] = row.Place
 			}
 		}
 		return nil

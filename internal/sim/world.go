@@ -181,7 +181,7 @@ const maxSkew = 10 * time.Second
 
 // config is the configuration of a machine's node.
 func (m *machine) config() node.Config {
-	shared := node.Stores{Objects: objects{m}, Lock: lock{m}, Index: index{m}, Leaves: leaves{m}}
+	shared := node.Stores{Objects: objects{m}, Lock: lock{m}, Index: index{m}}
 	if m.w.plan.Public {
 		shared.Current = current{m}
 	}

@@ -91,24 +91,33 @@ func RegisterAt(ctx context.Context, address string) (Register, error) {
 	return nil, fmt.Errorf("%w: a register is at file:PATH, etcd://.. or postgres://.., not at %.20q", ErrAddress, kind)
 }
 
-// PlacesAt opens the places at an address: sqlite:PATH, a file, or one of PostgreSQL as RegisterAt has them.
-func PlacesAt(ctx context.Context, address string) (Places, error) {
+// IndexAt opens the index at an address: leveldb:PATH, a folder, or one of PostgreSQL as RegisterAt has them.
+func IndexAt(ctx context.Context, address string) (Index, error) {
 	kind, rest, _ := strings.Cut(address, ":")
 	switch kind {
-	case "sqlite":
-		path, err := pathOf("sqlite", rest)
+	case "leveldb":
+		path, err := pathOf("leveldb", rest)
 		if err != nil {
 			return nil, err
 		}
-		return OpenSQLite(ctx, path)
+		return OpenLevelDB(ctx, path)
 	case "postgres", "postgresql":
 		at, err := parsePostgres(address)
 		if err != nil {
 			return nil, err
 		}
-		return OpenPostgresPlaces(ctx, at)
+		return OpenPostgresIndex(ctx, at)
 	}
-	return nil, fmt.Errorf("%w: an index is at sqlite:PATH or postgres://.., not at %.20q", ErrAddress, kind)
+	return nil, noIndex(kind)
+}
+
+// noIndex says that an index is at no address of this kind. An earlier ctserve had its index in SQLite.
+func noIndex(kind string) error {
+	if kind == "sqlite" {
+		return fmt.Errorf("%w: an index is no longer in SQLite "+
+			"(write leveldb:PATH with another path, and build the index again by ctserve index)", ErrAddress)
+	}
+	return fmt.Errorf("%w: an index is at leveldb:PATH or postgres://.., not at %.20q", ErrAddress, kind)
 }
 
 // CheckObjects returns the reason why an address is not one of objects, and nil if it is. It opens nothing.
@@ -126,10 +135,14 @@ func CheckRegister(address string) error {
 	})
 }
 
-// CheckPlaces is CheckObjects of places.
-func CheckPlaces(address string) error {
+// CheckIndex is CheckObjects of an index.
+func CheckIndex(address string) error {
+	if kind, _, _ := strings.Cut(address, ":"); kind == "sqlite" {
+		return noIndex(kind)
+	}
 	postgres := func() error { _, err := parsePostgres(address); return err }
-	return checked(address, "places", map[string]func() error{"sqlite": nil, "postgres": postgres, "postgresql": postgres})
+	return checked(address, "an index", map[string]func() error{"leveldb": nil, "postgres": postgres,
+		"postgresql": postgres})
 }
 
 // checked reads an address by what reads those of its kind; nil reads a path.

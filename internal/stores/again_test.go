@@ -134,14 +134,14 @@ func TestRegisterOutlivesItsEngine(t *testing.T) {
 	})
 }
 
-func TestPlacesOutliveTheirEngine(t *testing.T) {
-	inTurn(t, identityStores, func(t *testing.T, at tried[Places]) {
+func TestIndexOutlivesItsEngine(t *testing.T) {
+	inTurn(t, indexes, func(t *testing.T, at tried[Index]) {
 		store := at.opened(t)
 		last := whileEnginesDie(t, at.name, func(ctx context.Context, i int) error {
 			_, all, _ := someOf(perWrite*i, perWrite*(i+1))
 			return store.Add(ctx, all)
 		})
-		must(t, parts(perWrite*last, MaxPlaces, func(from, to int) error {
+		must(t, parts(perWrite*last, MaxRows, func(from, to int) error {
 			asked, _, want := someOf(perWrite+from, perWrite+to)
 			finds(t, store, asked, want)
 			return nil

@@ -20,7 +20,7 @@ type Call struct {
 const (
 	ofObjects  = "objects"
 	ofRegister = "lock"
-	ofPlaces   = "index"
+	ofIndex    = "index"
 )
 
 // callsThatAre are all, in their order; nothing else is counted.
@@ -29,7 +29,7 @@ var callsThatAre = []Call{
 	{Store: ofObjects, Name: "delete"}, {Store: ofObjects, Name: "swap"},
 	{Store: ofRegister, Name: "create"}, {Store: ofRegister, Name: "read"}, {Store: ofRegister, Name: "swap"},
 	{Store: ofRegister, Name: "published"}, {Store: ofRegister, Name: "raise"},
-	{Store: ofPlaces, Name: "find"}, {Store: ofPlaces, Name: "add"}, {Store: ofPlaces, Name: "replace"},
+	{Store: ofIndex, Name: "find"}, {Store: ofIndex, Name: "add"}, {Store: ofIndex, Name: "replace"},
 }
 
 // Calls counts what stores are asked. A nil one has none.
@@ -181,37 +181,41 @@ func (r countedRegister) Raise(ctx context.Context, published Published) error {
 	return r.calls.ended(ctx, ofRegister, "raise", began, r.Register.Raise(ctx, published))
 }
 
-// Places are these, and those of leaves, counted together.
-func (c *Calls) Places(of Places) Places {
-	counted := countedPlaces{of, c}
+// Index is this one, counted. A look-up by leaf hash counts as a find.
+func (c *Calls) Index(of Index) Index {
+	counted := countedIndex{of, c}
 	if timed, tells := of.(Timed); tells {
 		return struct {
-			Places
+			Index
 			Timed
 		}{counted, timed}
 	}
 	return counted
 }
 
-type countedPlaces struct {
-	Places
+type countedIndex struct {
+	Index
 	calls *Calls
 }
 
-func (p countedPlaces) Find(ctx context.Context, identities []Identity) (map[Identity]Place, error) {
+func (i countedIndex) Find(ctx context.Context, identities []Identity) (map[Identity]Place, error) {
 	began := time.Now()
-	found, err := p.Places.Find(ctx, identities)
-	return found, p.calls.ended(ctx, ofPlaces, "find", began, err)
+	found, err := i.Index.Find(ctx, identities)
+	return found, i.calls.ended(ctx, ofIndex, "find", began, err)
 }
 
-func (p countedPlaces) Add(ctx context.Context, placed []Placed) error {
+func (i countedIndex) FindLeaves(ctx context.Context, hashes []Identity) (map[Identity]Place, error) {
 	began := time.Now()
-	return p.calls.ended(ctx, ofPlaces, "add", began, p.Places.Add(ctx, placed))
+	found, err := i.Index.FindLeaves(ctx, hashes)
+	return found, i.calls.ended(ctx, ofIndex, "find", began, err)
 }
 
-func (p countedPlaces) Replace(ctx context.Context, placed []Placed) error {
+func (i countedIndex) Add(ctx context.Context, rows []Row) error {
 	began := time.Now()
-	return p.calls.ended(ctx, ofPlaces, "replace", began, p.Places.Replace(ctx, placed))
+	return i.calls.ended(ctx, ofIndex, "add", began, i.Index.Add(ctx, rows))
 }
 
-func (p countedPlaces) Leaves() Places { return countedPlaces{p.Places.Leaves(), p.calls} }
+func (i countedIndex) Replace(ctx context.Context, rows []Row) error {
+	began := time.Now()
+	return i.calls.ended(ctx, ofIndex, "replace", began, i.Index.Replace(ctx, rows))
+}

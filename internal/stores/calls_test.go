@@ -49,18 +49,17 @@ func (g givenRegister) Published(context.Context) (Published, error) {
 func (g givenRegister) Raise(context.Context, Published) error { return g.give() }
 func (g givenRegister) Close() error                           { return errors.New("closed") }
 
-type givenPlaces struct {
-	*given
-	leaves *givenPlaces
-}
+type givenIndex struct{ *given }
 
-func (g givenPlaces) Find(context.Context, []Identity) (map[Identity]Place, error) {
+func (g givenIndex) Find(context.Context, []Identity) (map[Identity]Place, error) {
 	return map[Identity]Place{{1}: {2, 3}}, g.give()
 }
-func (g givenPlaces) Add(context.Context, []Placed) error     { return g.give() }
-func (g givenPlaces) Replace(context.Context, []Placed) error { return g.give() }
-func (g givenPlaces) Leaves() Places                          { return *g.leaves }
-func (g givenPlaces) Close() error                            { return errors.New("closed") }
+func (g givenIndex) FindLeaves(context.Context, []Identity) (map[Identity]Place, error) {
+	return map[Identity]Place{{4}: {5, 6}}, g.give()
+}
+func (g givenIndex) Add(context.Context, []Row) error     { return g.give() }
+func (g givenIndex) Replace(context.Context, []Row) error { return g.give() }
+func (g givenIndex) Close() error                         { return errors.New("closed") }
 
 type givenTime struct{}
 
@@ -70,7 +69,7 @@ func (givenTime) Time(context.Context) (time.Time, time.Duration, error) {
 
 // asksAll makes each call once, in the order of All, and gives what came of each.
 func asksAll(ctx context.Context, objects Objects, current Current, register Register,
-	places Places) (errs []error, values []any) {
+	index Index) (errs []error, values []any) {
 	add := func(err error, more ...any) { errs, values = append(errs, err), append(values, more...) }
 	add(objects.Put(ctx, "name", nil))
 	content, err := objects.Get(ctx, "name", 1)
@@ -86,10 +85,10 @@ func asksAll(ctx context.Context, objects Objects, current Current, register Reg
 	published, err := register.Published(ctx)
 	add(err, published)
 	add(register.Raise(ctx, published))
-	found, err := places.Find(ctx, nil)
+	found, err := index.Find(ctx, nil)
 	add(err, found)
-	add(places.Add(ctx, nil))
-	add(places.Replace(ctx, nil))
+	add(index.Add(ctx, nil))
+	add(index.Replace(ctx, nil))
 	return errs, values
 }
 
@@ -129,11 +128,11 @@ func TestCallsAreCounted(t *testing.T) {
 		"a number too large":             {context.Background(), ErrNumber, 0},
 	} {
 		calls, of := &Calls{}, &given{err: test.err, takes: time.Millisecond}
-		objects, register, places := calls.Objects(givenObjects{of}), calls.Register(givenRegister{of}),
-			calls.Places(givenPlaces{of, &givenPlaces{of, nil}})
+		objects, register, index := calls.Objects(givenObjects{of}), calls.Register(givenRegister{of}),
+			calls.Index(givenIndex{of})
 		began := time.Now()
 		for i := 0; i < 2; i++ {
-			errs, values := asksAll(test.ctx, objects, calls.Current(givenCurrent{of}), register, places)
+			errs, values := asksAll(test.ctx, objects, calls.Current(givenCurrent{of}), register, index)
 			for i, err := range errs {
 				if err != test.err {
 					t.Errorf("%s: %s gives %v", what, want[i], err)
@@ -163,10 +162,9 @@ func TestCallsAreCounted(t *testing.T) {
 }
 
 // TestCountedStores: a store that is counted is closed, says what time it is as it does itself, and says nothing that
-// it doesn't; leaves' places count as the others do.
+// it doesn't. A look-up by leaf hash counts as the others do.
 func TestCountedStores(t *testing.T) {
 	calls, of := &Calls{}, &given{}
-	leaves := &givenPlaces{of, nil}
 	timed := func(store any, is bool) {
 		t.Helper()
 		one, tells := store.(Timed)
@@ -199,27 +197,28 @@ func TestCountedStores(t *testing.T) {
 			}
 		}
 	}
-	own := givenPlaces{of, leaves}
 	for _, each := range []struct {
-		of    Places
+		of    Index
 		tells bool
 	}{
-		{own, false},
+		{givenIndex{of}, false},
 		{struct {
-			givenPlaces
+			givenIndex
 			givenTime
-		}{own, givenTime{}}, true},
+		}{givenIndex{of}, givenTime{}}, true},
 	} {
-		places := calls.Places(each.of)
-		timed(places, each.tells)
-		must(t, places.Leaves().Add(limited(t), nil))
-		if err := places.Close(); err == nil || err.Error() != "closed" {
-			t.Errorf("they aren't closed: %v", err)
+		index := calls.Index(each.of)
+		timed(index, each.tells)
+		if found, err := index.FindLeaves(limited(t), nil); err != nil || found[Identity{4}] != (Place{5, 6}) {
+			t.Errorf("%v, %v", found, err)
+		}
+		if err := index.Close(); err == nil || err.Error() != "closed" {
+			t.Errorf("it isn't closed: %v", err)
 		}
 	}
 	for _, call := range calls.All() {
 		due := uint64(0)
-		if call.Store == "index" && call.Name == "add" {
+		if call.Store == "index" && call.Name == "find" {
 			due = 2
 		}
 		if call.Count != due {

@@ -41,13 +41,13 @@ func openDisk(root string) (*disk, error) {
 	if err := MakeFolder(filepath.Join(root, temporary)); err != nil {
 		return nil, err
 	}
-	if err := syncFolder(filepath.Dir(root)); err != nil {
+	if err := SyncFolder(filepath.Dir(root)); err != nil {
 		return nil, err
 	}
 	if err := d.sweep(); err != nil {
 		return nil, err
 	}
-	return d, syncFolder(root)
+	return d, SyncFolder(root)
 }
 
 // MakeFolder makes a folder and those above it where they aren't there, and writes the names of those that it made to
@@ -66,7 +66,7 @@ func MakeFolder(path string) error {
 	if err != nil {
 		return fmt.Errorf("stores: folder: %w", err)
 	}
-	return syncFolder(filepath.Dir(path))
+	return SyncFolder(filepath.Dir(path))
 }
 
 // sweep takes away the files of writers that were killed.
@@ -116,14 +116,14 @@ func (d *disk) write(content []byte) (path string, err error) {
 
 // keep sees to it that a folder below the root is on the disk, with all names on the way to it.
 func (d *disk) keep(folder string) error {
-	if err := syncFolder(folder); err != nil {
+	if err := SyncFolder(folder); err != nil {
 		return err
 	}
 	var walked []string
 	for folder != d.root && !d.isSynced(folder) {
 		walked = append(walked, folder)
 		folder = filepath.Dir(folder)
-		if err := syncFolder(folder); err != nil {
+		if err := SyncFolder(folder); err != nil {
 			return err
 		}
 	}
@@ -156,7 +156,8 @@ func (d *disk) forget(folder string) {
 	delete(d.synced, folder)
 }
 
-func syncFolder(path string) error {
+// SyncFolder has the names in a folder written to the disk.
+func SyncFolder(path string) error {
 	folder, err := os.Open(path)
 	if err != nil {
 		return fmt.Errorf("stores: folder: %w", err)

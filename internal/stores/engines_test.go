@@ -94,35 +94,14 @@ var registers = []implementation[Register]{
 		}},
 }
 
-var identityStores = []implementation[Places]{
-	{name: "sqlite", folder: true,
-		open: func(ctx context.Context, place string) (Places, error) {
-			return OpenSQLite(ctx, filepath.Join(place, "places.db"))
-		}},
+var indexes = []implementation[Index]{
+	{name: "leveldb", folder: true, open: levelOpens.opening(levelOptions)},
+	// With small buffers, LevelDB writes and merges tables all the time.
+	{name: "leveldb-small", folder: true, open: levelOpens.opening(smallOptions())},
 	{name: "postgres", missing: wants(postgresURL, "postgresql"),
-		open: func(ctx context.Context, place string) (Places, error) {
-			return OpenPostgresPlaces(ctx, Postgres{postgresURL, place})
+		open: func(ctx context.Context, place string) (Index, error) {
+			return OpenPostgresIndex(ctx, Postgres{postgresURL, place})
 		}},
-}
-
-// placeStores are the stores of identities, and the stores of leaves after them.
-var placeStores = withLeaves(identityStores)
-
-func withLeaves(identities []implementation[Places]) []implementation[Places] {
-	all := append([]implementation[Places]{}, identities...)
-	for _, of := range identities {
-		open := of.open
-		of.name += "-leaves"
-		of.open = func(ctx context.Context, place string) (Places, error) {
-			identities, err := open(ctx, place)
-			if err != nil {
-				return nil, err
-			}
-			return identities.Leaves(), nil
-		}
-		all = append(all, of)
-	}
-	return all
 }
 
 // tried is a store under test, with its place and a function that opens it again.

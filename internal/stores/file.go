@@ -87,7 +87,7 @@ func (f *file) raw(name string) (string, error) {
 // keep syncs the text that was read to the disk, since the process that wrote it may have been killed before its own
 // sync. If the file system is read-only, nothing can be lost.
 func (f *file) keep() error {
-	if err := syncFolder(f.disk.root); err != nil && !errors.Is(err, syscall.EROFS) {
+	if err := SyncFolder(f.disk.root); err != nil && !errors.Is(err, syscall.EROFS) {
 		return fmt.Errorf("stores: register: %w", err)
 	}
 	return nil
@@ -158,7 +158,7 @@ func (f *file) set(name, content string) error {
 	if err := os.Rename(whole, f.path(name)); err != nil {
 		return fmt.Errorf("stores: register: %w", err)
 	}
-	if err := syncFolder(f.disk.root); err != nil {
+	if err := SyncFolder(f.disk.root); err != nil {
 		return fmt.Errorf("%w: %v", ErrUnknown, err)
 	}
 	return nil

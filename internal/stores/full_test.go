@@ -9,6 +9,8 @@ import (
 	"strings"
 	"syscall"
 	"testing"
+
+	"github.com/syndtr/goleveldb/leveldb/opt"
 )
 
 // smallDisk is a file system in memory of so many bytes; only root can mount one.
@@ -92,28 +94,38 @@ func TestFileOnAFullDisk(t *testing.T) {
 	standsAs(t, register, long, 6)
 }
 
-func TestSQLiteOnAFullDisk(t *testing.T) {
-	disk, ctx := smallDisk(t, 4<<20), limited(t)
-	store, err := OpenSQLite(ctx, filepath.Join(disk, "places.db"))
-	must(t, err)
-	defer store.Close()
-	_, all, want := someOf(0, 500)
-	must(t, store.Add(ctx, all))
-	room := fill(t, disk)
-	kept := 500
-	for ; err == nil && kept < 500_000; kept += 500 {
-		_, more, _ := someOf(kept, kept+500)
-		err = store.Add(ctx, more)
+func TestLevelDBOnAFullDisk(t *testing.T) {
+	for name, options := range map[string]opt.Options{"in the journal": levelOptions, "in a table": smallOptions()} {
+		t.Run(name, func(t *testing.T) {
+			disk, ctx := smallDisk(t, 4<<20), limited(t)
+			store, err := openLevelDB(ctx, filepath.Join(disk, "index"), options, openLevelFiles)
+			must(t, err)
+			defer store.Close()
+			_, all, want := someOf(0, 500)
+			must(t, store.Add(ctx, all))
+			room := fill(t, disk)
+			kept := 500
+			for ; err == nil && kept < 500_000; kept += 500 {
+				_, more, _ := someOf(kept, kept+500)
+				err = store.Add(ctx, more)
+			}
+			asked, _, _ := someOf(0, 500)
+			// Nothing can be written when it is opened again, either.
+			for range 3 {
+				if !isFull(err) || !strings.Contains(err.Error(), disk) {
+					t.Fatalf("behind %d rows: %v", kept, err)
+				}
+				finds(t, store, asked, want)
+				err = store.Add(ctx, []Row{rowAt(500_000)})
+			}
+			finds(t, store, []Identity{identity(600_000)}, map[Identity]Place{})
+			room()
+			last := kept - 500
+			_, more, wanted := someOf(last, kept)
+			must(t, store.Add(ctx, more))
+			finds(t, store, asked, want)
+			asked, _, _ = someOf(last, kept)
+			finds(t, store, asked, wanted)
+		})
 	}
-	if err == nil || !strings.Contains(err.Error(), "full") {
-		t.Fatalf("behind %d places: %v", kept, err)
-	}
-	asked, _, _ := someOf(0, 500)
-	finds(t, store, asked, want)
-	room()
-	last := kept - 500
-	_, more, want := someOf(last, kept)
-	must(t, store.Add(ctx, more))
-	asked, _, _ = someOf(last, kept)
-	finds(t, store, asked, want)
 }

@@ -47,7 +47,7 @@ func keepFile(path string, content []byte, mode fs.FileMode) error {
 		os.Remove(file.Name())
 		return fmt.Errorf("stores: keep: %w", err)
 	}
-	return syncFolder(filepath.Dir(path))
+	return SyncFolder(filepath.Dir(path))
 }
 
 // halfKept is part of the names of temporary files that KeepFile and ShowFile have not renamed yet.

@@ -35,7 +35,7 @@ func write(words []string) error {
 	ctx, cancel := context.WithTimeout(context.Background(), trial.Longest)
 	defer cancel()
 	make := map[string]func(context.Context, string, string) (writer, error){"objects": objectWriter,
-		"register": registerWriter, "places": placeWriter}
+		"register": registerWriter, "index": indexWriter}
 	do, err := make[words[0]](ctx, words[1], words[2])
 	if err != nil {
 		return err
@@ -87,8 +87,8 @@ func registerWriter(ctx context.Context, name, place string) (writer, error) {
 // perWrite is how many identities one write has.
 const perWrite = 7
 
-func placeWriter(ctx context.Context, name, place string) (writer, error) {
-	store, err := find(ctx, placeStores, name, place)
+func indexWriter(ctx context.Context, name, place string) (writer, error) {
+	store, err := find(ctx, indexes, name, place)
 	return func(ctx context.Context, i int) error {
 		_, all, _ := someOf(perWrite*i, perWrite*(i+1))
 		return store.Add(ctx, all)
@@ -167,19 +167,21 @@ func TestRegisterOutlivesKills(t *testing.T) {
 	})
 }
 
-func TestPlacesOutliveKills(t *testing.T) {
-	eachOf(t, placeStores, func(t *testing.T, at tried[Places]) {
-		at.opened(t)
+func TestIndexOutlivesKills(t *testing.T) {
+	eachOf(t, indexes, func(t *testing.T, at tried[Index]) {
+		store := at.opened(t)
 		last := 0
 		for kill := 0; kill < kills; kill++ {
-			last = killing(t, "places", at.name, at.place, last+1)
-			store := at.opened(t)
-			must(t, parts(perWrite*last, MaxPlaces, func(from, to int) error {
+			// (one process at a time can have LevelDB open)
+			must(t, store.Close())
+			last = killing(t, "index", at.name, at.place, last+1)
+			store = at.opened(t)
+			must(t, parts(perWrite*last, MaxRows, func(from, to int) error {
 				asked, _, want := someOf(perWrite+from, perWrite+to)
 				finds(t, store, asked, want)
 				return nil
 			}))
 		}
-		t.Logf("%s: %d places, %d kills", at.name, perWrite*last, kills)
+		t.Logf("%s: %d rows, %d kills", at.name, perWrite*last, kills)
 	})
 }

@@ -92,28 +92,38 @@ func checkNumbers(numbers ...uint64) error {
 	return nil
 }
 
-// firsts checks a list of index entries, and returns the first entry of each identity.
-func firsts(placed []Placed) ([]Placed, error) {
-	if len(placed) > MaxPlaces {
-		return nil, fmt.Errorf("%w: %d places", ErrTooLong, len(placed))
+// firsts checks rows, and returns the first place of each identity and of each leaf hash, in the order of the list.
+func firsts(rows []Row) (identities, leaves []keyed, err error) {
+	if len(rows) > MaxRows {
+		return nil, nil, fmt.Errorf("%w: %d rows", ErrTooLong, len(rows))
 	}
-	seen := make(map[Identity]bool, len(placed))
-	first := make([]Placed, 0, len(placed))
-	for _, p := range placed {
-		if err := checkNumbers(p.Place.Index, p.Place.Timestamp); err != nil {
-			return nil, err
+	seenIdentities, seenLeaves := make(map[Identity]bool, len(rows)), make(map[Identity]bool, len(rows))
+	for i := range rows {
+		r := &rows[i]
+		if err := checkNumbers(r.Place.Index, r.Place.Timestamp); err != nil {
+			return nil, nil, err
 		}
-		if !seen[p.Identity] {
-			seen[p.Identity] = true
-			first = append(first, p)
+		if !seenIdentities[r.Identity] {
+			seenIdentities[r.Identity] = true
+			identities = append(identities, keyed{r.Identity, r.Place})
+		}
+		if !seenLeaves[r.Leaf] {
+			seenLeaves[r.Leaf] = true
+			leaves = append(leaves, keyed{r.Leaf, r.Place})
 		}
 	}
-	return first, nil
+	return identities, leaves, nil
+}
+
+// keyed is one row of one of an index's two tables.
+type keyed struct {
+	key   Identity
+	place Place
 }
 
 // distinct checks a list of identities, and gives each once.
 func distinct(identities []Identity) ([]Identity, error) {
-	if len(identities) > MaxPlaces {
+	if len(identities) > MaxRows {
 		return nil, fmt.Errorf("%w: %d identities", ErrTooLong, len(identities))
 	}
 	seen := make(map[Identity]bool, len(identities))

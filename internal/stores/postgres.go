@@ -133,7 +133,7 @@ func (p *inPostgres) Time(ctx context.Context) (time.Time, time.Duration, error)
 }
 
 // Time is Timed's.
-func (p *placesInPostgres) Time(ctx context.Context) (time.Time, time.Duration, error) {
+func (p *indexInPostgres) Time(ctx context.Context) (time.Time, time.Duration, error) {
 	return timeOf(ctx, p.db)
 }
 
@@ -254,34 +254,46 @@ func (p *inPostgres) Raise(ctx context.Context, published Published) error {
 
 func (p *inPostgres) Close() error { return p.db.Close() }
 
-// placesInPostgres keeps a row for each identity.
-type placesInPostgres struct {
+// indexInPostgres keeps a row for each identity, and another one for each leaf hash.
+type indexInPostgres struct {
 	db  *sql.DB
 	log string
-	// table is ct_places, or ct_leaves.
-	table string
 }
 
-// OpenPostgresPlaces opens the places of a log.
-func OpenPostgresPlaces(ctx context.Context, at Postgres) (Places, error) {
+// The tables of an index.
+const (
+	identityTable = "ct_places"
+	leafTable     = "ct_leaves"
+)
+
+// OpenPostgresIndex opens the index of a log.
+func OpenPostgresIndex(ctx context.Context, at Postgres) (Index, error) {
 	db, err := at.open(ctx)
 	if err != nil {
 		return nil, err
 	}
-	return &placesInPostgres{db, at.Log, "ct_places"}, nil
+	return &indexInPostgres{db, at.Log}, nil
 }
 
-func (p *placesInPostgres) Find(ctx context.Context, identities []Identity) (map[Identity]Place, error) {
-	identities, err := distinct(identities)
+func (p *indexInPostgres) Find(ctx context.Context, identities []Identity) (map[Identity]Place, error) {
+	return p.find(ctx, identityTable, identities)
+}
+
+func (p *indexInPostgres) FindLeaves(ctx context.Context, hashes []Identity) (map[Identity]Place, error) {
+	return p.find(ctx, leafTable, hashes)
+}
+
+func (p *indexInPostgres) find(ctx context.Context, table string, keys []Identity) (map[Identity]Place, error) {
+	keys, err := distinct(keys)
 	if err != nil {
 		return nil, err
 	}
-	asked := make(pq.ByteaArray, len(identities))
-	for i := range identities {
-		asked[i] = identities[i][:]
+	asked := make(pq.ByteaArray, len(keys))
+	for i := range keys {
+		asked[i] = keys[i][:]
 	}
 	return within(ctx, func() (map[Identity]Place, error) {
-		some := "select identity, index, timestamp from " + p.table + " where log = $1 and identity = any($2)"
+		some := "select identity, index, timestamp from " + table + " where log = $1 and identity = any($2)"
 		rows, err := p.db.QueryContext(ctx, some, p.log, asked)
 		if err != nil {
 			return nil, fmt.Errorf("stores: PostgreSQL: find: %w", err)
@@ -312,35 +324,41 @@ func scanPlaces(rows *sql.Rows) (map[Identity]Place, error) {
 	return found, nil
 }
 
-func (p *placesInPostgres) Add(ctx context.Context, placed []Placed) error {
-	return p.add(ctx, placed, "add", "nothing")
+func (p *indexInPostgres) Add(ctx context.Context, rows []Row) error {
+	return p.add(ctx, rows, "add", "nothing")
 }
 
-func (p *placesInPostgres) Replace(ctx context.Context, placed []Placed) error {
-	return p.add(ctx, placed, "replace", "update set index = excluded.index, timestamp = excluded.timestamp")
+func (p *indexInPostgres) Replace(ctx context.Context, rows []Row) error {
+	return p.add(ctx, rows, "replace", "update set index = excluded.index, timestamp = excluded.timestamp")
 }
 
-// add adds rows. onConflict says what happens if an identity has a row already.
-func (p *placesInPostgres) add(ctx context.Context, placed []Placed, what, onConflict string) error {
-	placed, err := firsts(placed)
-	if err != nil || len(placed) == 0 {
+// add adds rows to both tables by one statement, which is one transaction. onConflict says what happens if one has a
+// place already.
+func (p *indexInPostgres) add(ctx context.Context, rows []Row, what, onConflict string) error {
+	identities, leaves, err := firsts(rows)
+	if err != nil || len(rows) == 0 {
 		return err
 	}
-	identities, indexes, timestamps := make(pq.ByteaArray, len(placed)), make(pq.Int64Array, len(placed)),
-		make(pq.Int64Array, len(placed))
-	for i := range placed {
-		identities[i] = placed[i].Identity[:]
-		indexes[i], timestamps[i] = int64(placed[i].Place.Index), int64(placed[i].Place.Timestamp)
+	values := append(append([]any{p.log}, columns(identities)...), columns(leaves)...)
+	// In the order of keys, so that of two such calls neither waits for the other.
+	into := func(table string, from int) string {
+		return fmt.Sprintf("insert into %s select $1, i, n, t from unnest($%d::bytea[], $%d::bigint[], $%d::bigint[]) "+
+			"as u(i, n, t) order by i on conflict (log, identity) do %s", table, from, from+1, from+2, onConflict)
 	}
-	// In the order of identities, so that of two such calls neither waits for the other.
-	add := "insert into " + p.table +
-		` select $1, i, n, t from unnest($2::bytea[], $3::bigint[], $4::bigint[]) as u(i, n, t) order by i on conflict (log, identity) do ` + onConflict
-	if _, err = uncancelled(ctx, p.db, add, p.log, identities, indexes, timestamps); err != nil {
+	add := "with identities as (" + into(identityTable, 2) + ") " + into(leafTable, 5)
+	if _, err = uncancelled(ctx, p.db, add, values...); err != nil {
 		return fmt.Errorf("stores: PostgreSQL: %s: %w", what, err)
 	}
 	return nil
 }
 
-func (p *placesInPostgres) Leaves() Places { return &placesInPostgres{p.db, p.log, "ct_leaves"} }
+// columns returns the values of a table's rows by columns.
+func columns(of []keyed) []any {
+	keys, indexes, timestamps := make(pq.ByteaArray, len(of)), make(pq.Int64Array, len(of)), make(pq.Int64Array, len(of))
+	for i := range of {
+		keys[i], indexes[i], timestamps[i] = of[i].key[:], int64(of[i].place.Index), int64(of[i].place.Timestamp)
+	}
+	return []any{keys, indexes, timestamps}
+}
 
-func (p *placesInPostgres) Close() error { return p.db.Close() }
+func (p *indexInPostgres) Close() error { return p.db.Close() }

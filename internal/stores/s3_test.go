@@ -199,10 +199,10 @@ func TestPostgresSaysTheTime(t *testing.T) {
 	register, err := OpenPostgres(limited(t), Postgres{postgresURL, "time"})
 	must(t, err)
 	defer register.Close()
-	places, err := OpenPostgresPlaces(limited(t), Postgres{postgresURL, "time"})
+	index, err := OpenPostgresIndex(limited(t), Postgres{postgresURL, "time"})
 	must(t, err)
-	defer places.Close()
-	for _, store := range []Timed{register.(Timed), places.(Timed)} {
+	defer index.Close()
+	for _, store := range []Timed{register.(Timed), index.(Timed)} {
 		before := time.Now()
 		at, within, err := store.Time(limited(t))
 		if !errors.Is(err, ErrSameMachine) || at.Before(before.Add(-within)) || at.After(time.Now().Add(within)) {
@@ -223,10 +223,10 @@ func TestPostgresSessions(t *testing.T) {
 		register, err := OpenPostgres(limited(t), Postgres{postgresURL + " " + said, "sessions"})
 		must(t, err)
 		defer register.Close()
-		places, err := OpenPostgresPlaces(limited(t), Postgres{postgresURL + " " + said, "sessions"})
+		index, err := OpenPostgresIndex(limited(t), Postgres{postgresURL + " " + said, "sessions"})
 		must(t, err)
-		defer places.Close()
-		for _, db := range []*sql.DB{register.(*inPostgres).db, places.(*placesInPostgres).db} {
+		defer index.Close()
+		for _, db := range []*sql.DB{register.(*inPostgres).db, index.(*indexInPostgres).db} {
 			var commit, timeout string
 			must(t, db.QueryRowContext(limited(t),
 				"select current_setting('synchronous_commit'), current_setting('statement_timeout')").Scan(
@@ -246,7 +246,7 @@ func TestPostgresThatKeepsNothing(t *testing.T) {
 	if _, err := OpenPostgres(limited(t), at); !errors.Is(err, ErrUnsafe) {
 		t.Errorf("synchronous_commit is off: %v", err)
 	}
-	if _, err := OpenPostgresPlaces(limited(t), at); !errors.Is(err, ErrUnsafe) {
+	if _, err := OpenPostgresIndex(limited(t), at); !errors.Is(err, ErrUnsafe) {
 		t.Errorf("synchronous_commit is off: %v", err)
 	}
 }

@@ -72,12 +72,11 @@ func TestSilentEngines(t *testing.T) {
 		whilePaused(t, at.name, func(ctx context.Context) error { return register.Swap(ctx, "text", "other text") })
 		whilePaused(t, at.name, func(ctx context.Context) error { _, err := register.Read(ctx); return err })
 	})
-	inTurn(t, identityStores, func(t *testing.T, at tried[Places]) {
+	inTurn(t, indexes, func(t *testing.T, at tried[Index]) {
 		store := at.opened(t)
-		whilePaused(t, at.name, func(ctx context.Context) error { return store.Add(ctx, []Placed{placed(1)}) })
+		whilePaused(t, at.name, func(ctx context.Context) error { return store.Add(ctx, []Row{rowAt(1)}) })
 		whilePaused(t, at.name, func(ctx context.Context) error {
-			_,
-				err := store.Find(ctx, []Identity{identity(1)})
+			_, err := store.Find(ctx, []Identity{identity(1)})
 			return err
 		})
 	})

@@ -19,8 +19,8 @@ const (
 	MaxListed = 1000
 	// MaxText is how many bytes the register's text may have.
 	MaxText = 64 << 10
-	// MaxPlaces is how many identities one call looks up, or adds.
-	MaxPlaces = 4096
+	// MaxRows is how many identities one call looks up, and how many rows it adds.
+	MaxRows = 4096
 	// MaxNumber is the largest published size, index and timestamp. The bigint of an SQL database can hold it.
 	MaxNumber = 1<<63 - 1
 )
@@ -45,6 +45,10 @@ var (
 	ErrExists = errors.New("stores: the register exists already")
 	// ErrUnknown: the call may have been done, may not, or may yet be.
 	ErrUnknown = errors.New("stores: outcome unknown")
+	// ErrInUse: another process has the index open.
+	ErrInUse = errors.New("stores: in use by another process")
+	// ErrDamaged: a file of the index is missing, or its bytes are not those that were written.
+	ErrDamaged = errors.New("stores: damaged")
 	// ErrUnsafe: an engine is set so that it doesn't keep what it acknowledges.
 	ErrUnsafe = errors.New("stores: the engine's settings may lose what it acknowledges")
 )
@@ -124,29 +128,34 @@ type Place struct {
 	Index, Timestamp uint64
 }
 
-// Placed is an identity and its place.
-type Placed struct {
+// Row is an entry in the index: what its submission and its leaf are known by, and its place.
+type Row struct {
 	Identity Identity
-	Place    Place
+	// Leaf is the hash of the entry's leaf (RFC 6962, section 2.1).
+	Leaf  Identity
+	Place Place
 }
 
-// Places is the index of identities. With it, a duplicate submission is answered with the place of the first one. The
-// engine must promise that what was added and acknowledged is found by every Find that begins later, even if processes
-// are killed or power fails, and that it finds nothing that was not added. The places that it finds need not be
-// correct, since they are checked with an inclusion proof. If it loses identities, duplicates get into the log, and
+// Index is the deduplication index. It finds the place of an entry by the identity of its submission, so that a
+// duplicate is answered with the place of the first one, and by the hash of its leaf. Identities and leaf hashes are
+// two tables: neither is found in the other.
+//
+// The engine must promise that what was added and acknowledged is found by every Find that begins later, even if
+// processes are killed or power fails, and that it finds nothing that was not added. The places that it finds need not
+// be correct, since they are checked with an inclusion proof. If it loses identities, duplicates get into the log, and
 // nothing else happens.
-type Places interface {
-	// Find returns the places of those of these identities that have one; at most MaxPlaces are asked for.
+type Index interface {
+	// Find returns the places of those of these identities that have one; at most MaxRows are asked for.
 	Find(ctx context.Context, identities []Identity) (map[Identity]Place, error)
-	// Add adds at most MaxPlaces identities. An identity that has a place, or occurs earlier in the list, keeps its
-	// first one. After an error some may have been added, and the call may be repeated.
-	Add(ctx context.Context, placed []Placed) error
-	// Replace sets the places of at most MaxPlaces identities, whatever they were. If an identity occurs twice in the
-	// list, its first place counts. After an error some may have been set, and the call may be repeated.
-	Replace(ctx context.Context, placed []Placed) error
-	// Leaves are the places of leaves by their hashes (RFC 6962, section 2.1), apart from those of identities. They close
-	// with these.
-	Leaves() Places
+	// FindLeaves is Find by the hashes of leaves.
+	FindLeaves(ctx context.Context, hashes []Identity) (map[Identity]Place, error)
+	// Add adds at most MaxRows rows. An identity or a leaf hash that has a place, or occurs earlier in the list, keeps
+	// its first one. After an error some may have been added, and the call may be repeated.
+	Add(ctx context.Context, rows []Row) error
+	// Replace sets the places of the identities and leaf hashes of at most MaxRows rows, whatever they were. If one
+	// occurs twice in the list, its first place counts. After an error some may have been set, and the call may be
+	// repeated.
+	Replace(ctx context.Context, rows []Row) error
 	Close() error
 }
 

@@ -1,7 +1,6 @@
-package stores
+package archive
 
 import (
-	"errors"
 	"os"
 	"os/exec"
 	"path/filepath"
@@ -48,8 +47,8 @@ const (
 	failKey   = "LOCKS_FAIL"
 )
 
-// TestLocksThatFailForAWhile has the file system's locks fail for a while, and then work again: the dedup index must
-// work again, too, without a new process.
+// TestLocksThatFailForAWhile has the file system's locks fail for a while, and then work again: the index of an archive
+// must work again, too, without a new process.
 func TestLocksThatFailForAWhile(t *testing.T) {
 	if os.Getenv(lockedKey) != "" {
 		beLocked(t)
@@ -77,31 +76,21 @@ func TestLocksThatFailForAWhile(t *testing.T) {
 
 // beLocked is the child.
 func beLocked(t *testing.T) {
-	ctx := limited(t)
-	one, err := OpenSQLite(ctx, os.Getenv(lockedKey))
-	trial.Must(t, err)
-	defer one.Close()
-	placed := func(i byte) []Placed {
-		return []Placed{{Identity: Identity{i}, Place: Place{Index: uint64(i), Timestamp: 7}}}
-	}
-	trial.Must(t, one.Add(ctx, placed(1)))
+	ctx, index := trial.Limited(t, trial.Longest), opened(t, os.Getenv(lockedKey))
+	trial.Must(t, index.add(ctx, 1, hashesOf(1, 2)))
 	trial.Must(t, os.WriteFile(os.Getenv(failKey), nil, 0o600))
 	failed := false
-	for i := byte(2); i < 20; i++ {
-		err := one.Add(ctx, placed(i))
-		_, unread := one.Find(ctx, []Identity{{1}})
+	for i := 2; i < 20; i++ {
+		err := index.add(ctx, uint64(i), hashesOf(i, i+1))
+		_, _, unread := index.find(ctx, hashOf(1))
 		failed = failed || err != nil || unread != nil
 	}
 	if failed {
 		t.Log("a lock failed")
 	}
 	trial.Must(t, os.Remove(os.Getenv(failKey)))
-	for i := byte(20); i < 40; i++ {
-		trial.Must(t, one.Add(ctx, placed(i)))
-		found, err := one.Find(ctx, []Identity{{1}, {i}})
-		if err == nil && len(found) != 2 {
-			err = errors.New("a place is missing")
-		}
-		trial.Must(t, err)
+	for i := 20; i < 40; i++ {
+		trial.Must(t, index.add(ctx, uint64(i), hashesOf(i, i+1)))
+		has(t, index, 1, i+1, 1, i)
 	}
 }

@@ -1,4 +1,4 @@
-package stores
+package archive
 
 import (
 	"context"
@@ -7,30 +7,31 @@ import (
 	"fmt"
 	"net/url"
 	"path/filepath"
-	"slices"
 	"strings"
 	"sync"
 	"time"
 
 	"github.com/mattn/go-sqlite3"
+
+	"wagtenib/bindings/go/wagtenib"
+	"wagtenib/internal/stores"
 )
 
-// maxVariables is how many values go into one statement.
-const maxVariables = 500
+// maxVariables is how many values go into one statement, and maxConnections how many connections one process has.
+const maxVariables, maxConnections = 500, 4
 
-// inSQLite keeps a row for each identity in a file. Several processes may use it at once, on one machine.
+// leafIndex finds the index of a leaf by its hash. It keeps a row for each leaf in a file of SQLite. A process that
+// serves the archive may use it beside the one that writes it.
 //
 // It asks of the file system what SQLite does (locks that exclude, fsync that keeps). The write-ahead log is synced at
 // each commit (synchronous=FULL): in that mode NORMAL would lose the last commits when power fails.
-type inSQLite struct {
+type leafIndex struct {
 	*database
-	// table is places, or leaves.
-	table string
-	// writes is held by who adds, to either table: SQLite has one at a time, and others look again after a while.
+	// writes is held by the one that adds: SQLite has one at a time, and others look again after a while.
 	writes chan struct{}
 }
 
-// database is a file that is open. Both tables share it.
+// database is a file that is open.
 type database struct {
 	source string
 	mu     sync.RWMutex
@@ -61,7 +62,7 @@ func init() {
 // open opens the file; the first statement uses it.
 func (d *database) open() (err error) {
 	if d.db, err = sql.Open(ofIndex, d.source); err != nil {
-		return fmt.Errorf("stores: SQLite: %w", err)
+		return fmt.Errorf("archive: SQLite: %w", err)
 	}
 	d.db.SetMaxOpenConns(maxConnections)
 	d.prepared = map[string]*sql.Stmt{}
@@ -117,14 +118,11 @@ func isBroken(err error) bool {
 // it remembers 2 MB.)
 const maxCached = 16 << 10
 
-// OpenSQLite opens the places in a file, and makes it where it isn't there.
-func OpenSQLite(ctx context.Context, path string) (Places, error) {
+// openLeafIndex opens the index in a file, and makes it where it isn't there.
+func openLeafIndex(ctx context.Context, path string) (*leafIndex, error) {
 	path, err := filepath.Abs(path)
 	if err != nil {
-		return nil, fmt.Errorf("stores: SQLite: %w", err)
-	}
-	if err := MakeFolder(filepath.Dir(path)); err != nil {
-		return nil, err
+		return nil, fmt.Errorf("archive: SQLite: %w", err)
 	}
 	settings := url.Values{"_synchronous": {"FULL"}, "_cache_size": {fmt.Sprint(-maxCached)}, "_busy_timeout": {"50"},
 		"_txlock": {"immediate"}}
@@ -134,23 +132,19 @@ func OpenSQLite(ctx context.Context, path string) (Places, error) {
 		return nil, err
 	}
 	err = of.unlessBusy(ctx, "table", func(db *sql.DB) error {
-		for _, table := range []string{"places", "leaves"} {
-			if _, err := db.ExecContext(ctx, `create table if not exists `+table+
-				` (identity blob primary key, "index" integer not null, timestamp integer not null) without rowid`); err != nil {
-				return err
-			}
-		}
-		return nil
+		_, err := db.ExecContext(ctx, `create table if not exists leaves `+
+			`(identity blob primary key, "index" integer not null, timestamp integer not null) without rowid`)
+		return err
 	})
 	if err != nil {
 		of.close()
 		return nil, fmt.Errorf("%w: the index in %s", err, path)
 	}
-	if err := syncFolder(filepath.Dir(path)); err != nil {
+	if err := stores.SyncFolder(filepath.Dir(path)); err != nil {
 		of.close()
 		return nil, err
 	}
-	return &inSQLite{of, "places", make(chan struct{}, 1)}, nil
+	return &leafIndex{of, make(chan struct{}, 1)}, nil
 }
 
 // unlessBusy does what others may keep from being done, again and again until the context ends. (SQLite's own waiting
@@ -177,78 +171,42 @@ func (d *database) unlessBusy(ctx context.Context, what string, do func(*sql.DB)
 			}
 		}
 		if err != nil {
-			return fmt.Errorf("stores: SQLite: %s: %w", what, err)
+			return fmt.Errorf("archive: SQLite: %s: %w", what, err)
 		}
 		return nil
 	}
 }
 
-// findWidths are how many identities the statements have that look them up. There are few, so that each is prepared
-// once.
-var findWidths = []int{1, 8, 64, maxVariables}
-
-// widened returns identities as values, the last one again and again up to one of the widths.
-func widened(identities []Identity) (values []any) {
-	for i := range identities {
-		values = append(values, identities[i][:])
-	}
-	width := findWidths[slices.IndexFunc(findWidths, func(width int) bool { return width >= len(identities) })]
-	for len(values) < width {
-		values = append(values, values[len(values)-1])
-	}
-	return values
-}
-
-func (s *inSQLite) Find(ctx context.Context, identities []Identity) (map[Identity]Place, error) {
-	identities, err := distinct(identities)
-	if err != nil {
-		return nil, err
-	}
-	found := map[Identity]Place{}
-	return found, parts(len(identities), maxVariables, func(from, to int) error {
-		values := widened(identities[from:to])
-		places := strings.Repeat(", ?", len(values))[2:]
-		return s.unlessBusy(ctx, "find", func(db *sql.DB) error {
-			find, err := s.statement(ctx, db, `select identity, "index", timestamp from `+s.table+
-				` where identity in (`+places+`)`)
-			if err != nil {
-				return err
-			}
-			rows, err := find.QueryContext(ctx, values...)
-			if err != nil {
-				return err
-			}
-			some, err := scanPlaces(rows)
-			for identity, place := range some {
-				found[identity] = place
-			}
+// find returns the index of a leaf, and false if there is none of this hash.
+func (l *leafIndex) find(ctx context.Context, hash wagtenib.Hash) (index uint64, ok bool, err error) {
+	err = l.unlessBusy(ctx, "find", func(db *sql.DB) error {
+		find, err := l.statement(ctx, db, `select "index" from leaves where identity = ?`)
+		if err != nil {
 			return err
-		})
+		}
+		err = find.QueryRowContext(ctx, hash[:]).Scan(&index)
+		if errors.Is(err, sql.ErrNoRows) {
+			return nil
+		}
+		ok = err == nil
+		return err
 	})
+	return index, ok, err
 }
 
-func (s *inSQLite) Add(ctx context.Context, placed []Placed) error {
-	placed, err := firsts(placed)
-	if err != nil || len(placed) == 0 {
-		return err
+// add adds the hashes of leaves from an index on, in one transaction. A hash that is there, or occurs earlier in the
+// list, keeps its index.
+func (l *leafIndex) add(ctx context.Context, from uint64, hashes []wagtenib.Hash) error {
+	if len(hashes) == 0 {
+		return nil
 	}
-	return s.unlessBusy(ctx, "add", func(db *sql.DB) error { return s.add(ctx, db, placed, "nothing") })
+	return l.unlessBusy(ctx, "add", func(db *sql.DB) error { return l.insert(ctx, db, from, hashes) })
 }
 
-func (s *inSQLite) Replace(ctx context.Context, placed []Placed) error {
-	placed, err := firsts(placed)
-	if err != nil || len(placed) == 0 {
-		return err
-	}
-	set := `update set "index" = excluded."index", timestamp = excluded.timestamp`
-	return s.unlessBusy(ctx, "replace", func(db *sql.DB) error { return s.add(ctx, db, placed, set) })
-}
-
-// add adds rows. onConflict says what happens if an identity has a row already.
-func (s *inSQLite) add(ctx context.Context, db *sql.DB, placed []Placed, onConflict string) error {
+func (l *leafIndex) insert(ctx context.Context, db *sql.DB, from uint64, hashes []wagtenib.Hash) error {
 	select {
-	case s.writes <- struct{}{}:
-		defer func() { <-s.writes }()
+	case l.writes <- struct{}{}:
+		defer func() { <-l.writes }()
 	case <-ctx.Done():
 		return ctx.Err()
 	}
@@ -257,23 +215,17 @@ func (s *inSQLite) add(ctx context.Context, db *sql.DB, placed []Placed, onConfl
 		return err
 	}
 	defer tx.Rollback()
-	err = parts(len(placed), maxVariables/3, func(from, to int) error {
-		values := make([]any, 0, 3*(to-from))
-		for i := range placed[from:to] {
-			one := &placed[from+i]
-			values = append(values, one.Identity[:], int64(one.Place.Index), int64(one.Place.Timestamp))
+	for at := 0; at < len(hashes); at += maxVariables / 2 {
+		some := hashes[at:min(at+maxVariables/2, len(hashes))]
+		values := make([]any, 0, 2*len(some))
+		for i := range some {
+			values = append(values, some[i][:], int64(from)+int64(at+i))
 		}
-		rows := strings.Repeat(", (?, ?, ?)", to-from)[2:]
-		_, err := tx.ExecContext(ctx, "insert into "+s.table+" values "+rows+" on conflict (identity) do "+
-			onConflict, values...)
-		return err
-	})
-	if err != nil {
-		return err
+		rows := strings.Repeat(", (?, ?, 0)", len(some))[2:]
+		if _, err := tx.ExecContext(ctx, "insert into leaves values "+rows+" on conflict (identity) do nothing",
+			values...); err != nil {
+			return err
+		}
 	}
 	return tx.Commit()
 }
-
-func (s *inSQLite) Leaves() Places { return &inSQLite{s.database, "leaves", s.writes} }
-
-func (s *inSQLite) Close() error { return s.close() }

@@ -1,0 +1,125 @@
+package main
+
+import (
+	"bytes"
+	"context"
+	"encoding/gob"
+	"fmt"
+	"net/http"
+	"net/http/httptest"
+	"strings"
+	"sync"
+
+	"wagtenib/internal/stores"
+)
+
+// sharedIndex is an index in a test's memory. The nodes of one log, which are other processes, ask for it over HTTP, as
+// they ask PostgreSQL elsewhere. Its address is shared:HOST:PORT.
+type sharedIndex struct {
+	mu                 sync.Mutex
+	identities, leaves map[stores.Identity]stores.Place
+}
+
+// indexCall is what a node asks for.
+type indexCall struct {
+	OfLeaves, Replaces bool
+	Keys               []stores.Identity
+	Rows               []stores.Row
+}
+
+const sharedKind = "shared:"
+
+func init() {
+	others := indexAt
+	indexAt = func(ctx context.Context, address string) (stores.Index, error) {
+		if at, is := strings.CutPrefix(address, sharedKind); is {
+			return indexClient("http://" + at), nil
+		}
+		return others(ctx, address)
+	}
+}
+
+// sharedIndex returns the address of an index that is empty at first.
+func (p *place) sharedIndex() string {
+	if p.shared == "" {
+		server := httptest.NewServer(&sharedIndex{identities: map[stores.Identity]stores.Place{},
+			leaves: map[stores.Identity]stores.Place{}})
+		p.t.Cleanup(server.Close)
+		p.shared = sharedKind + strings.TrimPrefix(server.URL, "http://")
+	}
+	return p.shared
+}
+
+func (s *sharedIndex) ServeHTTP(w http.ResponseWriter, r *http.Request) {
+	var call indexCall
+	if err := gob.NewDecoder(r.Body).Decode(&call); err != nil {
+		http.Error(w, err.Error(), http.StatusBadRequest)
+		return
+	}
+	s.mu.Lock()
+	defer s.mu.Unlock()
+	table := s.identities
+	if call.OfLeaves {
+		table = s.leaves
+	}
+	found := map[stores.Identity]stores.Place{}
+	for _, key := range call.Keys {
+		if place, ok := table[key]; ok {
+			found[key] = place
+		}
+	}
+	for _, row := range call.Rows {
+		if _, ok := s.identities[row.Identity]; !ok || call.Replaces {
+			s.identities[row.Identity] = row.Place
+		}
+		if _, ok := s.leaves[row.Leaf]; !ok || call.Replaces {
+			s.leaves[row.Leaf] = row.Place
+		}
+	}
+	// A node that was killed reads no answer.
+	_ = gob.NewEncoder(w).Encode(found)
+}
+
+// indexClient is the index at a URL.
+type indexClient string
+
+func (c indexClient) ask(ctx context.Context, call indexCall) (found map[stores.Identity]stores.Place, err error) {
+	var asked bytes.Buffer
+	if err := gob.NewEncoder(&asked).Encode(call); err != nil {
+		return nil, err
+	}
+	request, err := http.NewRequestWithContext(ctx, http.MethodPost, string(c), &asked)
+	if err != nil {
+		return nil, err
+	}
+	answer, err := http.DefaultClient.Do(request)
+	if err != nil {
+		return nil, err
+	}
+	defer answer.Body.Close()
+	if answer.StatusCode != http.StatusOK {
+		return nil, fmt.Errorf("the shared index: %s", answer.Status)
+	}
+	err = gob.NewDecoder(answer.Body).Decode(&found)
+	return found, err
+}
+
+func (c indexClient) Find(ctx context.Context, keys []stores.Identity) (map[stores.Identity]stores.Place, error) {
+	return c.ask(ctx, indexCall{Keys: keys})
+}
+
+func (c indexClient) FindLeaves(ctx context.Context, keys []stores.Identity) (map[stores.Identity]stores.Place, error) {
+	return c.ask(ctx, indexCall{Keys: keys, OfLeaves: true})
+}
+
+func (c indexClient) Add(ctx context.Context, rows []stores.Row) error {
+	_, err := c.ask(ctx, indexCall{Rows: rows})
+	return err
+}
+
+func (c indexClient) Replace(ctx context.Context, rows []stores.Row) error {
+	_, err := c.ask(ctx, indexCall{Rows: rows, Replaces: true})
+	return err
+}
+
+func (c indexClient) Close() error { return nil }
