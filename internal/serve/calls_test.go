@@ -223,8 +223,8 @@ func (i watchedIndex) Replace(ctx context.Context, rows []stores.Row) error {
 }
 
 // TestCallsOfAStep: if the node made the step before, and no fault is open, a step of one entry makes eight calls to
-// stores, and five of them wait for one another. If the heads were not listed for a while, they are listed beside these.
-// Before the step, the submission is looked up.
+// stores, and five of them wait for one another. If the heads were not listed for a while, they are listed beside the
+// swap. Before the step, the submission is looked up.
 func TestCallsOfAStep(t *testing.T) {
 	t.Parallel()
 	p, got, w := newPlace(t), &answers{}, &watch{beside: map[string]*group{}}

@@ -7,6 +7,7 @@ import (
 	"os/exec"
 	"path/filepath"
 	"regexp"
+	"slices"
 	"strings"
 	"testing"
 )
@@ -40,7 +41,7 @@ func TestPlanted(t *testing.T) {
 		t.Fatalf("SIM_ONLY: %v", err)
 	}
 	copies := &copies{folder: t.TempDir(), replaced: map[string]string{}}
-	for at, p := range all {
+	for at, p := range slices.Concat(all, remembered) {
 		if only.MatchString(p.name) {
 			copies.plant(t, at, p)
 		}
