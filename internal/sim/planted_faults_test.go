@@ -440,7 +440,8 @@ var missed = map[string]string{
 	"the seen head is forgotten": "a state is compared with the store's heads",
 	"a lock that is gone is made again": "an engine refuses to create a lock twice, and a new lock is older than " +
 		"the store's heads",
-	"the lock is not read if no submission waits": "the next swap is lost, and the lock is read after that",
+	"the lock is not read if no submission waits":  "the next swap is lost, and the lock is read after that",
+	"a state need not go on from the accepted one": "the guard approves no head of another list",
 	"heads are thinned by what the node knows": "none: the histories seldom have such pauses, and heads_test.go of the " +
 		"janitor finds it",
 }
