@@ -57,7 +57,7 @@ var levelOptions = opt.Options{
 	// the fewer times a row is written again.
 	CompactionTotalSize: 256 << 20,
 	// A table is one file. Its filter and its list of blocks are read as a whole, so it must not be large.
-	CompactionTableSize: 4 << 20,
+	CompactionTableSize: 2 << 20,
 	// Keys are random, so a table of one level overlaps ten of the next one, and that is no reason to split it.
 	CompactionGPOverlapsFactor: 40,
 	// Look-ups must not cause writes.
@@ -66,7 +66,7 @@ var levelOptions = opt.Options{
 	Filter: filter.NewBloomFilter(10),
 	// This bounds the memory for filters, lists of blocks and blocks, and the next one the open files.
 	BlockCacheCapacity:     32 << 20,
-	OpenFilesCacheCapacity: 128,
+	OpenFilesCacheCapacity: 256,
 	// Hashes cannot be compressed.
 	Compression: opt.NoCompression,
 	// inLevelDB has one writer.
