@@ -392,6 +392,23 @@ func TestDeliversEachOnce(t *testing.T) {
 	}
 }
 
+// idle is an Output that fails before it tries anything.
+type idle struct{ output }
+
+func (*idle) Send(context.Context, []alert.Alert) (sent, tried int, err error) {
+	return 0, 0, errors.New("it cannot be reached")
+}
+
+// TestOutputThatTriesNothing: if an output says that it tried no alert, the first one counts as tried.
+func TestOutputThatTriesNothing(t *testing.T) {
+	q := &queue{alerts: []alert.Alert{{ID: 7, Kind: alert.Silent, Log: &alert.Log{}},
+		{ID: 8, Kind: alert.Silent, Log: &alert.Log{}}}}
+	err := alert.Deliver(context.Background(), q, &idle{})
+	if err == nil || q.done != 0 || q.begun != 7 || q.fault == nil {
+		t.Errorf("%v: done %d, begun %d, fault %v", err, q.done, q.begun, q.fault)
+	}
+}
+
 // program writes a shell script that a test runs as a program.
 func program(t *testing.T, folder, name, script string) string {
 	t.Helper()

@@ -194,6 +194,9 @@ func TestGoesOnAfterAFailure(t *testing.T) {
 	if err != nil || !bytes.Equal(before, after) {
 		t.Error("the checkpoint goes before the tiles")
 	}
+	if _, err := os.Stat(filepath.Join(w.folder, "tile", "data", "000")); !errors.Is(err, fs.ErrNotExist) {
+		t.Errorf("a data tile goes before its issuers: %v", err)
+	}
 	w.log.Intercept(nil)
 	// (what was staged is lost, or damaged)
 	if err := os.WriteFile(filepath.Join(w.folder, ".staged", "tile", "data", "000"), []byte("damaged"),
@@ -248,4 +251,29 @@ func TestKeepsItsBytes(t *testing.T) {
 	if err := m.Accept(context.Background(), watch.Head{Signed: small.Checkpoint()}); !errors.Is(err, mirror.ErrAhead) {
 		t.Errorf("a head of fewer entries: %v", err)
 	}
+}
+
+// If a log has only the full tile of which a head has a part, the mirror keeps that part.
+func TestKeepsThePartOfAFullTile(t *testing.T) {
+	w := newWorld(t)
+	grow(w.log, 300)
+	full := w.log.Fork(300)
+	full.Publish(300, 10*full.Size())
+	w.log.Publish(100, 10*w.log.Size()+7)
+	w.log.Intercept(func(out http.ResponseWriter, r *http.Request) bool {
+		switch {
+		case strings.HasPrefix(r.URL.Path, "/tile/data/000.p/"):
+			http.NotFound(out, r)
+		case r.URL.Path == "/tile/data/000":
+			full.ServeHTTP(out, r)
+		default:
+			return false
+		}
+		return true
+	})
+	if err := w.pass(); err != nil {
+		t.Fatal(err)
+	}
+	w.log.Intercept(nil)
+	w.wantsMirrored(t, 100)
 }

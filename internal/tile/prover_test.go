@@ -139,8 +139,8 @@ func TestReadings(t *testing.T) {
 	}
 }
 
-// TestClientGoes: a client that goes away ends the reading for it, and its place is free again once the reading is done.
-// A client that is gone already asks for nothing, and if no place is free no client waits.
+// TestClientGoes: a client that goes away ends the reading for it, and its place is free again after the reading is
+// done. A client that is gone already asks for nothing, and if no place is free no client waits.
 func TestClientGoes(t *testing.T) {
 	asked, tile, done := make(chan context.Context, 4), sha256.Sum256([]byte{0, 0}), make(chan struct{})
 	isThere := false

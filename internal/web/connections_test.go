@@ -54,7 +54,8 @@ func TestConnectionsAreBounded(t *testing.T) {
 	}
 }
 
-// TestRefusedConnectionsDoNotCount: a connection that is refused since there are too many does not count for its address.
+// TestRefusedConnectionsDoNotCount: a connection that is refused because there are too many does not count for its
+// address.
 func TestRefusedConnectionsDoNotCount(t *testing.T) {
 	f := newFixture(t, 0, func(o *Options) {
 		o.Limits.Connections, o.Limits.ConnectionsByAddress, o.Limits.Reading = 2, 100, time.Hour

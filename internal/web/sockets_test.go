@@ -445,7 +445,7 @@ func TestTLS(t *testing.T) {
 		!bytes.Equal(state.PeerCertificates[0].Raw, certificate) {
 		t.Errorf("%v, %v", state, err)
 	}
-	if _, err := ask(&tls.Config{MaxVersion: tls.VersionTLS11}); err == nil {
+	if _, err := ask(&tls.Config{MinVersion: tls.VersionTLS10, MaxVersion: tls.VersionTLS11}); err == nil {
 		t.Error("TLS 1.1 is taken")
 	}
 	// (of a front of its own: the others' handshakes have no such time)

@@ -26,7 +26,8 @@ func TestStateThatARefusedRequestRead(t *testing.T) {
 	if w := posted(t, first, request(2, one.proof(t, 2, 3), sign(3))); w.Code != 200 {
 		t.Fatalf("%d %s", w.Code, w.Body)
 	}
-	// The other server of the witness, as in another process, has seen nothing yet. It refuses a request, and says which size it has seen.
+	// The other server of the witness, as in another process, has seen nothing yet. It refuses a request, and says
+	// which size it has seen.
 	if w := posted(t, second, request(0, nil, sign(4))); w.Code != 409 || w.Body.String() != "3\n" {
 		t.Fatalf("%d %s", w.Code, w.Body)
 	}
