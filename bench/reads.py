@@ -30,13 +30,13 @@ scgi_temp_path {folder}/scgi;
 
 
 class Nginx:
-    """nginx in front of a log, in a folder, with the example of its configuration (release/ctserve.nginx.conf)."""
+    """nginx in front of a log, in a folder, with the example of its configuration (release/nginx/ctserve.nginx.conf)."""
 
     def __init__(self, folder, log):
         folder.mkdir(mode=0o711)
         self.port, tls = free_port(), folder / NAME
         run("openssl", "req", "-x509", "-newkey", "ec", "-pkeyopt", "ec_paramgen_curve:P-256", "-nodes", "-keyout", f"{tls}.key", "-subj", f"/CN={NAME}", "-days", 30, "-out", f"{tls}.pem")
-        site = (HERE.parent / "release" / "ctserve.nginx.conf").read_text()
+        site = (HERE.parent / "release" / "nginx" / "ctserve.nginx.conf").read_text()
         changes = {"log.example.org": NAME, "/etc/ssl": str(folder), "listen 443": f"listen 127.0.0.1:{self.port}", "127.0.0.1:8618": log.url.removeprefix("http://"),
                    "/var/lib/nginx/ctserve": str(folder / "cache"), "limit_conn ctserve_clients 64": "limit_conn ctserve_clients 5000"}  # fmt: skip
         for old, new in changes.items():

@@ -16,8 +16,8 @@ began=$SECONDS
 [ "${1:-}" = race ] || export SIM_HISTORIES="${SIM_HISTORIES:-10000}"
 ./build.sh vet
 if command -v promtool >/dev/null; then
-  promtool check rules ../release/ctserve.rules.yml >/dev/null
-  promtool test rules ../release/ctserve.rules.test.yml >/dev/null
+  promtool check rules ../release/prometheus/ctserve.rules.yml >/dev/null
+  promtool test rules ../release/prometheus/ctserve.rules.test.yml >/dev/null
 fi
 if [ "${1:-}" = race ]; then
   ./build.sh test "" -race -timeout 2h -json | ./count.py

@@ -31,6 +31,14 @@ LINKED = ("ctserve", "ctwatch", "ctwitness")
 SERVICE = ("ctserve", "ctcheck", "ctread", "ctload", "ctwitness", "ctwatch")
 UNITS = ("ctserve@.service", "ctwitness@.service")
 WATCH_UNITS = ("ctwatch.service",)
+SHARED = (
+    "prometheus/prometheus.yml",
+    "prometheus/ctserve.rules.yml",
+    "prometheus/ctserve.dashboard.json",
+    "nginx/ctserve.nginx.conf",
+    "nginx/ctserve.folder.nginx.conf",
+    "Containerfile",
+)
 MACHINE, DEBIAN = "x86_64", "amd64"
 LIBRARY = "lib/x86_64-linux-gnu"
 HOMEPAGE = "https://wagtenib.example/"
@@ -136,7 +144,7 @@ class Release:
 
     def shared(self):
         """The files that an operator installs: Prometheus' settings, the alerts, the dashboard, and the recipe for an image."""
-        return {path.name: path for path in (ROOT / "release" / name for name in ("prometheus.yml", "ctserve.rules.yml", "ctserve.dashboard.json", "ctserve.nginx.conf", "ctserve.folder.nginx.conf", "Containerfile"))}
+        return {path.name: path for path in (ROOT / "release" / name for name in SHARED)}
 
     def pkg_config(self, prefix):
         return (ROOT / "include" / "wagtenib.pc.in").read_text().replace("@PREFIX@", prefix).replace("@VERSION@", self.version)
@@ -157,7 +165,7 @@ class Release:
         found.update(self.library_files("lib"))
         found["lib/pkgconfig/wagtenib.pc"] = (self.pkg_config("/usr/local").encode(), 0o644)
         found["include/wagtenib.h"] = ((ROOT / "include" / "wagtenib.h").read_bytes(), 0o644)
-        found.update({f"lib/systemd/system/{unit}": ((ROOT / "release" / unit).read_bytes(), 0o644) for unit in UNITS + WATCH_UNITS})
+        found.update({f"lib/systemd/system/{unit}": ((ROOT / "release" / "systemd" / unit).read_bytes(), 0o644) for unit in UNITS + WATCH_UNITS})
         found.update({f"share/wagtenib/{name}": (path.read_bytes(), 0o644) for name, path in self.shared().items()})
         found.update({f"share/doc/wagtenib/{name}": (path.read_bytes(), 0o644) for name, path in self.documents().items()})
         found["PROVED"] = (self.proved(found).encode(), 0o644)
@@ -215,7 +223,7 @@ class Release:
 
 def installed_units(names):
     """Units as a package has them: of the programs that it installs."""
-    texts = {name: (ROOT / "release" / name).read_text().replace("/usr/local/bin/", "/usr/bin/") for name in names}
+    texts = {name: (ROOT / "release" / "systemd" / name).read_text().replace("/usr/local/bin/", "/usr/bin/") for name in names}
     return {f"lib/systemd/system/{name}": (text.encode(), 0o644) for name, text in texts.items()}
 
 

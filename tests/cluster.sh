@@ -5,7 +5,7 @@
 #   cluster.sh status FOLDER         says what runs and what it said last
 #   cluster.sh stop FOLDER           ends it; ctcheck judges what it published and answered
 # ENGINES="postgres s3" keeps the lock in PostgreSQL instead, and ENGINES="" keeps all of the log in the folder. FRONT=yes has nginx in front of the nodes, with
-# release/ctserve.nginx.conf. RATE=20 is how many submissions the loader sends a second, 0 as many as are answered; LOAD=no starts neither it nor the reader.
+# release/nginx/ctserve.nginx.conf. RATE=20 is how many submissions the loader sends a second, 0 as many as are answered; LOAD=no starts neither it nor the reader.
 # BUILD=no takes the programs of cmd/out as they are.
 # One signer has the key, for all nodes. The log accepts the root in root.pem, whose key is in root.key, and the loader's own.
 set -eu
@@ -143,7 +143,7 @@ front() {
     for kind in client_body proxy fastcgi uwsgi scgi; do echo "${kind}_temp_path $folder/nginx/$kind;"; done
     sed "/ssl_certificate/d; s/listen 443 ssl http2;/listen 127.0.0.1:$1;/; s/server 127.0.0.1:8618;/$servers/
       s|proxy_cache_path /var/lib/nginx/ctserve |proxy_cache_path $folder/nginx/tiles |; s/proxy_next_upstream off;/proxy_next_upstream error timeout;/" \
-      "$here/../release/ctserve.nginx.conf"
+      "$here/../release/nginx/ctserve.nginx.conf"
     echo "}"
   } >"$folder/nginx/conf"
 }

@@ -20,12 +20,12 @@ import (
 	"testing"
 
 	"wagtenib/internal/check"
-	"wagtenib/internal/trial"
+	"wagtenib/internal/testutil"
 )
 
-var must = trial.Must
+var must = testutil.Must
 
-func TestMain(m *testing.M) { trial.Main(m, main) }
+func TestMain(m *testing.M) { testutil.Main(m, main) }
 
 // log is one of one leaf, whose certificate is longer than a line of a scanner is by itself.
 type log struct {
@@ -191,7 +191,7 @@ func TestRefusesOtherAnswers(t *testing.T) {
 // TestHelp: a request for help prints what each argument is on standard output, with status 0.
 func TestHelp(t *testing.T) {
 	for _, words := range [][]string{{"--help"}, {"-h"}, {"help"}, {"evidence", "--help"}} {
-		status, out, problem := trial.Runs(t, words...)
+		status, out, problem := testutil.Runs(t, words...)
 		if status != 0 || problem != "" {
 			t.Errorf("%q: status %d and %q", words, status, problem)
 		}
@@ -222,7 +222,7 @@ func TestStatus(t *testing.T) {
 		{nil, 2, "", "ctcheck FOLDER"},
 		{[]string{"--version"}, 0, "ctcheck ", ""},
 	} {
-		if status, out, problem := trial.Runs(t, of.words...); status != of.status || !strings.HasPrefix(out, of.out) ||
+		if status, out, problem := testutil.Runs(t, of.words...); status != of.status || !strings.HasPrefix(out, of.out) ||
 			(of.out == "") != (out == "") ||
 			!strings.Contains(problem, of.problem) || (of.problem == "") != (problem == "") {
 			t.Errorf("%q: status %d, %q and %q", of.words, status, out, problem)

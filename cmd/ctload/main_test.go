@@ -19,13 +19,13 @@ import (
 	"time"
 
 	"wagtenib/internal/check"
-	"wagtenib/internal/trial"
+	"wagtenib/internal/testutil"
 	"wagtenib/internal/web/standin"
 )
 
-var must = trial.Must
+var must = testutil.Must
 
-func limited(t testing.TB) context.Context { return trial.Limited(t, trial.Longest) }
+func limited(t testing.TB) context.Context { return testutil.Limited(t, testutil.Longest) }
 
 // node is a node of a log that answers as the test says.
 type node struct {
@@ -297,7 +297,7 @@ func TestAll(t *testing.T) {
 		right(nth, w)
 	})
 	l, _ = loadOf(t, refuses)
-	asks := time.AfterFunc(trial.Longest, func() { l.mu.Lock(); defer l.mu.Unlock(); l.most = 1 })
+	asks := time.AfterFunc(testutil.Longest, func() { l.mu.Lock(); defer l.mu.Unlock(); l.most = 1 })
 	defer asks.Stop()
 	err := l.all(limited(t), 3, time.Minute)
 	if err == nil || !strings.Contains(err.Error(), ": 400: ") {

@@ -17,10 +17,10 @@ import (
 	"time"
 
 	"wagtenib/internal/check"
-	"wagtenib/internal/trial"
+	"wagtenib/internal/testutil"
 )
 
-func TestMain(m *testing.M) { trial.Main(m, main) }
+func TestMain(m *testing.M) { testutil.Main(m, main) }
 
 // TestProgram: its root is added to the file before the command that has nodes read it, its certificates end on the day
 // that is given, and what is answered is added to the answers.
@@ -52,7 +52,7 @@ func TestProgram(t *testing.T) {
 	defer server.Close()
 	words := []string{"--nodes", server.URL, "--roots", roots, "--answers", answers, "--clients", "1", "--most", "6",
 		"--repeats", "0", "--not-after", "2027-03-01", "--reload", "cp " + roots + " " + reloaded}
-	status, out, problem := trial.Runs(t, words...)
+	status, out, problem := testutil.Runs(t, words...)
 	if asked.Load() < 2 {
 		t.Error("its root isn't waited for")
 	}
@@ -90,12 +90,12 @@ func TestProgram(t *testing.T) {
 		{append(words, "word"), `unexpected argument "word"`},
 		{append(words, "--ready", "-1"), "--ready is a number from 0"},
 	} {
-		if status, out, problem := trial.Runs(t, of.words...); status != 1 || out != "" ||
+		if status, out, problem := testutil.Runs(t, of.words...); status != 1 || out != "" ||
 			!strings.Contains(problem, of.says) || submitted.Load() != 6 {
 			t.Errorf("%q: status %d, %q and %q", of.says, status, out, problem)
 		}
 	}
-	if status, out, _ := trial.Runs(t, "--version"); status != 0 || !strings.HasPrefix(out, "ctload ") {
+	if status, out, _ := testutil.Runs(t, "--version"); status != 0 || !strings.HasPrefix(out, "ctload ") {
 		t.Errorf("--version: status %d, %q", status, out)
 	}
 }
@@ -123,12 +123,12 @@ func TestTimed(t *testing.T) {
 	defer server.Close()
 	words := []string{"--nodes", server.URL, "--roots", roots, "--answers", filepath.Join(folder, "answers"),
 		"--rate", "1000"}
-	if status, out, problem := trial.Runs(t, append(words, "--for", "100ms")...); status != 0 || problem != "" ||
+	if status, out, problem := testutil.Runs(t, append(words, "--for", "100ms")...); status != 0 || problem != "" ||
 		!strings.HasPrefix(out, "0 answered in ") {
 		t.Errorf("status %d, %q and %q", status, out, problem)
 	}
 	refuses.Store(true)
-	if status, _, problem := trial.Runs(t, append(words, "--for", "1h")...); status != 1 ||
+	if status, _, problem := testutil.Runs(t, append(words, "--for", "1h")...); status != 1 ||
 		!strings.Contains(problem, ": 400: ") {
 		t.Errorf("status %d, %q", status, problem)
 	}

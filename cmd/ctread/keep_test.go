@@ -22,7 +22,7 @@ import (
 	"golang.org/x/mod/sumdb/tlog"
 
 	"wagtenib/internal/stores"
-	"wagtenib/internal/trial"
+	"wagtenib/internal/testutil"
 )
 
 // grown is a log that grows, by x/mod's tlog, over HTTP: all its objects by their paths.
@@ -361,7 +361,7 @@ func TestCheckpointThatIsCutShort(t *testing.T) {
 	before := g.objects["/checkpoint"]
 	g.grow(1, 8)
 	// (nothing else of a log of one entry is as long)
-	err := trial.ShortFiles(t, uint64(len(before)-20), func() error { return r.follow(context.Background()) })
+	err := testutil.ShortFiles(t, uint64(len(before)-20), func() error { return r.follow(context.Background()) })
 	if !errors.Is(err, syscall.EFBIG) || r.timestamp != 7 {
 		t.Errorf("%v, and the last moment is %d", err, r.timestamp)
 	}

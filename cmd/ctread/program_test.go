@@ -9,10 +9,10 @@ import (
 	"strings"
 	"testing"
 
-	"wagtenib/internal/trial"
+	"wagtenib/internal/testutil"
 )
 
-func TestMain(m *testing.M) { trial.Main(m, main) }
+func TestMain(m *testing.M) { testutil.Main(m, main) }
 
 // TestProgram: status 0 means that everything that was read is right, also if a mirror continues from it. Wrong tiles
 // and wrong arguments have status 1 and the reason.
@@ -28,20 +28,20 @@ func TestProgram(t *testing.T) {
 	five := g.grow(5, 7)
 	says := fmt.Sprintf("%s: 5 entries, root %v: consistent, and all leaves are there\n5 entries were read, and all "+
 		"was right\n", r.node, five.Hash)
-	if status, out, problem := trial.Runs(t, keeps...); status != 0 || out != says || problem != "" {
+	if status, out, problem := testutil.Runs(t, keeps...); status != 0 || out != says || problem != "" {
 		t.Errorf("status %d, %q and %q", status, out, problem)
 	}
-	if status, out, problem := trial.Runs(t, keeps...); status != 0 ||
+	if status, out, problem := testutil.Runs(t, keeps...); status != 0 ||
 		out != "5 entries were read, and all was right\n" || problem != "" {
 		t.Errorf("the same once more: status %d, %q and %q", status, out, problem)
 	}
 	g.publish(five, 6)
-	if status, _, problem := trial.Runs(t, keeps...); status != 1 ||
+	if status, _, problem := testutil.Runs(t, keeps...); status != 1 ||
 		!strings.Contains(problem, "there were 5 at 7 ms before") {
 		t.Errorf("an earlier moment than the mirror's: status %d, %q", status, problem)
 	}
 	// (without a mirror it knows of none before)
-	if status, out, problem := trial.Runs(t, append(words, "--once")...); status != 0 || out != says || problem != "" {
+	if status, out, problem := testutil.Runs(t, append(words, "--once")...); status != 0 || out != says || problem != "" {
 		t.Errorf("without a mirror: status %d, %q and %q", status, out, problem)
 	}
 	for _, of := range []struct {
@@ -53,18 +53,18 @@ func TestProgram(t *testing.T) {
 		{append(words, "--keep", filepath.Join(key, "below")), "not a directory"},
 		{append(words, "word"), `unexpected argument "word"`},
 	} {
-		if status, out, problem := trial.Runs(t, of.words...); status != 1 || out != "" ||
+		if status, out, problem := testutil.Runs(t, of.words...); status != 1 || out != "" ||
 			!strings.HasPrefix(problem, "ctread: ") || !strings.Contains(problem, of.says) {
 			t.Errorf("%q: status %d, %q and %q", of.says, status, out, problem)
 		}
 	}
 	// A node that does not answer is asked again until the time is over, and that is not wrong.
-	if status, out, problem := trial.Runs(t, append(words, "--nodes", "http://127.0.0.1:1", "--for",
+	if status, out, problem := testutil.Runs(t, append(words, "--nodes", "http://127.0.0.1:1", "--for",
 		"50ms")...); status != 0 || !strings.HasSuffix(out, "0 entries were read, and all was right\n") ||
 		problem != "" {
 		t.Errorf("nobody answers: status %d, %q and %q", status, out, problem)
 	}
-	if status, out, _ := trial.Runs(t, "--version"); status != 0 || !strings.HasPrefix(out, "ctread ") {
+	if status, out, _ := testutil.Runs(t, "--version"); status != 0 || !strings.HasPrefix(out, "ctread ") {
 		t.Errorf("--version: status %d, %q", status, out)
 	}
 }

@@ -21,7 +21,7 @@ import (
 	"golang.org/x/mod/sumdb/tlog"
 
 	"wagtenib/internal/signature"
-	"wagtenib/internal/trial"
+	"wagtenib/internal/testutil"
 )
 
 // archiveEntries is the environment variable with the number of entries of the log of TestArchive, if it is not 300.
@@ -78,7 +78,7 @@ func entriesOf(t *testing.T, address string, size int64) (hashes tlog.HashReader
 		wantsJSON(t, address, fmt.Sprintf("/ct/v1/get-entries?start=%d&end=%d", len(leaves), size-1), &answer)
 		for _, each := range answer.Entries {
 			more, err := tlog.StoredHashes(int64(len(leaves)), each.Leaf, hashes)
-			trial.Must(t, err)
+			testutil.Must(t, err)
 			stored, leaves = append(stored, more...), append(leaves, each.Leaf)
 		}
 	}
@@ -120,7 +120,7 @@ func TestArchive(t *testing.T) {
 	if text := os.Getenv(archiveEntries); text != "" {
 		var err error
 		size, err = strconv.ParseInt(text, 10, 64)
-		trial.Must(t, err)
+		testutil.Must(t, err)
 	}
 	at := newPlace(t)
 	p := started(t, "", at.realWords("--signing-key", at.path("log.pem"), "--create", "--max-connections-per-address",
@@ -160,7 +160,7 @@ func wantsHead(t *testing.T, log, archive, key string, size int64, hashes tlog.H
 		t.Errorf("get-sth: %s, and the log's is %s", answer, signed)
 	}
 	root, err := tlog.TreeHash(size, hashes)
-	trial.Must(t, err)
+	testutil.Must(t, err)
 	block, _ := pem.Decode([]byte(key))
 	_, checkpoint := read(archive, "/checkpoint")
 	head, err := signature.OpenCheckpoint([]byte(checkpoint), "log.example/test", block.Bytes)
@@ -205,7 +205,7 @@ func wantsSameAnswers(t *testing.T, log, archive string, size int64) {
 func wantsProofs(t *testing.T, address string, size int64, hashes tlog.HashReader, leaves [][]byte) {
 	t.Helper()
 	root, err := tlog.TreeHash(size, hashes)
-	trial.Must(t, err)
+	testutil.Must(t, err)
 	for _, index := range some(size, 100) {
 		var answer struct {
 			Index int64    `json:"leaf_index"`
@@ -227,7 +227,7 @@ func wantsProofs(t *testing.T, address string, size int64, hashes tlog.HashReade
 		}
 		wantsJSON(t, address, fmt.Sprintf("/ct/v1/get-sth-consistency?first=%d&second=%d", first, size), &answer)
 		before, err := tlog.TreeHash(first, hashes)
-		trial.Must(t, err)
+		testutil.Must(t, err)
 		if err := tlog.CheckTree(asHashes(answer.Proof), size, root, first, before); err != nil {
 			t.Errorf("the proof from %d entries: %v", first, err)
 		}

@@ -22,7 +22,7 @@ import (
 	"github.com/minio/minio-go/v7"
 	"github.com/minio/minio-go/v7/pkg/credentials"
 
-	"wagtenib/internal/trial"
+	"wagtenib/internal/testutil"
 	"wagtenib/internal/web/standin"
 )
 
@@ -40,7 +40,7 @@ func newAudited(t *testing.T) audited {
 	key := at.authorityKey()
 	at.write("ca.pem", at.authority.PEM())
 	at.write("ca.key", key)
-	address := trial.Free(t)
+	address := testutil.Free(t)
 	at.write("settings", []byte(strings.Join([]string{"origin log.example/2027h1",
 		"signing-key " + at.path("log.pem"), "roots " + at.path("roots.pem"),
 		"folder " + at.path("log"), "interval 50ms", "not-after-start 2027-01-01", "not-after-limit 2027-07-01",
@@ -56,14 +56,14 @@ func newAudited(t *testing.T) audited {
 		"--issuer", at.path("ca.pem"),
 		"--issuer-key", at.path("ca.key"), "--wanted-roots", at.path("roots.pem"), "--poll-interval", "100ms",
 		"--submit-interval", "300ms",
-		"--min-availability", "0", "--max-latency", trial.Longest.String(), "--report", at.path("report")}}
+		"--min-availability", "0", "--max-latency", testutil.Longest.String(), "--report", at.path("report")}}
 }
 
 // authorityKey makes an authority whose key the test has, and puts it among the roots.
 func (p *place) authorityKey() []byte {
 	p.t.Helper()
 	authority, err := standin.NewAuthority("A test CA")
-	trial.Must(p.t, err)
+	testutil.Must(p.t, err)
 	p.authority = authority
 	p.write("roots.pem", authority.PEM())
 	return authority.KeyPEM()
@@ -102,11 +102,11 @@ func TestAuditOverEngines(t *testing.T) {
 func bucket(t *testing.T, engine, name string) string {
 	t.Helper()
 	at, err := url.Parse(engine)
-	trial.Must(t, err)
+	testutil.Must(t, err)
 	secret, _ := at.User.Password()
 	client, err := minio.New(at.Host, &minio.Options{Creds: credentials.NewStaticV4(at.User.Username(), secret, "")})
-	trial.Must(t, err)
-	trial.Must(t, client.MakeBucket(context.Background(), name, minio.MakeBucketOptions{}))
+	testutil.Must(t, err)
+	testutil.Must(t, client.MakeBucket(context.Background(), name, minio.MakeBucketOptions{}))
 	return fmt.Sprintf("s3://%s@%s/%s?tls=no", at.User, at.Host, name)
 }
 
@@ -153,12 +153,12 @@ func (at audited) judgeReport(answers string) {
 	t := at.t
 	t.Helper()
 	text, err := os.ReadFile(at.path("report"))
-	trial.Must(t, err)
+	testutil.Must(t, err)
 	if string(text) != answers || !strings.HasPrefix(answers, "log.example/2027h1: passed\n") {
 		t.Errorf("the report %q isn't what was printed", text)
 	}
 	content, err := os.ReadFile(at.path("report.json"))
-	trial.Must(t, err)
+	testutil.Must(t, err)
 	var report struct {
 		Passed bool `json:"passed"`
 		Checks []struct {
@@ -167,7 +167,7 @@ func (at audited) judgeReport(answers string) {
 			Tried   int    `json:"tried"`
 		} `json:"checks"`
 	}
-	trial.Must(t, json.Unmarshal(content, &report))
+	testutil.Must(t, json.Unmarshal(content, &report))
 	if !report.Passed || len(report.Checks) == 0 {
 		t.Errorf("the report in JSON: %s", content)
 	}
@@ -195,7 +195,7 @@ func TestAuditFindsMissingRoot(t *testing.T) {
 	at := newAudited(t)
 	started(t, "", append(at.words, "--create")...)
 	other, err := standin.NewAuthority("A root that is missing")
-	trial.Must(t, err)
+	testutil.Must(t, err)
 	at.write("wanted.pem", append(other.PEM(), at.authority.PEM()...))
 	status, answers, told := does(append(at.audit, "--for", "1s", "--wanted-roots", at.path("wanted.pem"))...)
 	if status != 1 || !strings.HasPrefix(answers, "log.example/2027h1: FAILED: roots\n") || !strings.Contains(answers,
@@ -210,10 +210,10 @@ func TestAuditArguments(t *testing.T) {
 	t.Parallel()
 	at := newAudited(t)
 	other, err := standin.NewAuthority("Another CA")
-	trial.Must(t, err)
+	testutil.Must(t, err)
 	at.write("other.pem", other.PEM())
 	at.write("leaf.pem", pem.EncodeToMemory(&pem.Block{Type: "CERTIFICATE", Bytes: []byte("no certificate")}))
-	trial.Must(t, os.Mkdir(at.path("chains"), 0o700))
+	testutil.Must(t, os.Mkdir(at.path("chains"), 0o700))
 	ca := []string{"--issuer", at.path("ca.pem"), "--issuer-key", at.path("ca.key")}
 	for want, words := range map[string][]string{
 		"wrong number of arguments": {},
@@ -284,19 +284,19 @@ func TestAuditFolder(t *testing.T) {
 	at := newAudited(t)
 	p := started(t, "", append(at.words, "--create")...)
 	folder := at.path("chains")
-	trial.Must(t, os.Mkdir(folder, 0o700))
+	testutil.Must(t, os.Mkdir(folder, 0o700))
 	for _, isPrecertificate := range []bool{false, true} {
 		der, err := at.authority.Issue(isPrecertificate, time.Date(2027, 3, 1, 0, 0, 0, 0, time.UTC))
-		trial.Must(t, err)
+		testutil.Must(t, err)
 		_, err = x509.ParseCertificate(der)
-		trial.Must(t, err)
+		testutil.Must(t, err)
 		name := map[bool]string{false: "certificate.pem", true: "precertificate.pem"}[isPrecertificate]
 		text := append(pem.EncodeToMemory(&pem.Block{Type: "CERTIFICATE", Bytes: der}), at.authority.PEM()...)
-		trial.Must(t, os.WriteFile(filepath.Join(folder, name), text, 0o600))
+		testutil.Must(t, os.WriteFile(filepath.Join(folder, name), text, 0o600))
 	}
 	words := []string{"audit", at.audit[1], "--chains", folder, "--for", "2s", "--poll-interval", "50ms",
 		"--submit-interval", "100ms", "--min-availability", "0",
-		"--max-latency", trial.Longest.String()}
+		"--max-latency", testutil.Longest.String()}
 	if status, answers, told := does(words...); status != 0 || sizeOf(p) != 2 {
 		t.Errorf("status %d, %d entries: %s%s", status, sizeOf(p), told, answers)
 	}
@@ -307,15 +307,15 @@ func TestAuditOverTLS(t *testing.T) {
 	t.Parallel()
 	at := newAudited(t)
 	host, _, err := net.SplitHostPort(strings.TrimPrefix(at.audit[1], "http://"))
-	trial.Must(t, err)
+	testutil.Must(t, err)
 	key, err := ecdsa.GenerateKey(elliptic.P256(), rand.Reader)
-	trial.Must(t, err)
+	testutil.Must(t, err)
 	template := &x509.Certificate{SerialNumber: big.NewInt(1), NotAfter: time.Now().AddDate(1, 0, 0),
 		IPAddresses: []net.IP{net.ParseIP(host)}}
 	der, err := x509.CreateCertificate(rand.Reader, template, template, &key.PublicKey, key)
-	trial.Must(t, err)
+	testutil.Must(t, err)
 	private, err := x509.MarshalPKCS8PrivateKey(key)
-	trial.Must(t, err)
+	testutil.Must(t, err)
 	at.write("tls.pem", pem.EncodeToMemory(&pem.Block{Type: "CERTIFICATE", Bytes: der}))
 	at.write("tls.key", pem.EncodeToMemory(&pem.Block{Type: "PRIVATE KEY", Bytes: private}))
 	started(t, "", append(at.words, "--create", "--tls-certificate", at.path("tls.pem"), "--tls-key",

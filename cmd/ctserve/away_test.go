@@ -10,7 +10,7 @@ import (
 	"time"
 
 	"wagtenib/internal/check"
-	"wagtenib/internal/trial"
+	"wagtenib/internal/testutil"
 )
 
 // TestReadsGoOn has a log's register be missing, be locked by another process, and the file system be read-only.
@@ -42,7 +42,7 @@ func TestReadsGoOn(t *testing.T) {
 		},
 		"the disk isn't written": func(t *testing.T, disk string) func() {
 			remounts := func(flags uintptr) {
-				for until := time.Now().Add(trial.Longest); ; time.Sleep(10 * time.Millisecond) {
+				for until := time.Now().Add(testutil.Longest); ; time.Sleep(10 * time.Millisecond) {
 					err := syscall.Mount("tmpfs", disk, "tmpfs", syscall.MS_REMOUNT|flags, "")
 					if err == nil {
 						return
@@ -71,7 +71,7 @@ func TestReadsGoOn(t *testing.T) {
 			words := at.realWords(more...)
 			p := started(t, "", append(words, "--create")...)
 			var answers []check.Answer
-			for until := time.Now().Add(trial.Longest); len(answers) < 5; {
+			for until := time.Now().Add(testutil.Longest); len(answers) < 5; {
 				status, text, one := at.submitted(t, p)
 				if status == 200 {
 					answers = append(answers, one)
@@ -89,7 +89,7 @@ func TestReadsGoOn(t *testing.T) {
 				readsAll(t, p, what, answers)
 			}
 			back()
-			for until := time.Now().Add(trial.Longest); ; time.Sleep(50 * time.Millisecond) {
+			for until := time.Now().Add(testutil.Longest); ; time.Sleep(50 * time.Millisecond) {
 				status, text, _ := at.submitted(t, p)
 				if status == 200 {
 					break
@@ -116,7 +116,7 @@ func TestObjectsAway(t *testing.T) {
 	p := started(t, "", append(words, "--create")...)
 	submitted := func(wanted int, what string) {
 		t.Helper()
-		for until := time.Now().Add(trial.Longest); ; time.Sleep(50 * time.Millisecond) {
+		for until := time.Now().Add(testutil.Longest); ; time.Sleep(50 * time.Millisecond) {
 			status, text, _ := at.submitted(t, p)
 			if status == wanted {
 				return
@@ -151,7 +151,7 @@ func TestObjectsAway(t *testing.T) {
 		}
 	}
 	told, err := starts()
-	for until := time.Now().Add(trial.Longest); isLate(told) && time.Now().Before(until); {
+	for until := time.Now().Add(testutil.Longest); isLate(told) && time.Now().Before(until); {
 		told, err = starts()
 	}
 	if err == nil || !strings.Contains(told, "the folder of the objects") {

@@ -30,8 +30,8 @@ import (
 	"wagtenib/internal/check"
 	"wagtenib/internal/signer"
 	"wagtenib/internal/testbucket"
+	"wagtenib/internal/testutil"
 	"wagtenib/internal/tile"
-	"wagtenib/internal/trial"
 )
 
 // bucketReader is a monitor that knows a log's bucket and its key, and no node. x/mod's tlog checks what it reads.
@@ -232,7 +232,7 @@ func TestBucketAloneThroughKills(t *testing.T) {
 	if text := os.Getenv("CTSERVE_KILLS"); text != "" {
 		var err error
 		kills, err = strconv.ParseInt(text, 10, 64)
-		trial.Must(t, err)
+		testutil.Must(t, err)
 	}
 	at, bucket := newPlace(t), testbucket.New(true)
 	key := at.publicKey()
@@ -261,7 +261,7 @@ func TestBucketAloneThroughKills(t *testing.T) {
 		k := &killed{bucket: bucket, put: put}
 		server := httptest.NewServer(k)
 		defer server.Close()
-		listen := trial.Free(t)
+		listen := testutil.Free(t)
 		clients = append(clients, listen)
 		words := append(at.bucketWords(server.URL), "--listen", listen, "--operator-listen", "", "--create",
 			"--public-store", "--latest-head", at.path(fmt.Sprintf("latest-head-%d", i)))
@@ -272,14 +272,14 @@ func TestBucketAloneThroughKills(t *testing.T) {
 		}()
 	}
 	answered := int64(0)
-	for late := time.Now().Add(trial.Longest); left.Load() > 0 || answered < 5; {
+	for late := time.Now().Add(testutil.Longest); left.Load() > 0 || answered < 5; {
 		if time.Now().After(late) {
 			t.Errorf("%d kills and %d answers: it takes too long", kills-left.Load(), answered)
 			break
 		}
 		if status, _ := post(clients[rand.Intn(2)], at.submission()); status == http.StatusOK {
 			answered++
-			late = time.Now().Add(trial.Longest)
+			late = time.Now().Add(testutil.Longest)
 		}
 		size, err := monitor.look()
 		if err != nil && monitor.heads > 0 {
@@ -315,10 +315,10 @@ func (p *place) bucketWords(url string) []string {
 func (p *place) publicKey() *ecdsa.PublicKey {
 	p.t.Helper()
 	of, err := signer.OpenKey(p.path("log.pem"))
-	trial.Must(p.t, err)
+	testutil.Must(p.t, err)
 	defer of.Close()
 	key, err := x509.ParsePKIXPublicKey(of.Key())
-	trial.Must(p.t, err)
+	testutil.Must(p.t, err)
 	return key.(*ecdsa.PublicKey)
 }
 
@@ -353,16 +353,16 @@ func (k *killed) runs(ctx context.Context, t *testing.T, words []string, random 
 func asked(t *testing.T, url, accepted, ranged string) (body []byte, encoding string) {
 	t.Helper()
 	request, err := http.NewRequest(http.MethodGet, url, nil)
-	trial.Must(t, err)
+	testutil.Must(t, err)
 	request.Header.Set("Accept-Encoding", accepted)
 	if ranged != "" {
 		request.Header.Set("Range", ranged)
 	}
 	answer, err := http.DefaultTransport.RoundTrip(request)
-	trial.Must(t, err)
+	testutil.Must(t, err)
 	defer answer.Body.Close()
 	body, err = io.ReadAll(answer.Body)
-	trial.Must(t, err)
+	testutil.Must(t, err)
 	return body, answer.Header.Get("Content-Encoding")
 }
 
@@ -389,7 +389,7 @@ func TestPublicStoreOfALogThatExists(t *testing.T) {
 		t.Error("there is a checkpoint without public-store")
 	}
 	p = started(t, "", append(words, "--public-store")...)
-	for until := time.Now().Add(trial.Longest); ; time.Sleep(time.Millisecond) {
+	for until := time.Now().Add(testutil.Longest); ; time.Sleep(time.Millisecond) {
 		of, ok := bucket.Object("checkpoint")
 		isAsServed := of.Type == "text/plain; charset=utf-8" && of.Cache == "public, max-age=1"
 		if ok && string(of.Content) == checkpoint && isAsServed {
@@ -403,7 +403,7 @@ func TestPublicStoreOfALogThatExists(t *testing.T) {
 	for name, want := range map[string]string{"tile/data/000.p/1": "", "tile/data/000.p/2": "gzip"} {
 		stored, _ := bucket.Object(name)
 		content, err := unpacked(stored.Content, stored.Encoding)
-		trial.Must(t, err)
+		testutil.Must(t, err)
 		if stored.Encoding != want {
 			t.Errorf("%s is stored in %q", name, stored.Encoding)
 		}
@@ -448,7 +448,7 @@ func TestPublicFolder(t *testing.T) {
 		p.ends()
 	}
 	of, err := signer.OpenKey(at.path("log.pem"))
-	trial.Must(t, err)
+	testutil.Must(t, err)
 	defer of.Close()
 	report, err := check.Folder(at.path("log/objects"), of.Key(), answers)
 	if err != nil || report.Leaves < len(answers) {

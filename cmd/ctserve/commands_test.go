@@ -16,7 +16,7 @@ import (
 	"testing"
 	"time"
 
-	"wagtenib/internal/trial"
+	"wagtenib/internal/testutil"
 	"wagtenib/internal/web/standin"
 )
 
@@ -282,7 +282,7 @@ func TestCommandLine(t *testing.T) {
 		command.Env = append(os.Environ(), childKey+"=1")
 		var out bytes.Buffer
 		command.Stdout = &out
-		timer := time.AfterFunc(trial.Longest, func() { command.Process.Kill() })
+		timer := time.AfterFunc(testutil.Longest, func() { command.Process.Kill() })
 		command.Run()
 		timer.Stop()
 		if status := command.ProcessState.ExitCode(); status != c.status || out.String() != c.out {

@@ -20,7 +20,7 @@ import (
 	"testing"
 	"time"
 
-	"wagtenib/internal/trial"
+	"wagtenib/internal/testutil"
 	"wagtenib/internal/web/standin"
 )
 
@@ -64,7 +64,7 @@ type program struct {
 // started starts one and waits until it serves.
 func started(t *testing.T, every string, words ...string) *program {
 	t.Helper()
-	for until := time.Now().Add(trial.Longest); ; {
+	for until := time.Now().Add(testutil.Longest); ; {
 		p, line := begun(t, every, words...)
 		if line["event"] == "serving" {
 			return p
@@ -94,7 +94,7 @@ func begun(t *testing.T, every string, words ...string) (p *program, line map[st
 		t.Fatal(err)
 	}
 	come := make(chan map[string]any)
-	go trial.PassOn(come, p.lines)
+	go testutil.PassOn(come, p.lines)
 	go func() {
 		defer close(come)
 		for scanner := bufio.NewScanner(errors); scanner.Scan(); {
@@ -125,7 +125,7 @@ func begun(t *testing.T, every string, words ...string) (p *program, line map[st
 
 // runs starts one in this process that doesn't get as far as serving, and gives its status and its lines.
 func runs(words []string) (status int, told string) {
-	for until := time.Now().Add(trial.Longest); ; {
+	for until := time.Now().Add(testutil.Longest); ; {
 		var lines strings.Builder
 		status = run(words, &lines, openNode)
 		if told = lines.String(); !isLate(told) || time.Now().After(until) {
@@ -137,7 +137,7 @@ func runs(words []string) (status int, told string) {
 // until returns the next line of one of these events.
 func (p *program) until(events ...string) map[string]any {
 	p.t.Helper()
-	for late := time.After(trial.Longest); ; {
+	for late := time.After(testutil.Longest); ; {
 		select {
 		case line, more := <-p.lines:
 			if !more {
@@ -160,7 +160,7 @@ func (p *program) until(events ...string) map[string]any {
 // shows waits until the operator's figures have a line.
 func (p *program) shows(line string) {
 	p.t.Helper()
-	for late := time.Now().Add(trial.Longest); ; time.Sleep(10 * time.Millisecond) {
+	for late := time.Now().Add(testutil.Longest); ; time.Sleep(10 * time.Millisecond) {
 		_, text := get(p.operator, "/metrics")
 		if strings.Contains("\n"+text, "\n"+line+"\n") {
 			return
@@ -185,7 +185,7 @@ func (p *program) ends() int {
 			return status.ExitCode()
 		}
 		return 0
-	case <-time.After(trial.Longest):
+	case <-time.After(testutil.Longest):
 		p.t.Fatal("it doesn't end")
 		return -1
 	}
@@ -236,7 +236,7 @@ func (p *place) write(name string, content []byte) {
 func patient() (words []string) {
 	for _, name := range []string{"open-timeout", "shutdown-timeout", "submission-timeout", "header-timeout",
 		"request-timeout", "response-timeout", "idle-timeout"} {
-		words = append(words, "--"+name, trial.Longest.String())
+		words = append(words, "--"+name, testutil.Longest.String())
 	}
 	// (so no head without entries is made meanwhile)
 	return append(words, "--max-merge-delay", "24h")
@@ -272,7 +272,7 @@ func read(address, path string) (int, string) {
 
 // unlessLate asks until what is answered isn't that it is late.
 func unlessLate(ask func() (int, string)) (status int, text string) {
-	for until := time.Now().Add(trial.Longest); ; {
+	for until := time.Now().Add(testutil.Longest); ; {
 		if status, text = ask(); status != 503 || !strings.Contains(text, `"late"`) || time.Now().After(until) {
 			return status, text
 		}

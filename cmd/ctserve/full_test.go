@@ -15,7 +15,7 @@ import (
 
 	"wagtenib/internal/check"
 	"wagtenib/internal/signer"
-	"wagtenib/internal/trial"
+	"wagtenib/internal/testutil"
 	"wagtenib/internal/web/standin"
 )
 
@@ -68,7 +68,7 @@ func TestFullDisk(t *testing.T) {
 	}
 	again := func() {
 		t.Helper()
-		for until := time.Now().Add(trial.Longest); ; time.Sleep(50 * time.Millisecond) {
+		for until := time.Now().Add(testutil.Longest); ; time.Sleep(50 * time.Millisecond) {
 			status, text := submit()
 			if status == 200 {
 				return
@@ -99,7 +99,7 @@ func TestFullDisk(t *testing.T) {
 			// (the first write without room may be none of an object)
 			return status == 503 && strings.Contains(metrics, "ctserve_fault 1\n") && figure(t, p, failures) > before
 		}
-		for until := time.Now().Add(trial.Longest); ; time.Sleep(10 * time.Millisecond) {
+		for until := time.Now().Add(testutil.Longest); ; time.Sleep(10 * time.Millisecond) {
 			status, text := submit()
 			refused := status == 503 && strings.Contains(text, `"store"`)
 			if refused && atFault() {

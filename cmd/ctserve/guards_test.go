@@ -14,7 +14,7 @@ import (
 
 	"wagtenib/internal/check"
 	"wagtenib/internal/signer"
-	"wagtenib/internal/trial"
+	"wagtenib/internal/testutil"
 	"wagtenib/internal/web/standin"
 )
 
@@ -89,7 +89,7 @@ func TestIndexAnew(t *testing.T) {
 	if !isThere(at.path("log/index/CURRENT")) {
 		t.Fatal("the log has no index in its folder")
 	}
-	trial.Must(t, os.RemoveAll(at.path("log/index")))
+	testutil.Must(t, os.RemoveAll(at.path("log/index")))
 	if status, told := runs(words); status != statusSetBack {
 		t.Errorf("status %d: %s", status, told)
 	}
@@ -130,7 +130,7 @@ func TestGuardStateAway(t *testing.T) {
 	// (a signer that says it too late for a busy machine is given more time: of 30 s it has 24 for the state, and 6 are
 	// left on both sides)
 	within := 10 * time.Second
-	for until := time.Now().Add(trial.Longest); ; within = 30 * time.Second {
+	for until := time.Now().Add(testutil.Longest); ; within = 30 * time.Second {
 		var told strings.Builder
 		status := run(append(words, "--open-timeout", within.String()), &told, openNode)
 		if status == 1 && strings.Contains(told.String(), "the guard's state (guard-state, of etcd) cannot be read") {
@@ -149,7 +149,7 @@ func TestSignerIsCreatedOnce(t *testing.T) {
 	t.Parallel()
 	at := newPlace(t)
 	at.realWords()
-	ctx, cancel := context.WithTimeout(context.Background(), trial.Longest)
+	ctx, cancel := context.WithTimeout(context.Background(), testutil.Longest)
 	defer cancel()
 	asked, err := askSigner(ctx, node{signingKey: at.path("log.pem"), guardState: "file:" +
 		at.path("guard"), create: true})
@@ -192,7 +192,7 @@ func TestSignerAtASocket(t *testing.T) {
 	words := at.realWords("--signer-socket", socket, "--index", at.sharedIndex())
 	listening := func(key string) (kills func()) {
 		t.Helper()
-		for until := time.Now().Add(trial.Longest); ; {
+		for until := time.Now().Add(testutil.Longest); ; {
 			command, said, ended := exec.Command(os.Args[0], "signer", "--signing-key", key, "--guard-state", "file:"+
 				at.path("guard"), "--create", "--listen", socket), &strings.Builder{}, make(chan struct{})
 			command.Env, command.Stderr = append(os.Environ(), childKey+"=1"), said
@@ -251,7 +251,7 @@ func TestSignerAtASocket(t *testing.T) {
 	wrong()
 	listening(at.path("log.pem"))
 	refused := 0
-	for until := time.Now().Add(trial.Longest); ; refused++ {
+	for until := time.Now().Add(testutil.Longest); ; refused++ {
 		status, text := post(p.clients, at.submission())
 		if status == 200 {
 			break
@@ -302,7 +302,7 @@ func TestGuards(t *testing.T) {
 	words := at.realWords("--signing-key", at.path("log.pem"), "--create")
 	lacks := func(what string, more ...string) {
 		t.Helper()
-		for until := time.Now().Add(trial.Longest); ; {
+		for until := time.Now().Add(testutil.Longest); ; {
 			command := exec.Command(os.Args[0], append(append([]string{}, words...), more...)...)
 			command.Env = append(os.Environ(), childKey+"=1")
 			said, err := command.CombinedOutput()

@@ -13,7 +13,7 @@ import (
 	"testing"
 	"time"
 
-	"wagtenib/internal/trial"
+	"wagtenib/internal/testutil"
 )
 
 // asOnPage returns Debian's nginx.conf after the command of docs/OPERATING.md that changes it, run so many times.
@@ -26,20 +26,20 @@ func asOnPage(t *testing.T, often int) string {
 		t.Skipf("it isn't Debian's nginx: %v", err)
 	}
 	page, err := os.ReadFile("../../docs/OPERATING.md")
-	trial.Must(t, err)
+	testutil.Must(t, err)
 	lines := regexp.MustCompile(`(?m)^    \$ (sed -i .*) ` + own + `$`).FindStringSubmatch(string(page))
 	if lines == nil {
 		t.Fatalf("the page has no line for %s", own)
 	}
 	file := filepath.Join(t.TempDir(), "nginx.conf")
-	trial.Must(t, os.WriteFile(file, text, 0o600))
+	testutil.Must(t, os.WriteFile(file, text, 0o600))
 	for i := 0; i < often; i++ {
 		if said, err := exec.Command("sh", "-c", lines[1]+" "+file).CombinedOutput(); err != nil {
 			t.Fatalf("%s: %s", lines[1], said)
 		}
 	}
 	changed, err := os.ReadFile(file)
-	trial.Must(t, err)
+	testutil.Must(t, err)
 	return string(changed)
 }
 
@@ -55,7 +55,7 @@ func TestMoreConnectionsOfNginx(t *testing.T) {
 			}
 		}
 		own, err := os.ReadFile("/etc/nginx/nginx.conf")
-		trial.Must(t, err)
+		testutil.Must(t, err)
 		if now, before := strings.Count(changed, "\n"), strings.Count(string(own), "\n"); now != before {
 			t.Errorf("%d times: it has %d lines, and had %d", often, now, before)
 		}
@@ -66,10 +66,10 @@ func TestMoreConnectionsOfNginx(t *testing.T) {
 func half(t *testing.T, address, request string) net.Conn {
 	t.Helper()
 	connection, err := net.Dial("tcp", address)
-	trial.Must(t, err)
+	testutil.Must(t, err)
 	t.Cleanup(func() { connection.Close() })
 	_, err = io.WriteString(connection, request)
-	trial.Must(t, err)
+	testutil.Must(t, err)
 	return connection
 }
 
@@ -78,7 +78,7 @@ func from(t *testing.T, own, address, path string) (int, string) {
 	t.Helper()
 	dialer := net.Dialer{LocalAddr: &net.TCPAddr{IP: net.ParseIP(own)}}
 	client := http.Client{Transport: &http.Transport{DialContext: dialer.DialContext, DisableKeepAlives: true},
-		Timeout: trial.Longest}
+		Timeout: testutil.Longest}
 	return whole(client.Get("http://" + address + path))
 }
 
@@ -98,7 +98,7 @@ func TestHalfBodiesAtNginx(t *testing.T) {
 		t.Errorf("the last that one address may have: %d %s", status, text)
 	}
 	halves = append(halves, half(t, address, begun))
-	until := time.Now().Add(trial.Longest)
+	until := time.Now().Add(testutil.Longest)
 	for refused := false; !refused; {
 		for i := range halves {
 			// (one on which nothing comes for a while is closed by nginx, and another comes in its place)
@@ -150,7 +150,7 @@ func TestHalfHeadersAtNginx(t *testing.T) {
 	}
 	at := newPlace(t)
 	p := started(t, "20ms", at.words("--trusted-proxies", "127.0.0.1")...)
-	address, folder := trial.Free(t), t.TempDir()
+	address, folder := testutil.Free(t), t.TempDir()
 	nginxHaving(t, siteInClear(t, address, p.clients, filepath.Join(folder, "cache"), 64), address,
 		fmt.Sprintf("worker_rlimit_nofile %d; events { worker_connections %d; }", files, connections))
 	// (a machine that is slow enough has the first ones closed before others were answered, or sees late that they are,
@@ -172,7 +172,7 @@ func TestHalfHeadersAtNginx(t *testing.T) {
 			}
 		}
 		for i, one := range halves {
-			one.SetReadDeadline(opened.Add(trial.Longest))
+			one.SetReadDeadline(opened.Add(testutil.Longest))
 			if _, err := one.Read(make([]byte, 1)); err == nil || os.IsTimeout(err) {
 				t.Fatalf("half request %d isn't closed: %v", i, err)
 			}

@@ -14,7 +14,7 @@ import (
 
 	"golang.org/x/crypto/cryptobyte"
 
-	"wagtenib/internal/trial"
+	"wagtenib/internal/testutil"
 )
 
 // largeTile is a data tile of so many entries, each of a certificate of so many bytes (C2SP static-ct-api).
@@ -29,7 +29,7 @@ func largeTile(t *testing.T, entries, bytes int) []byte {
 		b.AddUint16LengthPrefixed(func(*cryptobyte.Builder) {})
 	}
 	made, err := b.Bytes()
-	trial.Must(t, err)
+	testutil.Must(t, err)
 	return made
 }
 
@@ -37,13 +37,13 @@ func largeTile(t *testing.T, entries, bytes int) []byte {
 func memoryOf(t *testing.T, process int) int64 {
 	t.Helper()
 	text, err := os.ReadFile(fmt.Sprintf("/proc/%d/status", process))
-	trial.Must(t, err)
+	testutil.Must(t, err)
 	found := regexp.MustCompile(`VmHWM:\s+(\d+) kB`).FindSubmatch(text)
 	if found == nil {
 		t.Fatalf("it doesn't say how much memory it had: %s", text)
 	}
 	most, err := strconv.ParseInt(string(found[1]), 10, 64)
-	trial.Must(t, err)
+	testutil.Must(t, err)
 	return most << 10
 }
 
@@ -52,14 +52,14 @@ func memoryOf(t *testing.T, process int) int64 {
 // all the while.
 func TestLargeTileByMany(t *testing.T) {
 	t.Parallel()
-	unit, err := os.ReadFile("../../release/ctserve@.service")
-	trial.Must(t, err)
+	unit, err := os.ReadFile("../../release/systemd/ctserve@.service")
+	testutil.Must(t, err)
 	bound := regexp.MustCompile(`(?m)^MemoryMax=(\d+)G$`).FindSubmatch(unit)
 	if bound == nil {
 		t.Fatal("the unit bounds no memory")
 	}
 	gigabytes, err := strconv.ParseInt(string(bound[1]), 10, 64)
-	trial.Must(t, err)
+	testutil.Must(t, err)
 	at := newPlace(t)
 	words := at.realWords("--signing-key", at.path("log.pem"), "--scrub-interval", "1h")
 	p := started(t, "", append(words, "--create")...)
@@ -71,7 +71,7 @@ func TestLargeTileByMany(t *testing.T) {
 	}
 	tile := largeTile(t, entries, 32<<20/entries)
 	path := fmt.Sprintf("tile/data/000.p/%d", entries)
-	trial.Must(t, os.WriteFile(at.path("log/objects/"+path), tile, 0o644))
+	testutil.Must(t, os.WriteFile(at.path("log/objects/"+path), tile, 0o644))
 	const addresses, each, rounds = 8, 12, 2
 	if int64(addresses*each*len(tile)) < gigabytes<<30 {
 		t.Fatalf("%d tiles of %d bytes are fewer than %d GB", addresses*each, len(tile), gigabytes)
@@ -144,7 +144,7 @@ func statusAlone(address, own, path string) (string, net.Conn) {
 		return err.Error(), nil
 	}
 	var line [len("HTTP/1.1 200")]byte
-	if err = connection.SetDeadline(time.Now().Add(trial.Longest)); err == nil {
+	if err = connection.SetDeadline(time.Now().Add(testutil.Longest)); err == nil {
 		_, err = fmt.Fprintf(connection, "GET /%s HTTP/1.1\r\nHost: log.example\r\n\r\n", path)
 	}
 	if err == nil {

@@ -20,7 +20,7 @@ import (
 	"time"
 
 	"wagtenib/internal/chains"
-	"wagtenib/internal/log"
+	"wagtenib/internal/logapi"
 	"wagtenib/internal/serve"
 	"wagtenib/internal/settingsfile"
 	"wagtenib/internal/stores"
@@ -31,7 +31,7 @@ import (
 
 // opened is a log that was opened.
 type opened struct {
-	log log.Log
+	log logapi.Log
 	// proofs makes proofs from its tiles, and cutter a precertificate's entry.
 	proofs *tile.Prover
 	cutter chains.Cutter
@@ -165,7 +165,7 @@ func putEntry(s *settings, of *opened, entry []byte) error {
 const lookForHead = 100 * time.Millisecond
 
 // awaitHead waits for the first head of a log, for as long as a reading may take.
-func awaitHead(s *settings, of log.Log) {
+func awaitHead(s *settings, of logapi.Log) {
 	ctx, cancel := context.WithTimeout(context.Background(), s.limits.Reading)
 	defer cancel()
 	for {
@@ -188,7 +188,7 @@ func tellLeftOut(roots *chains.Roots, lines *web.Lines) {
 }
 
 // tellHead logs the published head at a start.
-func tellHead(s *settings, of log.Log, lines *web.Lines) {
+func tellHead(s *settings, of logapi.Log, lines *web.Lines) {
 	ctx, cancel := context.WithTimeout(context.Background(), s.limits.Reading)
 	defer cancel()
 	head, err := of.Checkpoint(ctx)

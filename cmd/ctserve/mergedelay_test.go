@@ -7,7 +7,7 @@ import (
 	"testing"
 	"time"
 
-	"wagtenib/internal/trial"
+	"wagtenib/internal/testutil"
 )
 
 // TestMergeDelay: the age at which a head is made again follows from the merge delay, and one that breaks the merge
@@ -74,7 +74,7 @@ func TestIdleLogMakesHeads(t *testing.T) {
 		t.Errorf("/log.v3.json: %d %s", status, text)
 	}
 	first := timestampOf(t, p)
-	for until := trial.Limited(t, trial.Longest); timestampOf(t, p) == first; time.Sleep(10 * time.Millisecond) {
+	for until := testutil.Limited(t, testutil.Longest); timestampOf(t, p) == first; time.Sleep(10 * time.Millisecond) {
 		if until.Err() != nil {
 			t.Fatal("no head without entries was made")
 		}

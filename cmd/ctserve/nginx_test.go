@@ -16,7 +16,7 @@ import (
 	"testing"
 	"time"
 
-	"wagtenib/internal/trial"
+	"wagtenib/internal/testutil"
 	"wagtenib/internal/web"
 )
 
@@ -36,8 +36,8 @@ func nginxFound(t *testing.T) string {
 // not have fails the test.
 func exampleSite(t *testing.T, replacements ...string) string {
 	t.Helper()
-	text, err := os.ReadFile("../../release/ctserve.nginx.conf")
-	trial.Must(t, err)
+	text, err := os.ReadFile("../../release/nginx/ctserve.nginx.conf")
+	testutil.Must(t, err)
 	site := string(text)
 	for i := 0; i < len(replacements); i += 2 {
 		if !strings.Contains(site, replacements[i]) {
@@ -104,7 +104,7 @@ func nginxHaving(t *testing.T, site, address, main string) {
 			t.Errorf("nginx writes down who asks: %v %.300s", err, written)
 		}
 	})
-	for until := time.Now().Add(trial.Longest); ; time.Sleep(20 * time.Millisecond) {
+	for until := time.Now().Add(testutil.Longest); ; time.Sleep(20 * time.Millisecond) {
 		if connection, err := net.Dial("tcp", address); err == nil {
 			connection.Close()
 			return
@@ -120,7 +120,7 @@ func nginxHaving(t *testing.T, site, address, main string) {
 func nginxBefore(t *testing.T, clients string, atOnce int) string {
 	t.Helper()
 	nginxFound(t)
-	address := trial.Free(t)
+	address := testutil.Free(t)
 	nginxWith(t, siteInClear(t, address, clients, filepath.Join(t.TempDir(), "cache"), atOnce), address)
 	return address
 }
@@ -146,7 +146,7 @@ func TestFolderOfTiles(t *testing.T) {
 func TestExampleHasTheDefaults(t *testing.T) {
 	site, limits := exampleSite(t), web.DefaultLimits()
 	defaults, err := parse([]string{"--roots", "a", "--origin", "b", "--signing-key", "c"}, io.Discard)
-	trial.Must(t, err)
+	testutil.Must(t, err)
 	for _, line := range []string{
 		"server " + defaults.listen + ";",
 		fmt.Sprintf("limit_conn ctserve_clients %d;", limits.ConnectionsByAddress),
@@ -169,10 +169,10 @@ func TestExampleHasTheDefaults(t *testing.T) {
 // TestExampleOverTLS: the example, with other addresses and folders, answers the log's calls with HTTP/2 over TLS.
 func TestExampleOverTLS(t *testing.T) {
 	nginxFound(t)
-	at, address := newPlace(t), trial.Free(t)
+	at, address := newPlace(t), testutil.Free(t)
 	p := started(t, "20ms", at.words("--trusted-proxies", "127.0.0.1")...)
 	certificate, key, err := at.authority.KeyPair()
-	trial.Must(t, err)
+	testutil.Must(t, err)
 	at.write("log.example.pem", certificate)
 	at.write("log.example.key", key)
 	nginxWith(t, exampleSite(t, "/etc/ssl/log.example.org.", at.path("log.example."), "log.example.org", "log.example",
@@ -183,10 +183,10 @@ func TestExampleOverTLS(t *testing.T) {
 	for path, status := range map[string]int{"/ct/v1/get-sth": 200, "/ct/v1/get-roots": 200, "/checkpoint": 200,
 		"/tile/data/009": 404, "/nothing": 404} {
 		request, err := http.NewRequest("GET", "https://"+address+path, nil)
-		trial.Must(t, err)
+		testutil.Must(t, err)
 		request.Host = "log.example"
 		answer, err := client.Do(request)
-		trial.Must(t, err)
+		testutil.Must(t, err)
 		answer.Body.Close()
 		if answer.StatusCode != status || answer.ProtoMajor != 2 {
 			t.Errorf("%s: %d by HTTP/%d, and not %d by HTTP/2", path, answer.StatusCode, answer.ProtoMajor, status)
@@ -305,7 +305,7 @@ func TestBentTileBehindNginx(t *testing.T) {
 	for _, body := range bodies {
 		go func(body []byte) {
 			status, text := 503, ""
-			for until := time.Now().Add(trial.Longest); status == 503 &&
+			for until := time.Now().Add(testutil.Longest); status == 503 &&
 				time.Now().Before(until); time.Sleep(100 * time.Millisecond) {
 				status, text = post(p.clients, body)
 			}

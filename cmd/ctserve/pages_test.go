@@ -10,7 +10,7 @@ import (
 	"time"
 
 	"wagtenib/internal/chains"
-	"wagtenib/internal/trial"
+	"wagtenib/internal/testutil"
 )
 
 // defaults are the settings that --help lists, with what it says of each; a setting whose default isn't said has none.
@@ -54,7 +54,7 @@ func TestPagesNameSettings(t *testing.T) {
 	}
 	whole := ""
 	for _, page := range []string{"../../docs/OPERATING.md", "../../docs/INCIDENTS.md"} {
-		text := trial.Page(t, page)
+		text := testutil.Page(t, page)
 		whole += text + "\n"
 		for _, quoted := range regexp.MustCompile("`([^`]+)`").FindAllStringSubmatch(text, -1) {
 			word := strings.TrimLeft(strings.Fields(quoted[1])[0], "-")
@@ -95,8 +95,8 @@ func TestPagesNameSettings(t *testing.T) {
 // TestPageSaysBounds: the bounds that docs/SERVICE.md says of the program are those that are here.
 func TestPageSaysBounds(t *testing.T) {
 	s, err := parse([]string{"--roots", "r", "--origin", "o.example", "--signing-key", "k"}, &bytes.Buffer{})
-	trial.Must(t, err)
-	trial.Says(t, trial.Page(t, "../../docs/SERVICE.md"), map[string]bool{
+	testutil.Must(t, err)
+	testutil.Says(t, testutil.Page(t, "../../docs/SERVICE.md"), map[string]bool{
 		"more than `max-write-rate` allows in a second (16 MiB)": s.node.maxWritten == 16<<20,
 	})
 	if s.node.maxProofs != 64 || s.limits.ProofsByAddress != 16 {
@@ -108,15 +108,15 @@ func TestPageSaysBounds(t *testing.T) {
 // rules.
 func TestScraped(t *testing.T) {
 	s, err := parse([]string{"--roots", "r", "--origin", "o.example", "--signing-key", "k"}, &bytes.Buffer{})
-	trial.Must(t, err)
-	rules, err := os.ReadFile("../../release/ctserve.rules.yml")
-	trial.Must(t, err)
+	testutil.Must(t, err)
+	rules, err := os.ReadFile("../../release/prometheus/ctserve.rules.yml")
+	testutil.Must(t, err)
 	jobs := regexp.MustCompile(`job="(\w+)"`).FindAllSubmatch(rules, -1)
 	if len(jobs) == 0 {
 		t.Fatal("no alarm names a job")
 	}
-	settings := trial.Page(t, "../../release/prometheus.yml")
-	trial.Says(t, settings, map[string]bool{
+	settings := testutil.Page(t, "../../release/prometheus/prometheus.yml")
+	testutil.Says(t, settings, map[string]bool{
 		"rule_files: [ctserve.rules.yml]":       true,
 		`targets: ["` + s.operator + `"]`:       s.operator != "",
 		"job_name: " + string(jobs[0][1]) + " ": true,
@@ -126,7 +126,7 @@ func TestScraped(t *testing.T) {
 			t.Errorf("one alarm is of %s, and another of %s", jobs[0][1], job[1])
 		}
 	}
-	trial.Says(t, trial.Page(t, "../../docs/OPERATING.md"), map[string]bool{
+	testutil.Says(t, testutil.Page(t, "../../docs/OPERATING.md"), map[string]bool{
 		"Prometheus reads /metrics at `operator-listen` (" + s.operator + ";": true,
 	})
 }
@@ -134,8 +134,8 @@ func TestScraped(t *testing.T) {
 // TestUnit: the systemd unit waits for longer than an end takes. It does not restart a log with wrong settings or
 // rolled back stores. It allows as many connections as ctserve accepts, and starts after the clock is synchronized.
 func TestUnit(t *testing.T) {
-	text, err := os.ReadFile("../../release/ctserve@.service")
-	trial.Must(t, err)
+	text, err := os.ReadFile("../../release/systemd/ctserve@.service")
+	testutil.Must(t, err)
 	unit := map[string]string{}
 	for _, line := range strings.Split(string(text), "\n") {
 		if name, value, isSet := strings.Cut(line, "="); isSet {
@@ -143,7 +143,7 @@ func TestUnit(t *testing.T) {
 		}
 	}
 	s, err := parse([]string{"--roots", "r", "--origin", "o.example", "--signing-key", "k"}, &bytes.Buffer{})
-	trial.Must(t, err)
+	testutil.Must(t, err)
 	seconds, err := time.ParseDuration(unit["TimeoutStopSec"] + "s")
 	if err != nil || seconds <= s.endWithin {
 		t.Errorf("systemd kills it behind %v, %v, and an end takes up to %v", seconds, err, s.endWithin)
@@ -166,7 +166,7 @@ func TestUnit(t *testing.T) {
 			t.Errorf("%s is %q", name, unit[name])
 		}
 	}
-	trial.Says(t, trial.Page(t, "../../docs/OPERATING.md"), map[string]bool{
+	testutil.Says(t, testutil.Page(t, "../../docs/OPERATING.md"), map[string]bool{
 		"ends with status 3, and the unit does not start the log again": statusSetBack == 3,
 		"A setting with an unknown name ends a start with status 2": run([]string{"--no-such-word"}, &bytes.Buffer{},
 			openNode) == 2,

@@ -14,7 +14,7 @@ import (
 
 	"wagtenib/internal/check"
 	"wagtenib/internal/softhsm"
-	"wagtenib/internal/trial"
+	"wagtenib/internal/testutil"
 	"wagtenib/internal/web"
 	"wagtenib/internal/web/standin"
 )
@@ -34,7 +34,7 @@ func TestRealLog(t *testing.T) {
 	var at *place
 	var words []string
 	var p *program
-	for until := time.Now().Add(trial.Longest); ; {
+	for until := time.Now().Add(testutil.Longest); ; {
 		at = newPlace(t)
 		words = at.realWords("--signing-key", at.path("log.pem"))
 		if status, told := runs(words); status != statusSetBack {

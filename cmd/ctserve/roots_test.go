@@ -10,7 +10,7 @@ import (
 	"strings"
 	"testing"
 
-	"wagtenib/internal/trial"
+	"wagtenib/internal/testutil"
 )
 
 // tableOf is a table of CCADB with a root of TLS servers and a root of mail.
@@ -56,7 +56,7 @@ func TestRootsOfCCADB(t *testing.T) {
 		t.Errorf("%d %s", status, said)
 	}
 	content, err := os.ReadFile(into + "/ccadb.pem")
-	trial.Must(t, err)
+	testutil.Must(t, err)
 	if !strings.Contains(string(content), string(servers.authority.PEM())) ||
 		strings.Contains(string(content), string(mail.authority.PEM())) {
 		t.Errorf("%s", content)

@@ -12,7 +12,7 @@ import (
 	"testing"
 	"time"
 
-	"wagtenib/internal/trial"
+	"wagtenib/internal/testutil"
 	"wagtenib/internal/web/standin"
 )
 
@@ -52,7 +52,7 @@ func TestEndBySIGTERM(t *testing.T) {
 			t.Errorf("who waited: %d %s", answer.status, answer.text)
 		}
 	}
-	if status := p.ends(); status != 0 || time.Since(began) > trial.Longest/2 {
+	if status := p.ends(); status != 0 || time.Since(began) > testutil.Longest/2 {
 		t.Errorf("it ended with status %d after %v", status, time.Since(began))
 	}
 }
@@ -72,11 +72,11 @@ func TestEndWithinItsBound(t *testing.T) {
 		began := time.Now()
 		p.signal(syscall.SIGTERM)
 		line := p.until("end")
-		if status := p.ends(); status != 1 || time.Since(began) > trial.Longest/2 {
+		if status := p.ends(); status != 1 || time.Since(began) > testutil.Longest/2 {
 			t.Errorf("it ended with status %d after %v", status, time.Since(began))
 		}
 		// (on a busy machine the log itself may not have ended by then, and nothing is said of who waits)
-		if line["fault"] == context.DeadlineExceeded.Error() && within < trial.Longest/8 {
+		if line["fault"] == context.DeadlineExceeded.Error() && within < testutil.Longest/8 {
 			continue
 		}
 		if line["level"] != "error" || !strings.Contains(fmt.Sprint(line["fault"]), "clients") {
@@ -182,7 +182,7 @@ func TestReaderOfLinesGoes(t *testing.T) {
 	if err != nil {
 		t.Fatal(err)
 	}
-	clients := trial.Free(t)
+	clients := testutil.Free(t)
 	command := exec.Command(os.Args[0], append(at.words(), "--listen", clients, "--log-requests")...)
 	command.Env = append(os.Environ(), childKey+"=1", everyKey+"=20ms")
 	command.Stderr = write

@@ -21,14 +21,14 @@ import (
 
 	"wagtenib/internal/signer"
 	"wagtenib/internal/stores"
-	"wagtenib/internal/trial"
+	"wagtenib/internal/testutil"
 	"wagtenib/internal/witness"
 )
 
 // aWitness is a witness of the place's log, over HTTP: its URL, a comma, and its verifier key.
 func (p *place) aWitness(name string, with ...func(log *witness.Log)) (one string, key note.Verifier) {
 	p.t.Helper()
-	must := func(err error) { p.t.Helper(); trial.Must(p.t, err) }
+	must := func(err error) { p.t.Helper(); testutil.Must(p.t, err) }
 	public, private, err := ed25519.GenerateKey(rand.Reader)
 	must(err)
 	s, err := witness.New(witness.Options{Name: name, Key: private})
@@ -55,7 +55,7 @@ func (p *place) aWitness(name string, with ...func(log *witness.Log)) (one strin
 func (p *place) comesIn(at *program) {
 	p.t.Helper()
 	submission := p.submission()
-	for until := trial.Limited(p.t, trial.Longest); ; time.Sleep(50 * time.Millisecond) {
+	for until := testutil.Limited(p.t, testutil.Longest); ; time.Sleep(50 * time.Millisecond) {
 		status, answer := post(at.clients, submission)
 		if status == 200 {
 			return
@@ -104,7 +104,7 @@ func TestWitnessedLog(t *testing.T) {
 	}
 	p.signal(syscall.SIGTERM)
 	p.ends()
-	for until := time.Now().Add(trial.Longest); ; {
+	for until := time.Now().Add(testutil.Longest); ; {
 		for _, part := range parts {
 			if err := os.RemoveAll(at.path(part)); err != nil {
 				t.Fatal(err)
@@ -148,7 +148,7 @@ func TestWatchedWitness(t *testing.T) {
 		t.Fatalf("go build: %v: %s", err, told)
 	}
 	key, err := signer.OpenKey(at.path("log.pem"))
-	trial.Must(t, err)
+	testutil.Must(t, err)
 	of := []string{"--folder", at.path("store"), "--log", "tiled+http://" + p.clients + " " +
 		base64.StdEncoding.EncodeToString(key.Key()) + " log.example/test"}
 	_, one, _ := strings.Cut(first, ",")
@@ -183,7 +183,7 @@ func TestWatchedWitness(t *testing.T) {
 			t.Fatalf("with %d entries: status %d: %s", entries, status, told)
 		}
 		kept, err := os.ReadFile(at.path("cosigned"))
-		trial.Must(t, err)
+		testutil.Must(t, err)
 		if opened, err := note.Open(kept, note.VerifierList(thirdKey)); err != nil || len(opened.Sigs) != 1 ||
 			len(opened.UnverifiedSigs) != 3 {
 			t.Errorf("%q: %v", kept, err)

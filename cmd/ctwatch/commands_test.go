@@ -21,13 +21,13 @@ import (
 	"wagtenib/internal/alert"
 	"wagtenib/internal/finding"
 	"wagtenib/internal/testcert"
-	"wagtenib/internal/trial"
+	"wagtenib/internal/testutil"
 	"wagtenib/internal/watch"
 	"wagtenib/internal/watchstore"
 )
 
 // TestMain runs the tests, or the program itself.
-func TestMain(m *testing.M) { trial.Main(m, main) }
+func TestMain(m *testing.M) { testutil.Main(m, main) }
 
 // TestRefusesSettings: a wrong setting is refused with status 2 before anything is made, and the message names the
 // remedy.
@@ -306,13 +306,13 @@ func TestRunUntilSignal(t *testing.T) {
 	words := []string{"run", "--name", "example.org", "--folder", folder, "--log", log.setting(true), "--pause",
 		"1s", "--listen", "127.0.0.1:0", "--json", alerts, "--quiet"}
 	go func() { ended <- run(ctx, words, &faults, &faults) }()
-	trial.Eventually(t, "the log is read to its end", func() bool {
+	testutil.Eventually(t, "the log is read to its end", func() bool {
 		status, out, _ := ctwatch(t, "health", "--folder", folder)
 		return status == 0 && strings.HasPrefix(out, "1 log;")
 	})
 	log.add(authority, authority.Issue("shop.example.org"))
 	var one alert.Alert
-	trial.Eventually(t, "the alert is sent", func() bool {
+	testutil.Eventually(t, "the alert is sent", func() bool {
 		content, err := os.ReadFile(alerts)
 		return err == nil && json.Unmarshal(content, &one) == nil
 	})

@@ -9,7 +9,7 @@ import (
 	"testing"
 
 	"wagtenib/internal/testcert"
-	"wagtenib/internal/trial"
+	"wagtenib/internal/testutil"
 )
 
 // TestFullDiskLosesNoAlert runs the program on a disk that gets full while it reads a log: it says so by the store's
@@ -44,11 +44,11 @@ func runFull(t *testing.T, folder, says string, isLimited bool, makeRoom func())
 	words := []string{"run", "--once", "--from-start", "--quiet", "--name", "example.org", "--folder",
 		filepath.Join(folder, "store"), "--json", alerts, "--log", log.setting(true)}
 	var out bytes.Buffer
-	program := trial.Program(t, words...)
+	program := testutil.Program(t, words...)
 	program.Stdout, program.Stderr = &out, &out
 	if isLimited {
 		// (the program inherits the bound)
-		_ = trial.ShortFiles(t, 512<<10, program.Run)
+		_ = testutil.ShortFiles(t, 512<<10, program.Run)
 	} else {
 		_ = program.Run()
 	}

@@ -7,7 +7,7 @@ import (
 	"testing"
 
 	"wagtenib/internal/testcert"
-	"wagtenib/internal/trial"
+	"wagtenib/internal/testutil"
 )
 
 // TestHintNamesTheProgramAsItWasCalled: an alert says how to get the certificate by the path of the program, unless the
@@ -18,7 +18,7 @@ func TestHintNamesTheProgramAsItWasCalled(t *testing.T) {
 	for called, hint := range map[string]string{"cmd/out/ctwatch": "; cmd/out/ctwatch certificate ",
 		"/usr/bin/ctwatch": "; /usr/bin/ctwatch certificate ", "ctwatch": "; ctwatch certificate ",
 		"/a folder/ctwatch": "; ctwatch certificate ", "/a$b/ctwatch": "; ctwatch certificate "} {
-		program := trial.Program(t, "run", "--once", "--from-start", "--name", "example.org", "--folder", t.TempDir(),
+		program := testutil.Program(t, "run", "--once", "--from-start", "--name", "example.org", "--folder", t.TempDir(),
 			"--log", log.setting(true))
 		program.Args[0] = called
 		out, err := program.Output()

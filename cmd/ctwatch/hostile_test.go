@@ -8,7 +8,7 @@ import (
 	"testing"
 
 	"wagtenib/internal/testcert"
-	"wagtenib/internal/trial"
+	"wagtenib/internal/testutil"
 )
 
 // maxMemory bounds the memory of ctwatch while a log answers as badly as it can, in bytes. The systemd unit allows
@@ -37,7 +37,7 @@ func TestHostileAnswersTakeBoundedMemory(t *testing.T) {
 			_, _ = w.Write(answer)
 			return true
 		})
-		program := trial.Program(t, "run", "--once", "--from-start", "--name", "example.org", "--folder", t.TempDir(),
+		program := testutil.Program(t, "run", "--once", "--from-start", "--name", "example.org", "--folder", t.TempDir(),
 			"--log", log.setting(what == "tile/data/"))
 		out, err := program.CombinedOutput()
 		if program.ProcessState.ExitCode() != statusUnread && program.ProcessState.ExitCode() != statusAccused {

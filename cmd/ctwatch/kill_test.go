@@ -16,7 +16,7 @@ import (
 	"wagtenib/internal/alert"
 	"wagtenib/internal/check"
 	"wagtenib/internal/testcert"
-	"wagtenib/internal/trial"
+	"wagtenib/internal/testutil"
 )
 
 // A long run is: go test ./cmd/ctwatch -run Killed -v -args -kills 200
@@ -109,7 +109,7 @@ func killAt(t *testing.T, words []string, asked chan struct{}, requests int, lat
 	for len(asked) > 0 {
 		<-asked
 	}
-	program := trial.Program(t, words...)
+	program := testutil.Program(t, words...)
 	var faults bytes.Buffer
 	program.Stderr = &faults
 	must(t, program.Start())

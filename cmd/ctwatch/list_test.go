@@ -18,7 +18,7 @@ import (
 	"testing"
 
 	"wagtenib/internal/testcert"
-	"wagtenib/internal/trial"
+	"wagtenib/internal/testutil"
 )
 
 // refusingList serves a log list with a log. It refuses every request until it is opened.
@@ -98,7 +98,7 @@ func nextEvent(t *testing.T, from *bufio.Scanner, name string) event {
 // started starts the program, and returns the lines of its standard error.
 func started(t *testing.T, words ...string) (*exec.Cmd, *bufio.Scanner) {
 	t.Helper()
-	program := trial.Program(t, words...)
+	program := testutil.Program(t, words...)
 	lines, err := program.StderrPipe()
 	must(t, err)
 	must(t, program.Start())
@@ -121,7 +121,7 @@ func TestReportsTheFirstFailureAtOnce(t *testing.T) {
 			!strings.Contains(lines.Text(), "status 503") || !strings.Contains(lines.Text(), "it is tried again") {
 			t.Errorf("%s: the first line is %q", words[0], lines.Text())
 		}
-		trial.Eventually(t, "the list is asked for three times", func() bool { return list.asked.Load() >= 3 })
+		testutil.Eventually(t, "the list is asked for three times", func() bool { return list.asked.Load() >= 3 })
 		list.isOpen.Store(true)
 		for lines.Scan() {
 			if strings.Contains(lines.Text(), "it is tried again") {
@@ -175,7 +175,7 @@ func TestReportsAListThatWasNeverRead(t *testing.T) {
 	if one := nextEvent(t, lines, "log-list"); one.Logs != 1 || one.Fault != "" || one.List != list.address {
 		t.Errorf("the line of the list that was read is %+v", one)
 	}
-	trial.Eventually(t, "/healthz is well", func() bool {
+	testutil.Eventually(t, "/healthz is well", func() bool {
 		status, line := healthOf(t, page)
 		return status == http.StatusOK && strings.HasPrefix(line, "1 log; all are read")
 	})
@@ -308,7 +308,7 @@ func TestWatchesTheLogsOfTheLastList(t *testing.T) {
 		}
 	}
 	w.write(t, listOf(t, w.log))
-	trial.Eventually(t, "/healthz is well", func() bool {
+	testutil.Eventually(t, "/healthz is well", func() bool {
 		status, line := healthOf(t, page)
 		return status == http.StatusOK && strings.HasPrefix(line, "1 log; all are read")
 	})

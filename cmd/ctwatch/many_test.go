@@ -14,7 +14,7 @@ import (
 	"wagtenib/internal/alert"
 	"wagtenib/internal/testcert"
 	"wagtenib/internal/testlog"
-	"wagtenib/internal/trial"
+	"wagtenib/internal/testutil"
 )
 
 // A long run is: go test ./cmd/ctwatch -run ManyFindings -v -args -told 30000
@@ -76,7 +76,7 @@ func reportAll(t *testing.T, count int, output ...string) {
 	t.Helper()
 	words := []string{"run", "--once", "--from-start", "--quiet", "--name", "example.org", "--folder", t.TempDir(),
 		"--log", manyIssuances(t, count).setting(true)}
-	program := trial.Program(t, append(words, output...)...)
+	program := testutil.Program(t, append(words, output...)...)
 	began := time.Now()
 	out, err := program.CombinedOutput()
 	took := time.Since(began)

@@ -12,7 +12,7 @@ import (
 
 	"wagtenib/internal/alert"
 	"wagtenib/internal/testcert"
-	"wagtenib/internal/trial"
+	"wagtenib/internal/testutil"
 )
 
 // TestReadsSettingsAgain: after a SIGHUP, ctwatch goes on with the settings that the file then has. If they are
@@ -27,7 +27,7 @@ func TestReadsSettingsAgain(t *testing.T) {
 			strings.Join(names, "\nname "), log.setting(true), folder, alerts)), 0o600))
 	}
 	write(first, "example.org")
-	program := trial.Program(t, "run", "--config", config)
+	program := testutil.Program(t, "run", "--config", config)
 	said, err := os.Create(filepath.Join(folder, "said"))
 	must(t, err)
 	defer said.Close()
@@ -35,12 +35,12 @@ func TestReadsSettingsAgain(t *testing.T) {
 	must(t, program.Start())
 	says := func(text string) {
 		t.Helper()
-		trial.Eventually(t, text, func() bool {
+		testutil.Eventually(t, text, func() bool {
 			content, err := os.ReadFile(said.Name())
 			return err == nil && bytes.Contains(content, []byte(text))
 		})
 	}
-	trial.Eventually(t, "the log is read to its end", func() bool {
+	testutil.Eventually(t, "the log is read to its end", func() bool {
 		status, out, _ := ctwatch(t, "health", "--folder", folder)
 		return status == 0 && strings.HasPrefix(out, "1 log;")
 	})
@@ -70,7 +70,7 @@ func TestReadsSettingsAgain(t *testing.T) {
 // wantsHosts waits until a file has an alert for each host, and for no other.
 func wantsHosts(t *testing.T, path string, hosts ...string) {
 	t.Helper()
-	trial.Eventually(t, "the alert is sent", func() bool {
+	testutil.Eventually(t, "the alert is sent", func() bool {
 		content, err := os.ReadFile(path)
 		return err == nil && bytes.Count(content, []byte("\n")) >= len(hosts)
 	})

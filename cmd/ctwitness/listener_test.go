@@ -18,7 +18,7 @@ import (
 	"time"
 
 	"wagtenib/internal/stores"
-	"wagtenib/internal/trial"
+	"wagtenib/internal/testutil"
 	"wagtenib/internal/web"
 )
 
@@ -53,7 +53,7 @@ func (c *connected) RemoteAddr() net.Addr { return &net.TCPAddr{IP: net.IPv4(192
 // TestBounded: a connection above the bound waits until another one has ended, once for each. If there is none, the
 // slot is free again.
 func TestBounded(t *testing.T) {
-	ctx := trial.Limited(t, trial.Longest)
+	ctx := testutil.Limited(t, testutil.Longest)
 	of := &listening{}
 	b := bounded{of, make(chan struct{}, 2), &addresses{of: map[netip.Prefix]int{}}}
 	var first []net.Conn
@@ -135,7 +135,7 @@ func TestOneHost(t *testing.T) {
 		}
 	}
 	idle[0].Close()
-	trial.Eventually(t, "room for one more", func() bool { return answers(from(2)) })
+	testutil.Eventually(t, "room for one more", func() bool { return answers(from(2)) })
 }
 
 // TestGroups: an address of IPv6 counts with its /64, and a proxy on this machine has no bound of its own.
@@ -190,7 +190,7 @@ func (c *closing) Close() error {
 
 // TestOpenedOnce: a log's state is opened once, however often the logs are reloaded, and closed at the end.
 func TestOpenedOnce(t *testing.T) {
-	ctx := trial.Limited(t, trial.Longest)
+	ctx := testutil.Limited(t, testutil.Longest)
 	p, _ := ofOneLog(t)
 	s, err := parse(p.words(), io.Discard)
 	must(t, err)
@@ -339,7 +339,7 @@ func (p place) startedOver(more ...string) (*process, *held) {
 		w, err := open(s, lines)
 		must(p.t, err)
 		defer w.close()
-		of.Register, err = stores.RegisterOf(trial.Limited(p.t, trial.Longest), s.state, "a.example")
+		of.Register, err = stores.RegisterOf(testutil.Limited(p.t, testutil.Longest), s.state, "a.example")
 		must(p.t, err)
 		w.registers["a.example"] = of
 		return statusOf(w.serve(s, lines, signals), lines)
@@ -402,7 +402,7 @@ func TestEndIsLate(t *testing.T) {
 	if status := <-one.status; status != 1 || !strings.Contains(end, "waiting requests were not answered") {
 		t.Errorf("status %d: %s", status, end)
 	}
-	if took := time.Since(began); took > trial.Longest/2 {
+	if took := time.Since(began); took > testutil.Longest/2 {
 		t.Errorf("the end took %v", took)
 	}
 	<-gone

@@ -21,11 +21,11 @@ import (
 
 	"golang.org/x/mod/sumdb/note"
 
-	"wagtenib/internal/trial"
+	"wagtenib/internal/testutil"
 	"wagtenib/internal/witness"
 )
 
-var must = trial.Must
+var must = testutil.Must
 
 // place is a folder with a witness's key and its file of settings.
 type place struct {
@@ -87,7 +87,7 @@ func (p place) started(more ...string) *process {
 	var words []string
 	for _, name := range []string{"open-timeout", "shutdown-timeout"} {
 		// The last one of a setting counts.
-		words = append(words, "--"+name, trial.Longest.String())
+		words = append(words, "--"+name, testutil.Longest.String())
 	}
 	words = append(words, more...)
 	return p.runs(func(to io.Writer, signals chan os.Signal) int { return run(words, io.Discard, to, signals) })
@@ -102,7 +102,7 @@ func (p place) runs(does func(to io.Writer, signals chan os.Signal) int) *proces
 		to.Close()
 	}()
 	come := make(chan string)
-	go trial.PassOn(come, one.told)
+	go testutil.PassOn(come, one.told)
 	go func() {
 		defer close(come)
 		for lines := bufio.NewScanner(from); lines.Scan(); {

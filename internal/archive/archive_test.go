@@ -24,8 +24,8 @@ import (
 	"wagtenib/internal/logclient"
 	"wagtenib/internal/signature"
 	"wagtenib/internal/testlog"
+	"wagtenib/internal/testutil"
 	"wagtenib/internal/tile"
-	"wagtenib/internal/trial"
 )
 
 const origin = "log.example/2022"
@@ -41,7 +41,7 @@ type world struct {
 func newWorld(t *testing.T, entries uint64) *world {
 	t.Helper()
 	log, err := testlog.New(origin)
-	trial.Must(t, err)
+	testutil.Must(t, err)
 	w := &world{t: t, log: log, server: httptest.NewServer(log), folder: filepath.Join(t.TempDir(), "archive")}
 	t.Cleanup(w.server.Close)
 	w.grow(entries)
@@ -88,7 +88,7 @@ func options() archive.Options {
 
 // make archives the log.
 func (w *world) make() error {
-	_, err := archive.Make(trial.Limited(w.t, trial.Longest), w.folder, w.of(), options())
+	_, err := archive.Make(testutil.Limited(w.t, testutil.Longest), w.folder, w.of(), options())
 	return err
 }
 
@@ -111,7 +111,7 @@ func filesIn(t *testing.T, folder string) map[string]string {
 		return err
 	})
 	if !errors.Is(err, fs.ErrNotExist) {
-		trial.Must(t, err)
+		testutil.Must(t, err)
 	}
 	return files
 }
@@ -151,9 +151,9 @@ func (w *world) wantsArchived() {
 // wantsServed opens the archive, and asks for the index of some leaves.
 func (w *world) wantsServed(size uint64) {
 	w.t.Helper()
-	ctx := trial.Limited(w.t, trial.Longest)
+	ctx := testutil.Limited(w.t, testutil.Longest)
 	served, err := archive.Open(ctx, w.folder)
-	trial.Must(w.t, err)
+	testutil.Must(w.t, err)
 	defer served.Close()
 	for index := uint64(0); index < size; index += 1 + size/20 {
 		_, answer := get(w.t, w.log, fmt.Sprintf("/ct/v1/get-entries?start=%d&end=%d", index, index))
@@ -198,10 +198,10 @@ func TestArchivesALog(t *testing.T) {
 	for _, size := range []uint64{1, 255, 256, 257, 512, 1300} {
 		t.Run(fmt.Sprint(size), func(t *testing.T) {
 			w := newWorld(t, size)
-			trial.Must(t, w.make())
+			testutil.Must(t, w.make())
 			w.wantsArchived()
 			before := filesIn(t, w.folder)
-			trial.Must(t, w.make())
+			testutil.Must(t, w.make())
 			wantsSame(t, before, filesIn(t, w.folder))
 		})
 	}
@@ -224,14 +224,14 @@ func wantsSame(t *testing.T, due, files map[string]string) {
 // What a process that was killed in a write left of a file goes.
 func TestDropsHalfWrittenFiles(t *testing.T) {
 	w := newWorld(t, 300)
-	trial.Must(t, os.Mkdir(w.folder, 0o755))
-	trial.Must(t, os.WriteFile(filepath.Join(w.folder, "log.json.writing-1"), []byte("{"), 0o600))
-	trial.Must(t, w.make())
+	testutil.Must(t, os.Mkdir(w.folder, 0o755))
+	testutil.Must(t, os.WriteFile(filepath.Join(w.folder, "log.json.writing-1"), []byte("{"), 0o600))
+	testutil.Must(t, w.make())
 	before := filesIn(t, w.folder)
 	for _, name := range []string{"progress", "signed-head.json", "objects/checkpoint"} {
-		trial.Must(t, os.WriteFile(filepath.Join(w.folder, filepath.FromSlash(name)+".writing-2"), nil, 0o600))
+		testutil.Must(t, os.WriteFile(filepath.Join(w.folder, filepath.FromSlash(name)+".writing-2"), nil, 0o600))
 	}
-	trial.Must(t, w.make())
+	testutil.Must(t, w.make())
 	wantsSame(t, before, filesIn(t, w.folder))
 }
 
@@ -240,12 +240,12 @@ func TestGrows(t *testing.T) {
 	w := newWorld(t, 1)
 	for _, count := range []uint64{0, 43, 212, 1, 500, 256, 1000} {
 		w.grow(count)
-		trial.Must(t, w.make())
+		testutil.Must(t, w.make())
 		w.wantsArchived()
 	}
 	grown := w.folder
 	w.folder = filepath.Join(t.TempDir(), "at once")
-	trial.Must(t, w.make())
+	testutil.Must(t, w.make())
 	wantsSame(t, filesIn(t, w.folder), filesIn(t, grown))
 }
 
@@ -287,7 +287,7 @@ func TestMain(m *testing.M) {
 func (w *world) killed(write int) {
 	w.t.Helper()
 	program, err := os.Executable()
-	trial.Must(w.t, err)
+	testutil.Must(w.t, err)
 	child := exec.Command(program)
 	child.Env = append(os.Environ(), childFolder+"="+w.folder, childURL+"="+w.server.URL,
 		childKey+"="+base64.StdEncoding.EncodeToString(w.log.PublicKey()), fmt.Sprintf("%s=%d", childWrites, write))
@@ -304,8 +304,8 @@ func (w *world) writes(begin string) (count int) {
 	w.begin(begin)
 	settings := options()
 	settings.Writing = func(string) { count++ }
-	_, err := archive.Make(trial.Limited(w.t, trial.Longest), w.folder, w.of(), settings)
-	trial.Must(w.t, err)
+	_, err := archive.Make(testutil.Limited(w.t, testutil.Longest), w.folder, w.of(), settings)
+	testutil.Must(w.t, err)
 	return count
 }
 
@@ -314,7 +314,7 @@ func (w *world) begin(from string) {
 	w.t.Helper()
 	w.folder = filepath.Join(w.t.TempDir(), "archive")
 	if from != "" {
-		trial.Must(w.t, os.CopyFS(w.folder, os.DirFS(from)))
+		testutil.Must(w.t, os.CopyFS(w.folder, os.DirFS(from)))
 	}
 }
 
@@ -322,11 +322,11 @@ func (w *world) begin(from string) {
 // with the same bytes. A head is served as soon as all of it is there, and from then on there is always one.
 func TestContinuesAfterAKillAtEachWrite(t *testing.T) {
 	w := newWorld(t, 300)
-	trial.Must(t, w.make())
+	testutil.Must(t, w.make())
 	first := filepath.Join(t.TempDir(), "first")
-	trial.Must(t, os.CopyFS(first, os.DirFS(w.folder)))
+	testutil.Must(t, os.CopyFS(first, os.DirFS(w.folder)))
 	w.grow(300)
-	trial.Must(t, w.make())
+	testutil.Must(t, w.make())
 	second := filesIn(t, w.folder)
 	for what, begin := range map[string]string{"from nothing": "", "from 300 entries": first} {
 		writes := w.writes(begin)
@@ -339,7 +339,7 @@ func TestContinuesAfterAKillAtEachWrite(t *testing.T) {
 				own := &world{t: t, log: w.log, server: w.server}
 				own.begin(begin)
 				own.killed(write)
-				served, err := archive.Open(trial.Limited(t, trial.Longest), own.folder)
+				served, err := archive.Open(testutil.Limited(t, testutil.Longest), own.folder)
 				switch {
 				case err == nil:
 					if size := served.Figures().Entries; size != 600 && (begin == "" || size != 300) {
@@ -349,7 +349,7 @@ func TestContinuesAfterAKillAtEachWrite(t *testing.T) {
 				case begin != "" || !errors.Is(err, archive.ErrIncomplete) && !errors.Is(err, archive.ErrFolder):
 					t.Error(err)
 				}
-				trial.Must(t, own.make())
+				testutil.Must(t, own.make())
 				wantsSame(t, second, filesIn(t, own.folder))
 				own.wantsServed(600)
 			})
@@ -360,16 +360,16 @@ func TestContinuesAfterAKillAtEachWrite(t *testing.T) {
 // What is served stays whole while another process adds entries to the archive, although it deletes partial tiles.
 func TestServesWhileTheArchiveGrows(t *testing.T) {
 	w := newWorld(t, 300)
-	trial.Must(t, w.make())
-	ctx := trial.Limited(t, trial.Longest)
+	testutil.Must(t, w.make())
+	ctx := testutil.Limited(t, testutil.Longest)
 	served, err := archive.Open(ctx, w.folder)
-	trial.Must(t, err)
+	testutil.Must(t, err)
 	defer served.Close()
 	names := []string{"tile/data/001.p/44", "tile/0/001.p/44", "tile/1/000.p/1", "tile/data/000"}
 	before := filesIn(t, w.folder)
 	for _, count := range []uint64{100, 600} {
 		w.grow(count)
-		trial.Must(t, w.make())
+		testutil.Must(t, w.make())
 		if _, err := os.Stat(filepath.Join(w.folder, "objects", names[0])); !errors.Is(err, fs.ErrNotExist) {
 			t.Errorf("%s is not deleted: %v", names[0], err)
 		}

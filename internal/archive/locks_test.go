@@ -7,7 +7,7 @@ import (
 	"strings"
 	"testing"
 
-	"wagtenib/internal/trial"
+	"wagtenib/internal/testutil"
 )
 
 // failingLocks is a library in C whose fcntl fails to unlock while a file is there: a file system of a network does,
@@ -60,7 +60,7 @@ func TestLocksThatFailForAWhile(t *testing.T) {
 	}
 	folder := t.TempDir()
 	source, library := filepath.Join(folder, "locks.c"), filepath.Join(folder, "locks.so")
-	trial.Must(t, os.WriteFile(source, []byte(failingLocks), 0o600))
+	testutil.Must(t, os.WriteFile(source, []byte(failingLocks), 0o600))
 	if said, err := exec.Command(compiler, "-shared", "-fPIC", "-o", library, source,
 		"-ldl").CombinedOutput(); err != nil {
 		t.Fatalf("%v: %s", err, said)
@@ -76,9 +76,9 @@ func TestLocksThatFailForAWhile(t *testing.T) {
 
 // beLocked is the child.
 func beLocked(t *testing.T) {
-	ctx, index := trial.Limited(t, trial.Longest), opened(t, os.Getenv(lockedKey))
-	trial.Must(t, index.add(ctx, 1, hashesOf(1, 2)))
-	trial.Must(t, os.WriteFile(os.Getenv(failKey), nil, 0o600))
+	ctx, index := testutil.Limited(t, testutil.Longest), opened(t, os.Getenv(lockedKey))
+	testutil.Must(t, index.add(ctx, 1, hashesOf(1, 2)))
+	testutil.Must(t, os.WriteFile(os.Getenv(failKey), nil, 0o600))
 	failed := false
 	for i := 2; i < 20; i++ {
 		err := index.add(ctx, uint64(i), hashesOf(i, i+1))
@@ -88,9 +88,9 @@ func beLocked(t *testing.T) {
 	if failed {
 		t.Log("a lock failed")
 	}
-	trial.Must(t, os.Remove(os.Getenv(failKey)))
+	testutil.Must(t, os.Remove(os.Getenv(failKey)))
 	for i := 20; i < 40; i++ {
-		trial.Must(t, index.add(ctx, uint64(i), hashesOf(i, i+1)))
+		testutil.Must(t, index.add(ctx, uint64(i), hashesOf(i, i+1)))
 		has(t, index, 1, i+1, 1, i)
 	}
 }

@@ -9,7 +9,7 @@ import (
 
 	"wagtenib/internal/archive"
 	"wagtenib/internal/testlog"
-	"wagtenib/internal/trial"
+	"wagtenib/internal/testutil"
 )
 
 // TestLargeIssuersEndAPart: the bytes of issuers count among those that are in memory before a part is proved and
@@ -28,8 +28,8 @@ func TestLargeIssuersEndAPart(t *testing.T) {
 	of := options()
 	of.MaxTiles = 0
 	of.Progress = func(entries, _ uint64) { parts = append(parts, entries) }
-	_, err := archive.Make(trial.Limited(t, trial.Longest), w.folder, w.of(), of)
-	trial.Must(t, err)
+	_, err := archive.Make(testutil.Limited(t, testutil.Longest), w.folder, w.of(), of)
+	testutil.Must(t, err)
 	if !slices.Equal(parts, []uint64{256, 512}) {
 		t.Errorf("the parts end at %d", parts)
 	}
@@ -39,7 +39,7 @@ func TestLargeIssuersEndAPart(t *testing.T) {
 // another root, is a fork.
 func TestForkOfTheSizeThatIsArchived(t *testing.T) {
 	w := newWorld(t, 300)
-	trial.Must(t, w.make())
+	testutil.Must(t, w.make())
 	w.grow(300)
 	answers(w.log, "get-entries", func(rw http.ResponseWriter, _ *http.Request) bool {
 		rw.WriteHeader(http.StatusInternalServerError)
@@ -49,5 +49,5 @@ func TestForkOfTheSizeThatIsArchived(t *testing.T) {
 		t.Fatal("it is archived without entries")
 	}
 	w.fork(t, 10, 300)
-	trial.Wants(t, w.make(), archive.ErrFork)
+	testutil.Wants(t, w.make(), archive.ErrFork)
 }

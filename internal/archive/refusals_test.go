@@ -12,12 +12,12 @@ import (
 	"testing"
 
 	"wagtenib/internal/archive"
-	"wagtenib/internal/log"
+	"wagtenib/internal/logapi"
 	"wagtenib/internal/logclient"
 	"wagtenib/internal/signature"
 	"wagtenib/internal/stores"
 	"wagtenib/internal/testlog"
-	"wagtenib/internal/trial"
+	"wagtenib/internal/testutil"
 )
 
 // answers has a log answer one call by a function, which may answer nothing.
@@ -88,7 +88,7 @@ var lies = map[string]struct {
 	"no entries":    {func(_ *testing.T, w *world) { w.log.Publish(0, 2_000_200) }, archive.ErrEmpty},
 	"a head of another key": {func(t *testing.T, w *world) {
 		other, err := testlog.New(origin)
-		trial.Must(t, err)
+		testutil.Must(t, err)
 		other.PublishRoot(600, 2_000_700, w.log.Root(600))
 		answers(w.log, "get-sth", func(rw http.ResponseWriter, _ *http.Request) bool {
 			_, err := rw.Write(record(other, "/ct/v1/get-sth"))
@@ -154,7 +154,7 @@ func TestRefusesALogThatLies(t *testing.T) {
 	for what, of := range lies {
 		t.Run(what, func(t *testing.T) {
 			w := newWorld(t, 300)
-			trial.Must(t, w.make())
+			testutil.Must(t, w.make())
 			before := filesIn(t, w.folder)
 			w.grow(300)
 			of.tell(t, w)
@@ -181,7 +181,7 @@ func TestRefusesALogThatLies(t *testing.T) {
 			w.log.Intercept(nil)
 			w.log.Publish(600, 2_000_800)
 			w.wantsServed(300)
-			trial.Must(t, w.make())
+			testutil.Must(t, w.make())
 			w.wantsArchived()
 		})
 	}
@@ -198,25 +198,25 @@ func TestRootThatIsNoTrees(t *testing.T) {
 	if err := w.make(); !errors.Is(err, archive.ErrFork) {
 		t.Errorf("%v", err)
 	}
-	trial.Must(t, os.Remove(filepath.Join(w.folder, "wanted-head.json")))
-	trial.Must(t, os.Remove(filepath.Join(w.folder, "other-head.json")))
-	trial.Must(t, w.make())
+	testutil.Must(t, os.Remove(filepath.Join(w.folder, "wanted-head.json")))
+	testutil.Must(t, os.Remove(filepath.Join(w.folder, "other-head.json")))
+	testutil.Must(t, w.make())
 	w.wantsArchived()
 	// The head of which the archive has all entries is not given up so.
-	trial.Must(t, os.Remove(filepath.Join(w.folder, "wanted-head.json")))
+	testutil.Must(t, os.Remove(filepath.Join(w.folder, "wanted-head.json")))
 	w.log.Publish(200, 2_000_302)
 	if err := w.make(); !errors.Is(err, archive.ErrBehind) {
 		t.Errorf("%v", err)
 	}
 	w.log.Publish(300, 2_000_303)
-	trial.Must(t, w.make())
+	testutil.Must(t, w.make())
 	w.wantsArchived()
 }
 
 // A folder of another log, of another origin, with other files, or in use is refused.
 func TestRefusesAnotherFolder(t *testing.T) {
 	w, other := newWorld(t, 20), newWorld(t, 20)
-	trial.Must(t, w.make())
+	testutil.Must(t, w.make())
 	before := filesIn(t, w.folder)
 	other.folder = w.folder
 	if err := other.make(); !errors.Is(err, archive.ErrFolder) {
@@ -224,18 +224,18 @@ func TestRefusesAnotherFolder(t *testing.T) {
 	}
 	of := w.of()
 	of.Origin = "elsewhere.example"
-	if _, err := archive.Make(trial.Limited(t, trial.Longest), w.folder, of,
+	if _, err := archive.Make(testutil.Limited(t, testutil.Longest), w.folder, of,
 		options()); !errors.Is(err, archive.ErrFolder) {
 		t.Errorf("another origin: %v", err)
 	}
 	wantsSame(t, before, filesIn(t, w.folder))
 	w.folder = t.TempDir()
-	trial.Must(t, os.WriteFile(filepath.Join(w.folder, "letter"), []byte("Dear"), 0o600))
+	testutil.Must(t, os.WriteFile(filepath.Join(w.folder, "letter"), []byte("Dear"), 0o600))
 	if err := w.make(); !errors.Is(err, archive.ErrFolder) || !strings.HasSuffix(err.Error(), "(name an empty folder)") {
 		t.Errorf("a folder with a letter: %v", err)
 	}
 	w.folder = t.TempDir()
-	trial.Must(t, os.WriteFile(filepath.Join(w.folder, "log.json"), []byte("{}"), 0o600))
+	testutil.Must(t, os.WriteFile(filepath.Join(w.folder, "log.json"), []byte("{}"), 0o600))
 	if err := w.make(); !errors.Is(err, archive.ErrFolder) ||
 		!strings.Contains(err.Error(), "it has no origin or no key") {
 		t.Errorf("a folder of no log: %v", err)
@@ -247,43 +247,43 @@ func TestRefusesAnotherFolder(t *testing.T) {
 			t.Errorf("a folder in use: %v", err)
 		}
 	}
-	_, err := archive.Make(trial.Limited(t, trial.Longest), w.folder, w.of(), settings)
-	trial.Must(t, err)
+	_, err := archive.Make(testutil.Limited(t, testutil.Longest), w.folder, w.of(), settings)
+	testutil.Must(t, err)
 }
 
 // An index that is lost is refused, and is built again by the next run.
 func TestIndexIsBuiltAgain(t *testing.T) {
 	w := newWorld(t, 600)
-	trial.Must(t, w.make())
+	testutil.Must(t, w.make())
 	lost, err := filepath.Glob(filepath.Join(w.folder, "index*"))
-	trial.Must(t, err)
+	testutil.Must(t, err)
 	for _, path := range lost {
-		trial.Must(t, os.Remove(path))
+		testutil.Must(t, os.Remove(path))
 	}
-	if _, err := archive.Open(trial.Limited(t, trial.Longest), w.folder); !errors.Is(err, archive.ErrDamaged) {
+	if _, err := archive.Open(testutil.Limited(t, testutil.Longest), w.folder); !errors.Is(err, archive.ErrDamaged) {
 		t.Errorf("%v", err)
 	}
-	trial.Must(t, w.make())
+	testutil.Must(t, w.make())
 	w.wantsArchived()
 }
 
 // Objects that are not those of the tree are not served, and others are.
 func TestServesNoDamage(t *testing.T) {
 	w := newWorld(t, 600)
-	trial.Must(t, w.make())
-	ctx := trial.Limited(t, trial.Longest)
+	testutil.Must(t, w.make())
+	ctx := testutil.Limited(t, testutil.Longest)
 	served, err := archive.Open(ctx, w.folder)
-	trial.Must(t, err)
+	testutil.Must(t, err)
 	defer served.Close()
-	for name, due := range map[string]error{"tile/data/000": log.ErrStore, "tile/0/001": log.ErrStore,
-		"tile/data/002.p/88": log.ErrStore, "tile/data/001": nil, "tile/data/002.p/87": stores.ErrAbsent,
+	for name, due := range map[string]error{"tile/data/000": logapi.ErrStore, "tile/0/001": logapi.ErrStore,
+		"tile/data/002.p/88": logapi.ErrStore, "tile/data/001": nil, "tile/data/002.p/87": stores.ErrAbsent,
 		"tile/data/003": stores.ErrAbsent, "checkpoint": stores.ErrName, "../signed-head.json": stores.ErrName} {
-		if errors.Is(due, log.ErrStore) {
+		if errors.Is(due, logapi.ErrStore) {
 			path := filepath.Join(w.folder, "objects", filepath.FromSlash(name))
 			content, err := os.ReadFile(path)
-			trial.Must(t, err)
+			testutil.Must(t, err)
 			content[3] ^= 1 // (of a data tile, a byte of a timestamp: a hash covers it)
-			trial.Must(t, os.WriteFile(path, content, 0o600))
+			testutil.Must(t, os.WriteFile(path, content, 0o600))
 		}
 		content, err := served.Object(ctx, name, 1<<20)
 		if !errors.Is(err, due) || (err == nil) != (content != nil) {

@@ -10,18 +10,18 @@ import (
 	"time"
 
 	"wagtenib/bindings/go/wagtenib"
-	"wagtenib/internal/log"
+	"wagtenib/internal/logapi"
 	"wagtenib/internal/signature"
 	"wagtenib/internal/signer"
 	"wagtenib/internal/stores"
 	"wagtenib/internal/tile"
 )
 
-// Served is an archive that is complete, as a log that takes no submissions: a log.Log. It believes neither its objects
+// Served is an archive that is complete, as a log that takes no submissions: a logapi.Log. It believes neither its objects
 // nor its index. Its methods may be called at once.
 type Served struct {
 	of       Log
-	head     log.Head
+	head     logapi.Head
 	tree     signer.Head
 	objects  stores.Objects
 	index    *leafIndex
@@ -83,16 +83,16 @@ func Open(ctx context.Context, path string) (s *Served, err error) {
 }
 
 // headOf returns a head as package log has it.
-func headOf(signed head, of Log) (log.Head, error) {
+func headOf(signed head, of Log) (logapi.Head, error) {
 	sth, err := signature.ReadSTH(signed.answer)
 	if err != nil {
-		return log.Head{}, fmt.Errorf("%w: %w", ErrDamaged, err)
+		return logapi.Head{}, fmt.Errorf("%w: %w", ErrDamaged, err)
 	}
 	note, err := signature.CheckpointOfSTH(signed.answer, of.Origin, of.PublicKey)
 	if err != nil {
-		return log.Head{}, fmt.Errorf("%w: %w", ErrDamaged, err)
+		return logapi.Head{}, fmt.Errorf("%w: %w", ErrDamaged, err)
 	}
-	return log.Head{Note: note, TreeSize: signed.TreeSize, Timestamp: signed.Timestamp, RootHash: signed.Root,
+	return logapi.Head{Note: note, TreeSize: signed.TreeSize, Timestamp: signed.Timestamp, RootHash: signed.Root,
 		Signature: sth.Signature}, nil
 }
 
@@ -160,18 +160,18 @@ func (s *Served) Close() {
 	}
 }
 
-// Submit is log.Log's.
-func (s *Served) Submit(context.Context, log.Entry) (log.Place, error) {
-	return log.Place{}, log.ErrEnded
+// Submit is logapi.Log's.
+func (s *Served) Submit(context.Context, logapi.Entry) (logapi.Place, error) {
+	return logapi.Place{}, logapi.ErrEnded
 }
 
-// Checkpoint is log.Log's: the last head of the log.
-func (s *Served) Checkpoint(context.Context) (log.Head, error) { return s.head, nil }
+// Checkpoint is logapi.Log's: the last head of the log.
+func (s *Served) Checkpoint(context.Context) (logapi.Head, error) { return s.head, nil }
 
-// HeadOf is log.Log's.
-func (s *Served) HeadOf(context.Context, uint64) (log.Head, error) { return s.head, nil }
+// HeadOf is logapi.Log's.
+func (s *Served) HeadOf(context.Context, uint64) (logapi.Head, error) { return s.head, nil }
 
-// Object is log.Log's. Each tile is compared with the tree of the head.
+// Object is logapi.Log's. Each tile is compared with the tree of the head.
 func (s *Served) Object(ctx context.Context, name string, most int64) ([]byte, error) {
 	of, isTile := tile.Parse(name)
 	if !isTile && !strings.HasPrefix(name, "issuer/") {
@@ -191,16 +191,16 @@ func (s *Served) Object(ctx context.Context, name string, most int64) ([]byte, e
 		err = s.comparer.Compare(ctx, s.tree, of, content)
 	}
 	if err != nil {
-		return nil, fmt.Errorf("%w: %w", log.ErrStore, err)
+		return nil, fmt.Errorf("%w: %w", logapi.ErrStore, err)
 	}
 	return content, nil
 }
 
-// IndexOf is log.Log's.
+// IndexOf is logapi.Log's.
 func (s *Served) IndexOf(ctx context.Context, leafHash [32]byte) (uint64, error) {
 	index, ok, err := s.index.find(ctx, leafHash)
 	if err != nil {
-		return 0, fmt.Errorf("%w: %w", log.ErrStore, err)
+		return 0, fmt.Errorf("%w: %w", logapi.ErrStore, err)
 	}
 	if !ok {
 		return 0, fmt.Errorf("%w: a leaf of this hash", stores.ErrAbsent)
@@ -208,10 +208,10 @@ func (s *Served) IndexOf(ctx context.Context, leafHash [32]byte) (uint64, error)
 	return index, nil
 }
 
-// End is log.Log's. Nothing waits.
+// End is logapi.Log's. Nothing waits.
 func (s *Served) End(context.Context) error { return nil }
 
-// Figures are log.Log's.
-func (s *Served) Figures() log.Figures {
-	return log.Figures{Entries: s.head.TreeSize, HeadAge: time.Since(time.UnixMilli(int64(s.head.Timestamp)))}
+// Figures are logapi.Log's.
+func (s *Served) Figures() logapi.Figures {
+	return logapi.Figures{Entries: s.head.TreeSize, HeadAge: time.Since(time.UnixMilli(int64(s.head.Timestamp)))}
 }

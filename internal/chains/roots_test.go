@@ -11,7 +11,7 @@ import (
 	"strings"
 	"testing"
 
-	"wagtenib/internal/trial"
+	"wagtenib/internal/testutil"
 )
 
 // puts returns what writes files of a folder, and says where.
@@ -19,8 +19,8 @@ func puts(t *testing.T, folder string) func(name string, text []byte) string {
 	return func(name string, text []byte) string {
 		t.Helper()
 		path := filepath.Join(folder, name)
-		trial.Must(t, os.MkdirAll(filepath.Dir(path), 0o700))
-		trial.Must(t, os.WriteFile(path, text, 0o600))
+		testutil.Must(t, os.MkdirAll(filepath.Dir(path), 0o700))
+		testutil.Must(t, os.WriteFile(path, text, 0o600))
 		return path
 	}
 }

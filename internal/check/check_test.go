@@ -18,12 +18,12 @@ import (
 
 	"golang.org/x/mod/sumdb/tlog"
 
-	"wagtenib/internal/trial"
+	"wagtenib/internal/testutil"
 )
 
 const origin = "log.example/judged"
 
-var must = trial.Must
+var must = testutil.Must
 
 // entered is a leaf of a log that is made here: its parts as a data tile has them (C2SP static-ct-api, "TileLeaf").
 type entered struct {

@@ -7,10 +7,10 @@ import (
 	"testing"
 
 	"wagtenib/bindings/go/wagtenib"
-	"wagtenib/internal/trial"
+	"wagtenib/internal/testutil"
 )
 
-var must = trial.Must
+var must = testutil.Must
 
 // line is a state's, of so many entries at a moment.
 func line(size, timestamp uint64) string {

@@ -13,7 +13,7 @@ import (
 	"wagtenib/internal/janitor"
 	"wagtenib/internal/signer"
 	"wagtenib/internal/step"
-	"wagtenib/internal/trial"
+	"wagtenib/internal/testutil"
 )
 
 // moved is a clock that a test moves: before each pass by one of the waits. After the last one, Run ends.
@@ -73,7 +73,7 @@ func seconds(many int) []time.Duration {
 func run(t *testing.T, config janitor.Config) janitor.Report {
 	t.Helper()
 	j, err := janitor.New(config)
-	trial.Must(t, err)
+	testutil.Must(t, err)
 	if err := j.Run(context.Background()); err == nil {
 		t.Fatal("it ends without an error")
 	}
@@ -119,12 +119,12 @@ func TestReadsNoFasterAfterAStop(t *testing.T) {
 func stepping(t *testing.T, timestamp uint64) *decider.Command {
 	t.Helper()
 	line, err := step.New("log.example/tried").Begin(timestamp)
-	trial.Must(t, err)
+	testutil.Must(t, err)
 	d := decider.New()
 	look, err := d.Next(decider.Begin(), decider.WasRead(fmt.Sprintf("%s\nnode -\nsalt %016x%016x\n", line, 0, 7)))
-	trial.Must(t, err)
+	testutil.Must(t, err)
 	next, err := d.Next(look, decider.Published())
-	trial.Must(t, err)
+	testutil.Must(t, err)
 	if next.Do != decider.Step {
 		t.Fatalf("the decider says %s", next.Do)
 	}

@@ -7,7 +7,7 @@ import (
 	"testing"
 
 	"wagtenib/internal/logclient"
-	"wagtenib/internal/trial"
+	"wagtenib/internal/testutil"
 )
 
 // TestAsksSoOftenOnly: a server that fails is asked as often as the limit says, and no more.
@@ -18,7 +18,7 @@ func TestAsksSoOftenOnly(t *testing.T) {
 			asked.Add(1)
 			w.WriteHeader(http.StatusInternalServerError)
 		}), logclient.Options{Clock: newClock(), Limits: logclient.Limits{Attempts: attempts}})
-		if _, err := c.STH(trial.Limited(t, trial.Longest)); !errors.Is(err, logclient.ErrStatus) {
+		if _, err := c.STH(testutil.Limited(t, testutil.Longest)); !errors.Is(err, logclient.ErrStatus) {
 			t.Error(err)
 		}
 		if asked.Load() != int64(attempts) {

@@ -22,18 +22,18 @@ import (
 
 	"wagtenib/internal/chains"
 	"wagtenib/internal/roots"
-	"wagtenib/internal/trial"
+	"wagtenib/internal/testutil"
 )
 
 // certificate returns a root with a name, in DER.
 func certificate(t *testing.T, name string) []byte {
 	t.Helper()
 	key, err := ecdsa.GenerateKey(elliptic.P256(), rand.Reader)
-	trial.Must(t, err)
+	testutil.Must(t, err)
 	of := &x509.Certificate{SerialNumber: big.NewInt(1), Subject: pkix.Name{CommonName: name}, IsCA: true,
 		NotBefore: time.Unix(1_700_000_000, 0), NotAfter: time.Unix(2_000_000_000, 0), BasicConstraintsValid: true}
 	der, err := x509.CreateCertificate(rand.Reader, of, of, key.Public(), key)
-	trial.Must(t, err)
+	testutil.Must(t, err)
 	return der
 }
 
@@ -82,11 +82,11 @@ func (w *world) update(maxFall float64, rows ...[]string) (roots.Change, error) 
 func (w *world) wantsRoots(names ...string) {
 	w.t.Helper()
 	loaded, err := chains.RootFiles{Paths: []string{w.folder}}.Load()
-	trial.Must(w.t, err)
+	testutil.Must(w.t, err)
 	var found []string
 	for _, der := range loaded.Certificates() {
 		of, err := x509.ParseCertificate(der)
-		trial.Must(w.t, err)
+		testutil.Must(w.t, err)
 		found = append(found, of.Subject.CommonName)
 	}
 	slices.Sort(found)
@@ -107,7 +107,7 @@ func namesOf(of []roots.Root) string {
 // Of a table, those roots are kept that are for TLS servers and included. Those of other files stay.
 func TestKeepsTheRootsOfServers(t *testing.T) {
 	w := newWorld(t, "a", "b", "c", "mail", "code", "removed", "pending", "own")
-	trial.Must(t, os.WriteFile(filepath.Join(w.folder, "own.pem"), []byte(strings.Trim(quoted(w.der["own"]), "'")), 0o644))
+	testutil.Must(t, os.WriteFile(filepath.Join(w.folder, "own.pem"), []byte(strings.Trim(quoted(w.der["own"]), "'")), 0o644))
 	damaged := w.row("c", "Websites", "Mozilla: Included")
 	damaged[5] = strings.Replace(damaged[5], "MII", "M\x00I", 1)
 	change, err := w.update(5, header,
@@ -118,7 +118,7 @@ func TestKeepsTheRootsOfServers(t *testing.T) {
 		w.row("code", "Code Signing;Client Authentication", "Microsoft: Included"),
 		w.row("removed", "Websites", "Apple: Removed; Mozilla: Removed"),
 		w.row("pending", "Websites", "Apple: Not Included; Mozilla: Pending"))
-	trial.Must(t, err)
+	testutil.Must(t, err)
 	if change.Roots != 2 || namesOf(change.Added) != "a b" || len(change.Removed) != 0 || change.OtherPurpose != 2 ||
 		change.OtherStatus != 2 || len(change.Damaged) != 1 || change.Damaged[0].Row != 3 || change.Damaged[0].Name != "c" {
 		t.Errorf("%+v", change)
@@ -126,10 +126,10 @@ func TestKeepsTheRootsOfServers(t *testing.T) {
 	w.wantsRoots("a", "b", "own")
 	// The same table again changes nothing, and writes nothing.
 	before, err := os.Stat(roots.File(w.folder))
-	trial.Must(t, err)
+	testutil.Must(t, err)
 	change, err = w.update(5, header, w.row("b", "Websites", "Mozilla: Included"),
 		w.row("a", "Websites", "Mozilla: Included"))
-	trial.Must(t, err)
+	testutil.Must(t, err)
 	if after, err := os.Stat(roots.File(w.folder)); err != nil || !os.SameFile(before, after) ||
 		len(change.Added)+len(change.Removed) != 0 {
 		t.Errorf("%+v %v", change, err)
@@ -154,7 +154,7 @@ func TestColumnsOfOtherReports(t *testing.T) {
 	}
 	mozilla.AllIncluded = true
 	change, err := roots.Update(w.folder, []roots.Source{mozilla, microsoft}, 5)
-	trial.Must(t, err)
+	testutil.Must(t, err)
 	if namesOf(change.Added) != "a b" || change.OtherPurpose != 1 || change.OtherStatus != 1 {
 		t.Errorf("%+v", change)
 	}
@@ -173,9 +173,9 @@ func TestRefusesAFall(t *testing.T) {
 		rows = append(rows, w.row(name, "Websites", "Mozilla: Included"))
 	}
 	_, err := w.update(5, rows...)
-	trial.Must(t, err)
+	testutil.Must(t, err)
 	before, err := os.ReadFile(roots.File(w.folder))
-	trial.Must(t, err)
+	testutil.Must(t, err)
 	without := func(column int) (other [][]string) {
 		for _, row := range rows {
 			other = append(other, slices.Delete(slices.Clone(row), column, column+1))
@@ -204,12 +204,12 @@ func TestRefusesAFall(t *testing.T) {
 	}
 	// One of twenty is five per cent.
 	change, err := w.update(5, rows[:20]...)
-	trial.Must(t, err)
+	testutil.Must(t, err)
 	if namesOf(change.Removed) != "root-19" || change.Roots != 19 {
 		t.Errorf("%+v", change)
 	}
 	change, err = w.update(100, rows[:2]...)
-	trial.Must(t, err)
+	testutil.Must(t, err)
 	if len(change.Removed) != 18 || change.Roots != 1 {
 		t.Errorf("%+v", change)
 	}
@@ -231,11 +231,11 @@ func replaced(rows [][]string, from, to string) (other [][]string) {
 func TestDamagedRowKeepsItsRoot(t *testing.T) {
 	w := newWorld(t, "a", "b", "stranger")
 	_, err := w.update(5, header, w.row("a", "Websites", "Mozilla: Included"), w.row("b", "Websites", "Mozilla: Included"))
-	trial.Must(t, err)
+	testutil.Must(t, err)
 	swapped := w.row("a", "Websites", "Mozilla: Included")
 	swapped[5] = quoted(w.der["stranger"])
 	change, err := w.update(0, header, swapped, w.row("b", "Websites", "Mozilla: Included"))
-	trial.Must(t, err)
+	testutil.Must(t, err)
 	if len(change.Damaged) != 1 || !change.Damaged[0].Stays || len(change.Added)+len(change.Removed) != 0 {
 		t.Errorf("%+v", change)
 	}
@@ -246,7 +246,7 @@ func TestDamagedRowKeepsItsRoot(t *testing.T) {
 func TestKeepsAnothersFile(t *testing.T) {
 	w := newWorld(t, "a", "own")
 	own := []byte(strings.Trim(quoted(w.der["own"]), "'"))
-	trial.Must(t, os.WriteFile(roots.File(w.folder), own, 0o644))
+	testutil.Must(t, os.WriteFile(roots.File(w.folder), own, 0o644))
 	if _, err := w.update(100, header, w.row("a", "Websites", "Mozilla: Included")); !errors.Is(err, roots.ErrFile) {
 		t.Errorf("%v", err)
 	}

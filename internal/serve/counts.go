@@ -7,7 +7,7 @@ import (
 	"time"
 
 	"wagtenib/internal/decider"
-	"wagtenib/internal/log"
+	"wagtenib/internal/logapi"
 	"wagtenib/internal/node"
 )
 
@@ -18,12 +18,12 @@ type counts struct {
 	written   atomic.Uint64
 
 	mu     sync.Mutex
-	phases map[string]log.Phase
+	phases map[string]logapi.Phase
 	// batches says how many submissions steps had.
-	batches log.Batches
+	batches logapi.Batches
 	happened
 	wentWell  time.Time
-	witnesses map[string]log.Witness
+	witnesses map[string]logapi.Witness
 }
 
 // happened has the repaired objects, the faults, and the failures beside the steps.
@@ -38,8 +38,8 @@ type tally struct {
 func (t *tally) add(what string) { t.count, t.last = t.count+1, what }
 
 func newCounts() *counts {
-	return &counts{phases: map[string]log.Phase{}, wentWell: time.Now(), witnesses: map[string]log.Witness{},
-		batches: log.Batches{AtMost: map[int]uint64{}}}
+	return &counts{phases: map[string]logapi.Phase{}, wentWell: time.Now(), witnesses: map[string]logapi.Witness{},
+		batches: logapi.Batches{AtMost: map[int]uint64{}}}
 }
 
 // phaseNames are the parts of a step in their order, by the names that metrics have.
@@ -58,7 +58,7 @@ func (c *counts) Took(part string, long time.Duration) {
 	c.mu.Lock()
 	defer c.mu.Unlock()
 	of := c.phases[part]
-	c.phases[part] = log.Phase{Name: part, Count: of.Count + 1, Took: of.Took + long}
+	c.phases[part] = logapi.Phase{Name: part, Count: of.Count + 1, Took: of.Took + long}
 }
 
 // batchBounds are the numbers of submissions by which steps are counted.
@@ -109,7 +109,7 @@ func (c *counts) failed(err error) {
 // Cosigned is node.Observer's. Only whether a witness saw more is kept here: remote counts the rest.
 func (c *counts) Cosigned(name string, err error) {
 	if err == nil || errors.Is(err, node.ErrWitnessAhead) {
-		c.witness(name, func(w *log.Witness) {
+		c.witness(name, func(w *logapi.Witness) {
 			if w.SeenMore = err != nil; w.SeenMore {
 				w.Missed, w.Fault = w.Missed+1, err.Error()
 			}
@@ -118,7 +118,7 @@ func (c *counts) Cosigned(name string, err error) {
 }
 
 // witness changes what is known of a witness.
-func (c *counts) witness(name string, change func(*log.Witness)) {
+func (c *counts) witness(name string, change func(*logapi.Witness)) {
 	c.mu.Lock()
 	defer c.mu.Unlock()
 	w := c.witnesses[name]
@@ -128,7 +128,7 @@ func (c *counts) witness(name string, change func(*log.Witness)) {
 }
 
 // into writes what was counted into the figures of a log.
-func (c *counts) into(f *log.Figures) {
+func (c *counts) into(f *logapi.Figures) {
 	f.LostSwaps, f.Unknown = c.of(node.LostSwap), c.of(node.UnknownSwap)
 	f.Helped, f.Repeats, f.HandedOver, f.Written = c.of(node.ResumedStep), c.of(node.Duplicate), c.forwarded.Load(),
 		c.written.Load()
@@ -139,7 +139,7 @@ func (c *counts) into(f *log.Figures) {
 		of.Name = name
 		f.Phases = append(f.Phases, of)
 	}
-	f.Steps, f.Batches = c.batches.Steps, log.Batches{Steps: c.batches.Steps, Submissions: c.batches.Submissions,
+	f.Steps, f.Batches = c.batches.Steps, logapi.Batches{Steps: c.batches.Steps, Submissions: c.batches.Submissions,
 		AtMost: map[int]uint64{}}
 	for _, bound := range batchBounds {
 		f.Batches.AtMost[bound] = c.batches.AtMost[bound]
@@ -150,9 +150,9 @@ func (c *counts) into(f *log.Figures) {
 	f.TendFailures, f.TendFailure = c.failures.count, c.failures.last
 }
 
-// Figures is log.Log's.
-func (l *Log) Figures() log.Figures {
-	f := log.Figures{Queue: l.node.Waiting(), MaxQueue: l.config.Pace.MaxQueue}
+// Figures is logapi.Log's.
+func (l *Log) Figures() logapi.Figures {
+	f := logapi.Figures{Queue: l.node.Waiting(), MaxQueue: l.config.Pace.MaxQueue}
 	if counted, ok := l.config.Signer.(interface{ Starts() uint64 }); ok {
 		f.SignerStarts = counted.Starts()
 	}

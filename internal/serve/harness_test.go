@@ -20,17 +20,17 @@ import (
 
 	"wagtenib/internal/chains"
 	"wagtenib/internal/check"
-	"wagtenib/internal/log"
+	"wagtenib/internal/logapi"
 	"wagtenib/internal/serve"
 	"wagtenib/internal/signer"
 	"wagtenib/internal/stores"
-	"wagtenib/internal/trial"
+	"wagtenib/internal/testutil"
 )
 
-var must, wants = trial.Must, trial.Wants
+var must, wants = testutil.Must, testutil.Wants
 
 // limited returns a context that ends with the longest time that a test may take.
-func limited(t testing.TB) context.Context { return trial.Limited(t, trial.Longest) }
+func limited(t testing.TB) context.Context { return testutil.Limited(t, testutil.Longest) }
 
 // place is a folder with a log's key, its stores and what its machine keeps.
 type place struct {
@@ -127,7 +127,7 @@ func ends(t testing.TB, l *serve.Log) {
 // eventually waits until something is so.
 func eventually(t testing.TB, what string, is func() bool) {
 	t.Helper()
-	for until := time.Now().Add(trial.Longest); !is(); time.Sleep(time.Millisecond) {
+	for until := time.Now().Add(testutil.Longest); !is(); time.Sleep(time.Millisecond) {
 		if time.Now().After(until) {
 			t.Fatalf("it does not come to be: %s", what)
 		}
@@ -135,14 +135,14 @@ func eventually(t testing.TB, what string, is func() bool) {
 }
 
 // entryOf returns the entry of a number. Every third one is a precertificate's.
-func entryOf(i int) log.Entry {
+func entryOf(i int) logapi.Entry {
 	text := []byte(strings.Repeat(fmt.Sprintf("%d;", i), 1+i%40))
 	issuers := [][]byte{[]byte(fmt.Sprint("issuer ", i%5)), []byte("root")}
 	if i%3 == 0 {
-		return log.Entry{Type: chains.PrecertEntry, IssuerKeyHash: sha256.Sum256(issuers[0]), TBSCertificate: text,
+		return logapi.Entry{Type: chains.PrecertEntry, IssuerKeyHash: sha256.Sum256(issuers[0]), TBSCertificate: text,
 			Precertificate: append([]byte("pre"), text...), Issuers: issuers}
 	}
-	return log.Entry{Type: chains.X509Entry, Certificate: text, Issuers: issuers}
+	return logapi.Entry{Type: chains.X509Entry, Certificate: text, Issuers: issuers}
 }
 
 // answers are what clients got.
@@ -151,7 +151,7 @@ type answers struct {
 	all []check.Answer
 }
 
-func (a *answers) add(entry log.Entry, place log.Place) {
+func (a *answers) add(entry logapi.Entry, place logapi.Place) {
 	a.mu.Lock()
 	defer a.mu.Unlock()
 	one := check.Answer{Certificate: entry.Certificate, Timestamp: place.Timestamp, Extensions: place.Extensions,
@@ -163,7 +163,7 @@ func (a *answers) add(entry log.Entry, place log.Place) {
 }
 
 // submit submits the numbers from one up to another, all at once, and each must be answered.
-func (a *answers) submit(t testing.TB, l log.Log, from, to int) {
+func (a *answers) submit(t testing.TB, l logapi.Log, from, to int) {
 	t.Helper()
 	ctx := limited(t)
 	failed := make(chan error, to-from)

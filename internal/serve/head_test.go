@@ -9,7 +9,7 @@ import (
 	"strings"
 	"testing"
 
-	"wagtenib/internal/log"
+	"wagtenib/internal/logapi"
 	"wagtenib/internal/node"
 	"wagtenib/internal/serve"
 )
@@ -54,7 +54,7 @@ func TestHeadWithAnotherSignatureIsNotServed(t *testing.T) {
 	again, err := serve.Open(limited(t), p.config())
 	if err == nil {
 		t.Cleanup(func() { ends(t, again) })
-		var head log.Head
+		var head logapi.Head
 		if head, err = again.Checkpoint(limited(t)); err == nil {
 			t.Fatalf("it serves %q", head.Note)
 		}

@@ -9,7 +9,7 @@ import (
 	"time"
 
 	"wagtenib/internal/stores"
-	"wagtenib/internal/trial"
+	"wagtenib/internal/testutil"
 )
 
 // TestTimeThatAnAnswerTook: the half of the time that an answer took is added to how far off the clock may be that it
@@ -44,19 +44,19 @@ func (s some) Put(ctx context.Context, name string, content []byte) error {
 func objectsIn(t *testing.T) stores.Objects {
 	t.Helper()
 	objects, err := stores.OpenFolder(t.TempDir())
-	trial.Must(t, err)
-	t.Cleanup(func() { trial.Must(t, objects.Close()) })
+	testutil.Must(t, err)
+	t.Cleanup(func() { testutil.Must(t, objects.Close()) })
 	return objects
 }
 
 // TestIssuerThatComesAgain: an issuer that was missing counts as damaged until a submission brings it, and no longer.
 func TestIssuerThatComesAgain(t *testing.T) {
 	i, certificate := newIssuers(objectsIn(t), func(string) {}), []byte("an issuer")
-	trial.Must(t, i.Look(trial.Limited(t, trial.Longest), sha256.Sum256(certificate)))
+	testutil.Must(t, i.Look(testutil.Limited(t, testutil.Longest), sha256.Sum256(certificate)))
 	if count, _ := i.damage(); count != 1 {
 		t.Fatalf("%d issuers are damaged", count)
 	}
-	trial.Must(t, i.put(trial.Limited(t, trial.Longest), [][]byte{certificate}))
+	testutil.Must(t, i.put(testutil.Limited(t, testutil.Longest), [][]byte{certificate}))
 	if count, why := i.damage(); count != 0 {
 		t.Errorf("%d issuers are damaged: %s", count, why)
 	}
@@ -67,7 +67,7 @@ func TestIssuerThatComesAgain(t *testing.T) {
 func TestPutOfAnIssuerOutlastsItsClient(t *testing.T) {
 	held := some{objectsIn(t), make(chan struct{}), make(chan context.Context, 1)}
 	i, certificate := newIssuers(held, func(string) {}), []byte("an issuer")
-	goes, cancel := context.WithCancel(trial.Limited(t, trial.Longest))
+	goes, cancel := context.WithCancel(testutil.Limited(t, testutil.Longest))
 	release := sync.OnceFunc(func() { close(held.held) })
 	defer release()
 	came := make(chan error, 1)
@@ -81,5 +81,5 @@ func TestPutOfAnIssuerOutlastsItsClient(t *testing.T) {
 		t.Fatalf("the put ends with its client: %v", err)
 	}
 	release()
-	trial.Eventually(t, "the issuer is put", func() bool { return i.bytesOf(sha256.Sum256(certificate)) != nil })
+	testutil.Eventually(t, "the issuer is put", func() bool { return i.bytesOf(sha256.Sum256(certificate)) != nil })
 }

@@ -12,8 +12,8 @@ import (
 	"wagtenib/internal/node"
 	"wagtenib/internal/step"
 	"wagtenib/internal/stores"
+	"wagtenib/internal/testutil"
 	"wagtenib/internal/tile"
-	"wagtenib/internal/trial"
 	"wagtenib/internal/web"
 )
 
@@ -29,7 +29,7 @@ func TestPageSaysBounds(t *testing.T) {
 	week := 7 * 24 * time.Hour
 	// 16 is the maximum number of tiles that one pass of the janitor reads again.
 	const again = 16
-	trial.Says(t, trial.Page(t, "../../docs/SERVICE.md"), map[string]bool{
+	testutil.Says(t, testutil.Page(t, "../../docs/SERVICE.md"), map[string]bool{
 		"no more than 16 MiB a second are written (`max-write-rate`)":                           maxWritten == 16<<20,
 		"| a partial tile | five minutes after its full tile came, if the full tile is whole |": keepTiles == 5*time.Minute,
 		"| a tree head less than five seconds after another one that stays | " +
@@ -52,7 +52,7 @@ func TestPageSaysBounds(t *testing.T) {
 	ofOne := max(answers/8, stores.MaxObject+1<<20)
 	// Half of what is written are partial tiles, and these stay for as long again as they have to.
 	partials := float64(maxWritten) / 2 * 2 * keepTiles.Seconds()
-	trial.Says(t, trial.Page(t, "../../docs/SERVICE.md"), map[string]bool{
+	testutil.Says(t, testutil.Page(t, "../../docs/SERVICE.md"), map[string]bool{
 		"An entry has at most 128 KiB because a step holds 255 of them, in the partial data tile, beside 12 MiB of " +
 			"new ones": MaxEntry == 128<<10 && tile.Width-1 == 255 && MaxBatchBytes == 12<<20,
 		"So a data tile has at most 34 MB. Answers hold at most 15 of " +
@@ -61,7 +61,7 @@ func TestPageSaysBounds(t *testing.T) {
 		"which stay for five to ten minutes until they are deleted: up to 5 GB": partials >= 5e9 && partials < 5.1e9,
 		"| the tree | 2^40 entries: `full` |":                                   step.MaxLeaves == 1<<40,
 	})
-	trial.Says(t, trial.Page(t, "../../docs/OPERATING.md"), map[string]bool{
+	testutil.Says(t, testutil.Page(t, "../../docs/OPERATING.md"), map[string]bool{
 		"(the last name in FOLDER/objects/heads is SIZE-TIMESTAMP)": true,
 		"Partial tiles take up to 5 GB at `max-write-rate` (16 MiB a second)": maxWritten == 16<<20 &&
 			partials >= 5e9 && partials < 5.1e9,
@@ -69,20 +69,20 @@ func TestPageSaysBounds(t *testing.T) {
 	})
 }
 
-// alertAt returns the number above which, or below which, an alert fires, as release/ctserve.rules.yml has it.
+// alertAt returns the number above which, or below which, an alert fires, as release/prometheus/ctserve.rules.yml has it.
 func alertAt(t *testing.T, expression string) float64 {
 	t.Helper()
-	rules, err := os.ReadFile("../../release/ctserve.rules.yml")
-	trial.Must(t, err)
+	rules, err := os.ReadFile("../../release/prometheus/ctserve.rules.yml")
+	testutil.Must(t, err)
 	found := regexp.MustCompile(`(?m)^    expr: ` + expression + ` (-?\d+)(?: \* (\d+))?$`).FindSubmatch(rules)
 	if found == nil {
 		t.Fatalf("no alert has %s and a number", expression)
 	}
 	number, err := strconv.ParseFloat(string(found[1]), 64)
-	trial.Must(t, err)
+	testutil.Must(t, err)
 	if len(found[2]) > 0 {
 		times, err := strconv.ParseFloat(string(found[2]), 64)
-		trial.Must(t, err)
+		testutil.Must(t, err)
 		number *= times
 	}
 	return number

@@ -15,7 +15,7 @@ import (
 
 	"wagtenib/internal/decider"
 	"wagtenib/internal/janitor"
-	"wagtenib/internal/log"
+	"wagtenib/internal/logapi"
 	"wagtenib/internal/node"
 	"wagtenib/internal/signer"
 	"wagtenib/internal/step"
@@ -114,7 +114,7 @@ type Keep struct {
 	Every, Reread time.Duration
 }
 
-// Log is one log, served by this node: a log.Log. Its methods may be called at once.
+// Log is one log, served by this node: a logapi.Log. Its methods may be called at once.
 type Log struct {
 	config   Config
 	node     *node.Node
@@ -329,15 +329,15 @@ func NeedsOperator(err error) bool {
 func named(err error) error {
 	switch {
 	case errors.Is(err, node.ErrBusy):
-		return fault{log.ErrBusy, err}
+		return fault{logapi.ErrBusy, err}
 	case errors.Is(err, node.ErrEnded):
-		return fault{log.ErrEnded, err}
+		return fault{logapi.ErrEnded, err}
 	case errors.Is(err, node.ErrElsewhere):
-		return fault{log.ErrElsewhere, err}
+		return fault{logapi.ErrElsewhere, err}
 	case errors.Is(err, node.ErrClock):
-		return fault{log.ErrClock, err}
+		return fault{logapi.ErrClock, err}
 	}
-	return fault{log.ErrStore, err}
+	return fault{logapi.ErrStore, err}
 }
 
 // fault is a failure of a kind that package log names.

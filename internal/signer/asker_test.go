@@ -15,7 +15,7 @@ import (
 	"testing"
 	"time"
 
-	"wagtenib/internal/trial"
+	"wagtenib/internal/testutil"
 )
 
 func cat(context.Context) (*Peer, error) { return Start([]string{"cat"}) }
@@ -41,7 +41,7 @@ func TestUnaskedReply(t *testing.T) {
 	must(t, syscall.Mkfifo(second, 0o600))
 	program := []string{"sh", "-c",
 		`read -r x; echo "$x"; echo stale; echo said >"$1"; while read -r x; do echo "$x"; done`, "sh", second}
-	c := newAsker(func(context.Context) (*Peer, error) { return Start(program) }, trial.Longest)
+	c := newAsker(func(context.Context) (*Peer, error) { return Start(program) }, testutil.Longest)
 	defer c.close()
 	for i := 1; i <= 3; i++ {
 		reply, err := said(c, limited(t), "asked\n")
@@ -56,8 +56,8 @@ func TestUnaskedReply(t *testing.T) {
 		}
 	}
 	e := script(t, "echo early; read -r x; echo late")
-	trial.Eventually(t, "it speaks", e.hasUnread)
-	reply, err := e.exchange(limited(t), trial.Longest, []byte("x\n"))
+	testutil.Eventually(t, "it speaks", e.hasUnread)
+	reply, err := e.exchange(limited(t), testutil.Longest, []byte("x\n"))
 	if wants(t, err, ErrGone); reply != nil {
 		t.Errorf("%q", reply)
 	}
@@ -69,7 +69,7 @@ func TestWrongReplyEndsTheProgram(t *testing.T) {
 	t.Parallel()
 	c := newAsker(func(context.Context) (*Peer, error) {
 		return Start([]string{"sh", "-c", "while read -r x; do echo $$; done"})
-	}, trial.Longest)
+	}, testutil.Longest)
 	defer c.close()
 	var pids []string
 	failed := errors.New("another fault")
@@ -92,7 +92,7 @@ func TestWrongReplyEndsTheProgram(t *testing.T) {
 
 // TestRestart kills the process between two exchanges. The next exchange fails, and the one after it is answered.
 func TestRestart(t *testing.T) {
-	ctx, c := context.Background(), newAsker(cat, trial.Longest)
+	ctx, c := context.Background(), newAsker(cat, testutil.Longest)
 	defer c.close()
 	if reply, err := said(c, ctx, "one\n"); err != nil || reply != "one" {
 		t.Fatalf("%q, %v", reply, err)
@@ -114,7 +114,7 @@ func TestRestart(t *testing.T) {
 // TestCallerWithAnEndedContext has callers ask with a context that has ended. They get no reply, and no peer is closed
 // or opened for them.
 func TestCallerWithAnEndedContext(t *testing.T) {
-	c := newAsker(cat, trial.Longest)
+	c := newAsker(cat, testutil.Longest)
 	defer c.close()
 	gone, cancel := context.WithCancel(context.Background())
 	cancel()
@@ -149,7 +149,7 @@ func TestCallerLeaves(t *testing.T) {
 	// The program says in one FIFO that it has read a line, and replies once the other one says so.
 	program := []string{"sh", "-c", `while read -r x; do echo "$x" >"$1"; read -r y <"$2"; echo "$x"; done`,
 		"sh", reads, goes}
-	c := newAsker(func(context.Context) (*Peer, error) { return Start(program) }, trial.Longest)
+	c := newAsker(func(context.Context) (*Peer, error) { return Start(program) }, testutil.Longest)
 	defer c.close()
 	for i := 0; i < 5; i++ {
 		ctx, leave := context.WithCancel(context.Background())
@@ -212,7 +212,7 @@ func TestCloseInterrupts(t *testing.T) {
 
 // TestLongLine sends more than pipes hold, to a process that replies meanwhile.
 func TestLongLine(t *testing.T) {
-	c := newAsker(cat, trial.Longest)
+	c := newAsker(cat, testutil.Longest)
 	defer c.close()
 	line := strings.Repeat("x", 5_000_000)
 	if reply, err := said(c, context.Background(), line+"\n"); err != nil || reply != line {
@@ -223,7 +223,7 @@ func TestLongLine(t *testing.T) {
 // TestSocket asks at a socket, which is closed and opened again.
 func TestSocket(t *testing.T) {
 	path, ctx := filepath.Join(t.TempDir(), "socket"), context.Background()
-	c := newAsker(func(ctx context.Context) (*Peer, error) { return Dial(ctx, path) }, trial.Longest)
+	c := newAsker(func(ctx context.Context) (*Peer, error) { return Dial(ctx, path) }, testutil.Longest)
 	defer c.close()
 	if _, err := said(c, ctx, "one\n"); !errors.Is(err, ErrGone) {
 		t.Fatal(err)
@@ -263,7 +263,7 @@ func TestClosesAPeerWithoutAReply(t *testing.T) {
 		t.Fatal(err)
 	}
 	// After its first reply the program has written its process number.
-	if _, err := e.exchange(context.Background(), trial.Longest, []byte("x\n")); err != nil {
+	if _, err := e.exchange(context.Background(), testutil.Longest, []byte("x\n")); err != nil {
 		t.Fatal(err)
 	}
 	if _, err := e.exchange(context.Background(), 10*time.Millisecond, []byte("x\n")); !errors.Is(err, ErrGone) {

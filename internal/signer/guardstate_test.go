@@ -12,8 +12,8 @@ import (
 	"time"
 
 	"wagtenib/internal/stores"
-	"wagtenib/internal/trial"
-	"wagtenib/internal/trial/unsure"
+	"wagtenib/internal/testutil"
+	"wagtenib/internal/testutil/unsure"
 )
 
 // TestStates starts signers with states that are missing or damaged.
@@ -275,7 +275,7 @@ func TestUnreadStates(t *testing.T) {
 	var c *Client
 	for c == nil {
 		if c, err = NewClient(ctx, func(ctx context.Context) (*Peer, error) { return Dial(ctx, path) },
-			trial.Longest); err != nil {
+			testutil.Longest); err != nil {
 			wants(t, err, ErrGone)
 			time.Sleep(time.Millisecond)
 		}

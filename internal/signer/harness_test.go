@@ -16,10 +16,10 @@ import (
 	"golang.org/x/mod/sumdb/tlog"
 
 	"wagtenib/internal/stores"
-	"wagtenib/internal/trial"
+	"wagtenib/internal/testutil"
 )
 
-var must, wants = trial.Must, trial.Wants
+var must, wants = testutil.Must, testutil.Wants
 
 // refused checks that an error is the refusal of this name.
 func refused(t testing.TB, name string, err error) {
@@ -50,7 +50,7 @@ func kept(t *testing.T, g *Guarded) string {
 	return text
 }
 
-func limited(t testing.TB) context.Context { return trial.Limited(t, trial.Longest) }
+func limited(t testing.TB) context.Context { return testutil.Limited(t, testutil.Longest) }
 
 func newKey(t testing.TB) *Key {
 	private, err := ecdsa.GenerateKey(elliptic.P256(), rand.Reader)
@@ -177,7 +177,7 @@ func through(t *testing.T, test func(t *testing.T, s Signer, key *Key)) {
 			}
 			time.Sleep(time.Millisecond)
 		}
-		c, err := NewClient(ctx, func(ctx context.Context) (*Peer, error) { return Dial(ctx, path) }, trial.Longest)
+		c, err := NewClient(ctx, func(ctx context.Context) (*Peer, error) { return Dial(ctx, path) }, testutil.Longest)
 		must(t, err)
 		t.Cleanup(func() { c.Close() })
 		test(t, c, key)
@@ -192,7 +192,7 @@ func askedAtASocket(ctx context.Context, t *testing.T, of Signer) *Client {
 	must(t, err)
 	t.Cleanup(func() { listener.Close() })
 	go func() { _ = newServer().serve(ctx, of, listener) }()
-	c, err := NewClient(ctx, func(ctx context.Context) (*Peer, error) { return Dial(ctx, path) }, trial.Longest)
+	c, err := NewClient(ctx, func(ctx context.Context) (*Peer, error) { return Dial(ctx, path) }, testutil.Longest)
 	must(t, err)
 	t.Cleanup(func() { c.Close() })
 	return c

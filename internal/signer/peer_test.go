@@ -17,7 +17,7 @@ import (
 
 	"golang.org/x/sys/unix"
 
-	"wagtenib/internal/trial"
+	"wagtenib/internal/testutil"
 )
 
 // script starts a shell's lines.
@@ -71,7 +71,7 @@ func TestKeepsStandardError(t *testing.T) {
 	}
 	e := script(t, "read x; for i in 1 2 3 4 5 6 7 8 9 10; do printf '%0100d' 0 >&2; done; echo why it ends >&2; "+
 		"exit 1")
-	if _, err := e.exchange(limited(t), trial.Longest, []byte("x\n")); !errors.Is(err, ErrGone) ||
+	if _, err := e.exchange(limited(t), testutil.Longest, []byte("x\n")); !errors.Is(err, ErrGone) ||
 		!strings.Contains(err.Error(), "why it ends") {
 		t.Error(err)
 	}
@@ -85,7 +85,7 @@ func TestEnvironment(t *testing.T) {
 		says string
 	}{{nil, "own "}, {[]string{"PIPE_MORE=more"}, "own more"}} {
 		e := script(t, `read x; echo "$PIPE_OWN $PIPE_MORE"; read x`, of.more...)
-		reply, err := e.exchange(limited(t), trial.Longest, []byte("x\n"))
+		reply, err := e.exchange(limited(t), testutil.Longest, []byte("x\n"))
 		if err != nil || string(reply) != of.says {
 			t.Errorf("%q, %v", reply, err)
 		}
@@ -112,7 +112,7 @@ func TestCloseKills(t *testing.T) {
 	e, err := Start([]string{"sh", "-c",
 		"trap '' TERM HUP INT; read -r x; sleep 600 & echo $$ $!; while :; do wait; done"})
 	must(t, err)
-	reply, err := e.exchange(limited(t), trial.Longest, []byte("x\n"))
+	reply, err := e.exchange(limited(t), testutil.Longest, []byte("x\n"))
 	must(t, err)
 	var pids []int
 	for _, text := range strings.Fields(string(reply)) {
@@ -153,7 +153,7 @@ func TestCloseKills(t *testing.T) {
 func TestUnreadLines(t *testing.T) {
 	t.Parallel()
 	e := script(t, "head -c 1 >/dev/null; exec <&-; echo yes; exec sleep 600")
-	if reply, err := e.exchange(limited(t), trial.Longest, []byte(strings.Repeat("x", 1<<20)+"\n")); !errors.Is(err,
+	if reply, err := e.exchange(limited(t), testutil.Longest, []byte(strings.Repeat("x", 1<<20)+"\n")); !errors.Is(err,
 		ErrGone) || reply != nil {
 		t.Errorf("%q, %v", reply, err)
 	}
@@ -189,7 +189,7 @@ func TestDialCloses(t *testing.T) {
 	must(t, err)
 	ended, cancel := context.WithCancel(context.Background())
 	cancel()
-	if _, err = e.exchange(ended, trial.Longest, []byte("x\n")); !errors.Is(err, ErrGone) ||
+	if _, err = e.exchange(ended, testutil.Longest, []byte("x\n")); !errors.Is(err, ErrGone) ||
 		!strings.Contains(err.Error(), context.Canceled.Error()) {
 		t.Errorf("a context that has ended: %v", err)
 	}
@@ -232,7 +232,7 @@ func TestWaiting(t *testing.T) {
 			return nil, fails
 		}
 		return cat(ctx)
-	}, trial.Longest)
+	}, testutil.Longest)
 	defer c.close()
 	_, err := said(c, limited(t), "one\n")
 	wants(t, err, fails)
@@ -253,7 +253,7 @@ func TestClientCloses(t *testing.T) {
 	t.Parallel()
 	c := newAsker(func(context.Context) (*Peer, error) {
 		return Start([]string{"sh", "-c", "while read -r x; do echo $$; done"})
-	}, trial.Longest)
+	}, testutil.Longest)
 	for i := 0; i < 2; i++ {
 		reply, err := said(c, limited(t), "x\n")
 		must(t, err)
@@ -275,7 +275,7 @@ func TestClientCloses(t *testing.T) {
 func TestOwnGroup(t *testing.T) {
 	t.Parallel()
 	e := script(t, "read -r x; echo $$; exec sleep 600")
-	reply, err := e.exchange(limited(t), trial.Longest, []byte("x\n"))
+	reply, err := e.exchange(limited(t), testutil.Longest, []byte("x\n"))
 	must(t, err)
 	pid, err := strconv.Atoi(string(reply))
 	must(t, err)
@@ -289,11 +289,11 @@ func TestOwnGroup(t *testing.T) {
 // TestPipeSize: both pipes of a process hold a long line at once.
 func TestPipeSize(t *testing.T) {
 	e, err := cat(limited(t))
-	trial.Must(t, err)
+	testutil.Must(t, err)
 	defer e.Close()
 	raw, err := e.in.(syscall.Conn).SyscallConn()
-	trial.Must(t, err)
-	trial.Must(t, raw.Control(func(of uintptr) {
+	testutil.Must(t, err)
+	testutil.Must(t, raw.Control(func(of uintptr) {
 		if holds, err := unix.FcntlInt(of, unix.F_GETPIPE_SZ, 0); err != nil || holds != pipeSize {
 			t.Errorf("a pipe holds %d bytes, %v", holds, err)
 		}
@@ -301,9 +301,9 @@ func TestPipeSize(t *testing.T) {
 	// (as the process itself sees both: 1032 is F_GETPIPE_SZ)
 	seen, err := Start([]string{"python3", "-c",
 		"import fcntl; input(); print(*(fcntl.fcntl(of, 1032) for of in (0, 1)), flush=True)"})
-	trial.Must(t, err)
+	testutil.Must(t, err)
 	defer seen.Close()
-	reply, err := seen.exchange(limited(t), trial.Longest, []byte("\n"))
+	reply, err := seen.exchange(limited(t), testutil.Longest, []byte("\n"))
 	if want := fmt.Sprintf("%d %d", pipeSize, pipeSize); err != nil || string(reply) != want {
 		t.Errorf("its pipes hold %q bytes, and not %s: %v", reply, want, err)
 	}

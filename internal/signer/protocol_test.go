@@ -17,7 +17,7 @@ import (
 	"testing/iotest"
 	"time"
 
-	"wagtenib/internal/trial"
+	"wagtenib/internal/testutil"
 )
 
 // replying returns a function that opens a peer, which answers the lines of each connection with these replies in their
@@ -74,7 +74,7 @@ func TestWrongReplies(t *testing.T) {
 		"a head":                     {[]string{opened(t, key), `{"last":null}`}, nil, false},
 	} {
 		open, gone := replying(t, of.replies...)
-		c, err := NewClient(ctx, open, trial.Longest)
+		c, err := NewClient(ctx, open, testutil.Longest)
 		if !errors.Is(err, of.kind) || (c == nil) != (err != nil) {
 			t.Errorf("%s: %v", what, err)
 		}
@@ -103,7 +103,7 @@ func TestOtherKeyIsClosed(t *testing.T) {
 			return wrong(ctx)
 		}
 		return right(ctx)
-	}, trial.Longest)
+	}, testutil.Longest)
 	must(t, err)
 	defer c.Close()
 	must(t, c.Close())
@@ -124,7 +124,7 @@ func TestManyReceipts(t *testing.T) {
 	must(t, err)
 	defer listener.Close()
 	go func() { _ = newServer().serve(ctx, key, listener) }()
-	c, err := NewClient(ctx, func(ctx context.Context) (*Peer, error) { return Dial(ctx, path) }, trial.Longest)
+	c, err := NewClient(ctx, func(ctx context.Context) (*Peer, error) { return Dial(ctx, path) }, testutil.Longest)
 	must(t, err)
 	defer c.Close()
 	receipts := make([]Receipt, MaxReceipts+2)
@@ -149,7 +149,7 @@ func TestManyReceipts(t *testing.T) {
 func TestLongRequest(t *testing.T) {
 	ctx, key := limited(t), newKey(t)
 	open, _ := replying(t, opened(t, key), `{"last":null}`, `{"last":null}`)
-	c, err := NewClient(ctx, open, trial.Longest)
+	c, err := NewClient(ctx, open, testutil.Longest)
 	must(t, err)
 	defer c.Close()
 	// The leaf has MaxLine bytes in base64.
@@ -170,7 +170,7 @@ func TestRefusalThroughASocket(t *testing.T) {
 	defer listener.Close()
 	why := Refusal{"inconsistent", "too-few"}
 	go func() { _ = newServer().serve(ctx, unable{key, fmt.Errorf("x: %w", why)}, listener) }()
-	c, err := NewClient(ctx, func(ctx context.Context) (*Peer, error) { return Dial(ctx, path) }, trial.Longest)
+	c, err := NewClient(ctx, func(ctx context.Context) (*Peer, error) { return Dial(ctx, path) }, testutil.Longest)
 	must(t, err)
 	defer c.Close()
 	_, err = c.SignHead(ctx, Head{Size: 1, Timestamp: 1}, nil)

@@ -15,7 +15,7 @@ import (
 	"testing"
 	"time"
 
-	"wagtenib/internal/trial"
+	"wagtenib/internal/testutil"
 )
 
 // otherGuard is a signer that reports a guard if it has none.
@@ -40,7 +40,7 @@ func TestOtherKey(t *testing.T) {
 				}
 				time.Sleep(time.Millisecond)
 			}
-		}, trial.Longest)
+		}, testutil.Longest)
 		must(t, err)
 		must(t, c.Close())
 		if _, err = c.Last(ctx); !errors.Is(err, ErrKey) {
@@ -141,7 +141,7 @@ func served(t *testing.T, all *server, fails int) (path string, end func()) {
 // asks returns a client of a socket.
 func asks(t *testing.T, path string) *Client {
 	t.Helper()
-	c, err := NewClient(limited(t), func(ctx context.Context) (*Peer, error) { return Dial(ctx, path) }, trial.Longest)
+	c, err := NewClient(limited(t), func(ctx context.Context) (*Peer, error) { return Dial(ctx, path) }, testutil.Longest)
 	must(t, err)
 	t.Cleanup(func() { c.Close() })
 	return c
@@ -218,7 +218,7 @@ func TestHalfRequests(t *testing.T) {
 	for err != nil && ctx.Err() == nil {
 		var c *Client
 		if c, err = NewClient(ctx, func(ctx context.Context) (*Peer, error) { return Dial(ctx, path) },
-			trial.Longest); err == nil {
+			testutil.Longest); err == nil {
 			_, err = c.Last(ctx)
 			c.Close()
 		}

@@ -8,13 +8,13 @@ import (
 	"testing"
 
 	"wagtenib/bindings/go/wagtenib"
-	"wagtenib/internal/trial"
+	"wagtenib/internal/testutil"
 )
 
 // origin is that of the log of these tests.
 const origin = "log.example/tried"
 
-var must = trial.Must
+var must = testutil.Must
 
 // TestSteps makes two steps, from nothing and over an edge, and reads the second one's bundle both ways.
 func TestSteps(t *testing.T) {

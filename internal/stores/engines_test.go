@@ -16,7 +16,7 @@ import (
 	"github.com/minio/minio-go/v7/pkg/credentials"
 	"go.etcd.io/etcd/client/v3"
 
-	"wagtenib/internal/trial"
+	"wagtenib/internal/testutil"
 )
 
 // The addresses of the engines that tests/engines.sh started. Each is empty if that script did not run.
@@ -140,7 +140,7 @@ func (at tried[T]) opened(t *testing.T) T {
 }
 
 // limited is a context within which any call of the suite has to end.
-func limited(t testing.TB) context.Context { return trial.Limited(t, trial.Longest) }
+func limited(t testing.TB) context.Context { return testutil.Limited(t, testutil.Longest) }
 
 func chance() string {
 	var bytes [8]byte
@@ -150,7 +150,7 @@ func chance() string {
 	return hex.EncodeToString(bytes[:])
 }
 
-var must = trial.Must
+var must = testutil.Must
 
 // each calls do at once in so many goroutines, and gives their errors.
 func each(many int, do func(i int) error) []error {

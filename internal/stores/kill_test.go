@@ -12,7 +12,7 @@ import (
 	"testing"
 	"time"
 
-	"wagtenib/internal/trial"
+	"wagtenib/internal/testutil"
 )
 
 // writer is a child process's work on a store: it makes write number i, and returns once that is acknowledged. Numbers
@@ -32,7 +32,7 @@ func TestMain(m *testing.M) {
 
 // write writes until it is killed, and prints each acknowledged write.
 func write(words []string) error {
-	ctx, cancel := context.WithTimeout(context.Background(), trial.Longest)
+	ctx, cancel := context.WithTimeout(context.Background(), testutil.Longest)
 	defer cancel()
 	make := map[string]func(context.Context, string, string) (writer, error){"objects": objectWriter,
 		"register": registerWriter, "index": indexWriter}

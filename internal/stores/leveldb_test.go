@@ -13,7 +13,7 @@ import (
 	"github.com/syndtr/goleveldb/leveldb/opt"
 	"github.com/syndtr/goleveldb/leveldb/storage"
 
-	"wagtenib/internal/trial"
+	"wagtenib/internal/testutil"
 )
 
 // smallOptions are those of an index whose buffers and tables are so small that some hundred rows fill them.
@@ -138,7 +138,7 @@ func TestLevelDBEndsWithItsContext(t *testing.T) {
 	for i := 0; i < cap(told); i++ {
 		select {
 		case err := <-told:
-			trial.Wants(t, err, context.Canceled)
+			testutil.Wants(t, err, context.Canceled)
 		case <-ctx.Done():
 			t.Fatal("it waits after its context has ended")
 		}

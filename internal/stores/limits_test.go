@@ -8,7 +8,7 @@ import (
 	"testing"
 	"time"
 
-	"wagtenib/internal/trial"
+	"wagtenib/internal/testutil"
 )
 
 // noted is a connection that keeps the last deadline that it was given, or refuses one.
@@ -62,7 +62,7 @@ func TestImpatientConnections(t *testing.T) {
 	for name, dial := range map[string]func() (net.Conn, error){
 		"Dial":        func() (net.Conn, error) { return impatient{}.Dial("tcp", address) },
 		"DialContext": func() (net.Conn, error) { return impatient{}.DialContext(limited(t), "tcp", address) },
-		"DialTimeout": func() (net.Conn, error) { return impatient{}.DialTimeout("tcp", address, trial.Longest) },
+		"DialTimeout": func() (net.Conn, error) { return impatient{}.DialTimeout("tcp", address, testutil.Longest) },
 	} {
 		connection, err := dial()
 		if _, ends := connection.(timed); err != nil || !ends {

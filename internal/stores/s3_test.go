@@ -16,7 +16,7 @@ import (
 	"time"
 
 	"wagtenib/internal/testbucket"
-	"wagtenib/internal/trial"
+	"wagtenib/internal/testutil"
 )
 
 // serve serves a bucket until the test ends, and returns where.
@@ -304,7 +304,7 @@ func TestPostgresWithoutItsStandby(t *testing.T) {
 	}
 	set(reset)
 	for since := time.Now(); swap(stands) != nil; time.Sleep(10 * time.Millisecond) {
-		if time.Since(since) > trial.Longest {
+		if time.Since(since) > testutil.Longest {
 			t.Fatal("it isn't done")
 		}
 	}

@@ -7,7 +7,7 @@ import (
 	"testing"
 	"time"
 
-	"wagtenib/internal/trial"
+	"wagtenib/internal/testutil"
 )
 
 // pause is the command that stops an engine's process (SIGSTOP) for some seconds. tests/engines.sh sets it.
@@ -58,7 +58,7 @@ func whilePaused(t *testing.T, engine string, call func(ctx context.Context) err
 		if err == nil {
 			return
 		}
-		if time.Since(start) > trial.Longest {
+		if time.Since(start) > testutil.Longest {
 			t.Fatalf("%s: it goes on, and the call doesn't: %v", engine, err)
 		}
 	}

@@ -11,7 +11,7 @@ import (
 	"testing"
 	"time"
 
-	"wagtenib/internal/trial"
+	"wagtenib/internal/testutil"
 )
 
 // syncs returns the paths below a root that are synced to the disk during a call, in their order. A file without its
@@ -239,7 +239,7 @@ func TestFileThatIsCutShort(t *testing.T) {
 	path := filepath.Join(t.TempDir(), "kept")
 	for mode, keep := range map[os.FileMode]func(string, []byte) error{0o600: KeepFile, 0o644: ShowFile} {
 		must(t, keep(path, []byte("before")))
-		err := trial.ShortFiles(t, 100, func() error { return keep(path, make([]byte, 200)) })
+		err := testutil.ShortFiles(t, 100, func() error { return keep(path, make([]byte, 200)) })
 		if !errors.Is(err, syscall.EFBIG) {
 			t.Errorf("%v: %v", mode, err)
 		}

@@ -6,7 +6,7 @@ import (
 
 	"golang.org/x/mod/sumdb/tlog"
 
-	"wagtenib/internal/trial"
+	"wagtenib/internal/testutil"
 )
 
 // stored are the hashes of a tree, as x/mod keeps them.
@@ -24,12 +24,12 @@ func tilesOf(t *testing.T, size int64) (all []tlog.Tile, contents [][]byte) {
 	var hashes stored
 	for i := int64(0); i < size; i++ {
 		more, err := tlog.StoredHashes(i, []byte(fmt.Sprint("leaf ", i)), hashes)
-		trial.Must(t, err)
+		testutil.Must(t, err)
 		hashes = append(hashes, more...)
 	}
 	for _, tile := range tlog.NewTiles(2, 0, size) {
 		content, err := tlog.ReadTileData(tile, hashes)
-		trial.Must(t, err)
+		testutil.Must(t, err)
 		all, contents = append(all, tile), append(contents, content)
 	}
 	return all, contents

@@ -11,12 +11,12 @@ import (
 
 	"golang.org/x/mod/sumdb/tlog"
 
-	"wagtenib/internal/trial"
+	"wagtenib/internal/testutil"
 )
 
-var must = trial.Must
+var must = testutil.Must
 
-func limited(t testing.TB) context.Context { return trial.Limited(t, trial.Longest) }
+func limited(t testing.TB) context.Context { return testutil.Limited(t, testutil.Longest) }
 
 // TestTiles: the widest version of a tile in the tree is read, and the requested hashes are returned. A tile of another
 // length is wrong. No other tiles are read.
@@ -189,7 +189,7 @@ func TestClientGoes(t *testing.T) {
 		t.Fatal("the place of a reading that is not done is another one's")
 	}
 	close(done)
-	trial.Eventually(t, "the place is free", func() bool { return len(r.places) == 0 })
+	testutil.Eventually(t, "the place is free", func() bool { return len(r.places) == 0 })
 	isThere = true
 	if root, err := r.Root(limited(t), 1, 1); err != nil || root != tlog.Hash(tile) {
 		t.Errorf("after that: %x, %v", root, err)

@@ -14,7 +14,7 @@ import (
 
 	"wagtenib/internal/logclient"
 	"wagtenib/internal/testlog"
-	"wagtenib/internal/trial"
+	"wagtenib/internal/testutil"
 	"wagtenib/internal/watch"
 )
 
@@ -136,7 +136,7 @@ func TestNonsenseIsNamed(t *testing.T) {
 	for _, kind := range kinds {
 		for what, of := range nonsense {
 			// Only the drip must be too slow, however slow the machine is.
-			limits := logclient.Limits{Request: trial.Longest, Grace: trial.Longest, Attempts: 2}
+			limits := logclient.Limits{Request: testutil.Longest, Grace: testutil.Longest, Attempts: 2}
 			if what == "a drip" {
 				limits.Request, limits.Grace = 2*time.Second, 100*time.Millisecond
 			}
@@ -166,7 +166,7 @@ func TestNonsenseIsNamed(t *testing.T) {
 					}
 					wantsVerdicts(t, s.keeper, s.of.ID)
 					s.log.Intercept(nil)
-					late := trial.Limited(t, trial.Longest)
+					late := testutil.Limited(t, testutil.Longest)
 					for err := s.follower.Pass(late); err != nil; err = s.follower.Pass(late) {
 						if late.Err() != nil {
 							t.Fatal(err)

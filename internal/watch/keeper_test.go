@@ -6,7 +6,7 @@ import (
 	"testing"
 
 	"wagtenib/internal/testlog"
-	"wagtenib/internal/trial"
+	"wagtenib/internal/testutil"
 	"wagtenib/internal/watch"
 )
 
@@ -138,4 +138,4 @@ func grow(log *testlog.Log, count uint64) {
 var _ watch.Keeper = (*keeper)(nil)
 
 // within is the time within which a test must see what it waits for, on a machine that has much else to do.
-const within = trial.Longest
+const within = testutil.Longest

@@ -12,7 +12,7 @@ import (
 
 	"wagtenib/internal/alert"
 	"wagtenib/internal/testcert"
-	"wagtenib/internal/trial"
+	"wagtenib/internal/testutil"
 	"wagtenib/internal/watch"
 	"wagtenib/internal/watchstore"
 )
@@ -25,7 +25,7 @@ func TestFullDiskLosesNothing(t *testing.T) {
 	must(t, store.UseOutputs([]string{"test"}))
 	one, other := entriesOf(authority.Issue("a.example.org"), 0), entriesOf(authority.Issue("b.example.org"), 2)
 	must(t, store.Keep(logOf(0), watch.State{Read: 2}, one))
-	err := trial.ShortFiles(t, 4096, func() error { return store.Keep(logOf(0), watch.State{Read: 4}, other) })
+	err := testutil.ShortFiles(t, 4096, func() error { return store.Keep(logOf(0), watch.State{Read: 4}, other) })
 	if err == nil || !strings.Contains(err.Error(), watchstore.FileName) {
 		t.Fatalf("a full disk: %v", err)
 	}

@@ -13,7 +13,7 @@ import (
 	"testing"
 
 	"wagtenib/internal/chains"
-	"wagtenib/internal/log"
+	"wagtenib/internal/logapi"
 	"wagtenib/internal/stores"
 )
 
@@ -86,9 +86,9 @@ func TestAnswersWithEntriesCount(t *testing.T) {
 	f := newFixture(t, 0, func(o *Options) { o.Limits.AnswerBytes = 64 << 20 })
 	issuers := [][]byte{bytes.Repeat([]byte("a"), 1300), bytes.Repeat([]byte("b"), 1300),
 		bytes.Repeat([]byte("c"), 1300)}
-	var entries []log.Entry
+	var entries []logapi.Entry
 	for i := 0; i < 256; i++ {
-		entries = append(entries, log.Entry{Type: chains.X509Entry, Certificate: []byte(fmt.Sprint("certificate ", i)),
+		entries = append(entries, logapi.Entry{Type: chains.X509Entry, Certificate: []byte(fmt.Sprint("certificate ", i)),
 			Issuers: issuers})
 	}
 	f.log.Add(entries)
@@ -118,7 +118,7 @@ func TestAnswersWithEntriesCount(t *testing.T) {
 // readsLong is a log that notes how many bytes of long objects are read at once, and keeps each reading until it is let
 // go.
 type readsLong struct {
-	log.Log
+	logapi.Log
 	now, most atomic.Int64
 	let       chan struct{}
 }

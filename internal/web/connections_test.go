@@ -14,7 +14,7 @@ import (
 	"testing"
 	"time"
 
-	"wagtenib/internal/trial"
+	"wagtenib/internal/testutil"
 )
 
 func TestConnectionsAreBounded(t *testing.T) {
@@ -141,7 +141,7 @@ func TestOperatorCountsApart(t *testing.T) {
 	operator := f.listeningBy(f.front.ServeOthers(f.front.Operator()), nil)
 	status := func(address, path string) int {
 		t.Helper()
-		for until := time.Now().Add(trial.Longest); ; {
+		for until := time.Now().Add(testutil.Longest); ; {
 			connection := dial(t, address)
 			fmt.Fprintf(connection, "GET %s HTTP/1.1\r\nHost: log\r\nConnection: close\r\n\r\n", path)
 			reader := bufio.NewReader(connection)

@@ -6,7 +6,7 @@ import (
 	"net/http"
 	"net/netip"
 
-	"wagtenib/internal/log"
+	"wagtenib/internal/logapi"
 )
 
 // Forwarder forwards submissions to the node of the log that makes the steps.
@@ -21,13 +21,13 @@ type Forwarder interface {
 const maxForwards = 3
 
 // submit has a submission taken, by this node or by another one, and answered.
-func (f *Front) submit(ctx context.Context, w http.ResponseWriter, r *http.Request, client netip.Addr, entry log.Entry,
+func (f *Front) submit(ctx context.Context, w http.ResponseWriter, r *http.Request, client netip.Addr, entry logapi.Entry,
 	body []byte) error {
 	for tries := 0; ; tries++ {
 		if f.options.Forward == nil || tries == maxForwards {
-			ctx = log.Forwarded(ctx)
+			ctx = logapi.Forwarded(ctx)
 		}
-		if !log.IsForwarded(ctx) {
+		if !logapi.IsForwarded(ctx) {
 			isAnswered, err := f.options.Forward.Forward(w, r.WithContext(ctx), client, body)
 			if isAnswered {
 				return nil
@@ -36,11 +36,11 @@ func (f *Front) submit(ctx context.Context, w http.ResponseWriter, r *http.Reque
 				return ctx.Err()
 			}
 			if err != nil {
-				ctx = log.Forwarded(ctx)
+				ctx = logapi.Forwarded(ctx)
 			}
 		}
 		place, err := f.log.Submit(ctx, entry)
-		if errors.Is(err, log.ErrElsewhere) && tries < maxForwards {
+		if errors.Is(err, logapi.ErrElsewhere) && tries < maxForwards {
 			continue
 		}
 		if err != nil {
@@ -63,7 +63,7 @@ func (f *Front) Nodes() http.Handler {
 			http.Error(w, "this address is for submissions that other nodes forward", http.StatusNotFound)
 			return
 		}
-		ctx := context.WithValue(log.Forwarded(r.Context()), nodeKey{}, true)
+		ctx := context.WithValue(logapi.Forwarded(r.Context()), nodeKey{}, true)
 		f.ServeHTTP(w, r.WithContext(ctx))
 	})
 }

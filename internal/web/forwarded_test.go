@@ -7,7 +7,7 @@ import (
 	"strings"
 	"testing"
 
-	"wagtenib/internal/log"
+	"wagtenib/internal/logapi"
 	"wagtenib/internal/web/standin"
 )
 
@@ -26,7 +26,7 @@ func TestForwardsOnce(t *testing.T) {
 	other := &elsewhereAlways{}
 	f := newFixture(t, 0, func(o *Options) { o.Forward = other })
 	// The log answers at once: it takes no submission.
-	f.log.Fault = log.ErrBusy
+	f.log.Fault = logapi.ErrBusy
 	for _, of := range []struct {
 		handler   http.Handler
 		status    int

@@ -12,25 +12,25 @@ import (
 	"testing"
 	"time"
 
-	"wagtenib/internal/log"
+	"wagtenib/internal/logapi"
 	"wagtenib/internal/web/standin"
 )
 
 // late is a log that gives an older head so many times.
 type late struct {
-	log.Log
-	head  log.Head
+	logapi.Log
+	head  logapi.Head
 	times int
 }
 
-func (l *late) Checkpoint(ctx context.Context) (log.Head, error) {
+func (l *late) Checkpoint(ctx context.Context) (logapi.Head, error) {
 	if l.times--; l.times >= 0 {
 		return l.head, nil
 	}
 	return l.Log.Checkpoint(ctx)
 }
 
-func (l *late) HeadOf(ctx context.Context, _ uint64) (log.Head, error) { return l.Checkpoint(ctx) }
+func (l *late) HeadOf(ctx context.Context, _ uint64) (logapi.Head, error) { return l.Checkpoint(ctx) }
 
 // TestPartialTileThatWent: a partial tile that was deleted after the head was read is no fault if a newer head has the
 // full tile.
@@ -50,18 +50,18 @@ func TestPartialTileThatWent(t *testing.T) {
 
 // unasked is a log that knows a head, and whose newest one isn't answered.
 type unasked struct {
-	log.Log
-	head  log.Head
+	logapi.Log
+	head  logapi.Head
 	asked atomic.Int64
 }
 
-func (u *unasked) Checkpoint(ctx context.Context) (log.Head, error) {
+func (u *unasked) Checkpoint(ctx context.Context) (logapi.Head, error) {
 	u.asked.Add(1)
 	<-ctx.Done()
-	return log.Head{}, ctx.Err()
+	return logapi.Head{}, ctx.Err()
 }
 
-func (u *unasked) HeadOf(ctx context.Context, entries uint64) (log.Head, error) {
+func (u *unasked) HeadOf(ctx context.Context, entries uint64) (logapi.Head, error) {
 	if entries <= u.head.TreeSize {
 		return u.head, nil
 	}

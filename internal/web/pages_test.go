@@ -6,7 +6,7 @@ import (
 	"time"
 
 	"wagtenib/internal/stores"
-	"wagtenib/internal/trial"
+	"wagtenib/internal/testutil"
 )
 
 // inSecond returns how many submissions of one address are answered in a second, at most, if tree heads have this
@@ -18,9 +18,9 @@ func inSecond(limits Limits, interval time.Duration) int {
 // TestPageSaysBounds: the bounds that docs/SERVICE.md and docs/OPERATING.md say of requests and answers are those that
 // are here.
 func TestPageSaysBounds(t *testing.T) {
-	limits, page := DefaultLimits(), trial.Page(t, "../../docs/SERVICE.md")
+	limits, page := DefaultLimits(), testutil.Page(t, "../../docs/SERVICE.md")
 	group, most := (&counts{most: limits.ConnectionsByAddress}).groupOf(netip.MustParseAddr("2001:db8::7"))
-	trial.Says(t, page, map[string]bool{
+	testutil.Says(t, page, map[string]bool{
 		"| connections of clients | 4,096 | 64 |": limits.Connections == 4096 &&
 			most == 64,
 		"Addresses of IPv6 count together if they are in the same /64":              group.Bits() == 64,
@@ -42,7 +42,7 @@ func TestPageSaysBounds(t *testing.T) {
 		"is counted with status 499": statusGone == 499,
 		"At most 50 lines a second are logged for one event, except for lines of level `error`": maxLines == 50,
 	})
-	trial.Says(t, trial.Page(t, "../../docs/OPERATING.md"), map[string]bool{
+	testutil.Says(t, testutil.Page(t, "../../docs/OPERATING.md"), map[string]bool{
 		"64 connections at once, or 64 requests at once through nginx " +
 			"(`max-connections-per-address`)": limits.ConnectionsByAddress == 64,
 		"so an address gets at most 64 SCTs for each tree head": limits.ConnectionsByAddress == 64,

@@ -16,10 +16,10 @@ import (
 	"time"
 
 	"wagtenib/bindings/go/wagtenib"
-	"wagtenib/internal/log"
+	"wagtenib/internal/logapi"
 	"wagtenib/internal/stores"
+	"wagtenib/internal/testutil"
 	"wagtenib/internal/tile"
-	"wagtenib/internal/trial"
 	"wagtenib/internal/web/standin"
 )
 
@@ -155,7 +155,7 @@ func TestProofs(t *testing.T) {
 
 // elsewhere is a log that reports one index for each leaf.
 type elsewhere struct {
-	log.Log
+	logapi.Log
 	index uint64
 }
 
@@ -345,7 +345,7 @@ func TestPlaceForAProofIsGivenBack(t *testing.T) {
 	f.heldReader(comes)
 	f.isHeld()
 	close(comes)
-	f.front.limits.Reading = trial.Longest
+	f.front.limits.Reading = testutil.Longest
 	eventually(t, "a proof is made again", func() bool {
 		return f.get(
 			"/ct/v1/get-sth-consistency?first=1&second=2").Code == 200

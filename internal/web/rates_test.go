@@ -11,7 +11,7 @@ import (
 	"testing"
 	"time"
 
-	"wagtenib/internal/trial"
+	"wagtenib/internal/testutil"
 	"wagtenib/internal/web/standin"
 )
 
@@ -227,7 +227,7 @@ func (f *fixture) statusOf(client, call string) int {
 // empties has a client ask until its bucket is empty, however slow that is.
 func (f *fixture) empties(client, call string) {
 	f.t.Helper()
-	for until := time.Now().Add(trial.Longest); f.statusOf(client, call) != 429; {
+	for until := time.Now().Add(testutil.Longest); f.statusOf(client, call) != 429; {
 		if time.Now().After(until) {
 			f.t.Fatalf("%s of %s is always taken", call, client)
 		}
@@ -279,7 +279,7 @@ func TestTooOften(t *testing.T) {
 	again := func(call string) (w *httptest.ResponseRecorder, taken int, before time.Time) {
 		t.Helper()
 		method, path, _ := strings.Cut(call, " ")
-		for until := time.Now().Add(trial.Longest); time.Now().Before(until); taken++ {
+		for until := time.Now().Add(testutil.Longest); time.Now().Before(until); taken++ {
 			before = time.Now()
 			if w := f.askedBy(fmt.Sprintf("2001:db8::%x", taken+1), method, path, nil); w.Code == 429 {
 				return w, taken, before
@@ -333,14 +333,14 @@ func TestTooOften(t *testing.T) {
 
 // TestRatesOnThePages: the pages state the right rates.
 func TestRatesOnThePages(t *testing.T) {
-	trial.Says(t, trial.Page(t, "../../docs/SERVICE.md"), map[string]bool{
+	testutil.Says(t, testutil.Page(t, "../../docs/SERVICE.md"), map[string]bool{
 		"An address may use ten seconds of its rate at once":   burst == 10*time.Second,
 		"`ctserve` remembers how often 65,536 addresses asked": maxRated == 65536,
 		"A request above the rate gets status 429 `too-often`, with Retry-After: 1": tooOften.status == 429 &&
 			tooOften.name == "too-often" && tooOften.after == 1,
 	})
 	limits := DefaultLimits()
-	trial.Says(t, trial.Page(t, "../../docs/OPERATING.md"), map[string]bool{
+	testutil.Says(t, testutil.Page(t, "../../docs/OPERATING.md"), map[string]bool{
 		"By default, no address has a rate": limits.SubmissionRate == 0 && limits.ReadRate == 0,
 	})
 }

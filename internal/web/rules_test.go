@@ -34,7 +34,7 @@ func figureNames(t *testing.T) map[string]bool {
 // TestRules: the alert rules use existing metrics, and each alert has a section in the page of incidents. cmd/test.sh
 // has promtool check their expressions.
 func TestRules(t *testing.T) {
-	rules, err := os.ReadFile("../../release/ctserve.rules.yml")
+	rules, err := os.ReadFile("../../release/prometheus/ctserve.rules.yml")
 	if err != nil {
 		t.Fatal(err)
 	}
@@ -67,7 +67,7 @@ func TestRules(t *testing.T) {
 // TestDashboard: each expression of the dashboard names figures that are there, and promtool reads it where it is
 // installed; each of its own variables is one of its list; and each figure of the log that an alarm is of can be seen.
 func TestDashboard(t *testing.T) {
-	content, err := os.ReadFile("../../release/ctserve.dashboard.json")
+	content, err := os.ReadFile("../../release/prometheus/ctserve.dashboard.json")
 	if err != nil {
 		t.Fatal(err)
 	}
@@ -113,7 +113,7 @@ func TestDashboard(t *testing.T) {
 			rules += fmt.Sprintf("  - record: panel:%d:%d\n    expr: %s\n", panel.ID, i, quoted)
 		}
 	}
-	alarms, err := os.ReadFile("../../release/ctserve.rules.yml")
+	alarms, err := os.ReadFile("../../release/prometheus/ctserve.rules.yml")
 	if err != nil {
 		t.Fatal(err)
 	}

@@ -17,7 +17,7 @@ import (
 	"testing"
 	"time"
 
-	"wagtenib/internal/trial"
+	"wagtenib/internal/testutil"
 	"wagtenib/internal/web/standin"
 )
 
@@ -54,7 +54,7 @@ func dial(t testing.TB, address string) net.Conn {
 	if err != nil {
 		t.Fatal(err)
 	}
-	connection.SetDeadline(time.Now().Add(trial.Longest))
+	connection.SetDeadline(time.Now().Add(testutil.Longest))
 	t.Cleanup(func() { connection.Close() })
 	return connection
 }
@@ -244,7 +244,7 @@ func TestSlowClients(t *testing.T) {
 	for what := range slow {
 		left[what] = true
 	}
-	for until := time.After(trial.Longest); len(left) > 0; {
+	for until := time.After(testutil.Longest); len(left) > 0; {
 		select {
 		case what := <-ended:
 			delete(left, what)
@@ -280,13 +280,13 @@ func TestServerEnds(t *testing.T) {
 	}
 	f.front.Refuse()
 	began := time.Now()
-	ctx, cancel := context.WithTimeout(context.Background(), trial.Longest)
+	ctx, cancel := context.WithTimeout(context.Background(), testutil.Longest)
 	defer cancel()
 	f.log.End(ctx)
 	if err := server.End(ctx); err != nil {
 		t.Errorf("it doesn't end: %v", err)
 	}
-	if took := time.Since(began); took > trial.Longest/2 {
+	if took := time.Since(began); took > testutil.Longest/2 {
 		t.Errorf("it took %v", took)
 	}
 	if statuses := answersOn(t, waits); fmt.Sprint(statuses) != "[200]" {
@@ -324,7 +324,7 @@ func TestSubmissionsWaitLongerThanRequests(t *testing.T) {
 	for most := 150 * time.Millisecond; ; most *= 4 {
 		f := newFixture(t, 0, func(o *Options) {
 			o.Limits.Headers, o.Limits.Request, o.Limits.Submission = most, most,
-				trial.Longest
+				testutil.Longest
 		})
 		address, _ := f.listening(nil)
 		body := standin.Submission(f.issue(false))
@@ -344,7 +344,7 @@ func TestSubmissionsWaitLongerThanRequests(t *testing.T) {
 			}
 			return
 		}
-		if most > trial.Longest/8 {
+		if most > testutil.Longest/8 {
 			t.Fatalf("a request isn't taken within %v: %v", most, <-came)
 		}
 	}

@@ -10,7 +10,7 @@ import (
 	"slices"
 
 	"wagtenib/internal/chains"
-	"wagtenib/internal/log"
+	"wagtenib/internal/logapi"
 )
 
 // signedTimestamp is the answer to a submission (RFC 6962, section 4.1). Bytes are in base64.
@@ -52,14 +52,14 @@ func (f *Front) add(w http.ResponseWriter, r *http.Request, check func([][]byte)
 	if err != nil {
 		return err
 	}
-	if f.options.Forward == nil || log.IsForwarded(ctx) {
+	if f.options.Forward == nil || logapi.IsForwarded(ctx) {
 		// (the entry has its own bytes)
 		body = nil
 	}
 	return f.submit(ctx, w, r, client, *entry, body)
 }
 
-func timestampOf(place log.Place) signedTimestamp {
+func timestampOf(place logapi.Place) signedTimestamp {
 	return signedTimestamp{0, place.LogID[:], place.Timestamp, place.Extensions, place.Signature}
 }
 

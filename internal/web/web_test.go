@@ -19,10 +19,10 @@ import (
 	"time"
 
 	"wagtenib/internal/chains"
-	"wagtenib/internal/log"
+	"wagtenib/internal/logapi"
 	"wagtenib/internal/stores"
+	"wagtenib/internal/testutil"
 	"wagtenib/internal/tile"
-	"wagtenib/internal/trial"
 	"wagtenib/internal/web/standin"
 )
 
@@ -75,7 +75,7 @@ func newFixture(t testing.TB, every time.Duration, change func(*Options)) *fixtu
 	f := &fixture{t: t, log: of, authority: authority, lines: &text{}}
 	options := Options{Limits: DefaultLimits(), Lines: NewLines(f.lines), Stores: &stores.Calls{}}
 	// (as long as a busy machine takes)
-	options.Limits.Reading = trial.Longest
+	options.Limits.Reading = testutil.Longest
 	if change != nil {
 		change(&options)
 	}
@@ -86,7 +86,7 @@ func newFixture(t testing.TB, every time.Duration, change func(*Options)) *fixtu
 
 // unlessLate repeats a request until the response does not say that it is late. /readyz has a limit of two seconds.
 func unlessLate(ask func() *httptest.ResponseRecorder) (w *httptest.ResponseRecorder) {
-	for until := time.Now().Add(trial.Longest); ; {
+	for until := time.Now().Add(testutil.Longest); ; {
 		if w = ask(); w.Code != 503 || !strings.Contains(w.Body.String(), `"late"`) || time.Now().After(until) {
 			return w
 		}
@@ -99,7 +99,7 @@ func (f *fixture) ready() *httptest.ResponseRecorder {
 }
 
 // eventually waits until something holds.
-var eventually = trial.Eventually
+var eventually = testutil.Eventually
 
 func (f *fixture) do(method, target string, body []byte) *httptest.ResponseRecorder {
 	r := httptest.NewRequest(method, target, bytes.NewReader(body))
@@ -123,9 +123,9 @@ func (f *fixture) issue(poison bool) []byte {
 func (f *fixture) fill(count int) (certificates [][]byte) {
 	f.t.Helper()
 	one := f.issue(false)
-	var entries []log.Entry
+	var entries []logapi.Entry
 	for i := 0; i < count; i++ {
-		entry := log.Entry{Certificate: append([]byte{byte(i >> 8), byte(i)}, one...),
+		entry := logapi.Entry{Certificate: append([]byte{byte(i >> 8), byte(i)}, one...),
 			Issuers: [][]byte{f.authority.Root.Raw}}
 		certificates, entries = append(certificates, entry.Certificate), append(entries, entry)
 	}

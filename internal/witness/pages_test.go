@@ -3,13 +3,13 @@ package witness
 import (
 	"testing"
 
-	"wagtenib/internal/trial"
+	"wagtenib/internal/testutil"
 )
 
 // TestPageSaysBounds: the bounds that docs/SERVICE.md says of a witness, and of a log with witnesses, are those that
 // are here.
 func TestPageSaysBounds(t *testing.T) {
-	trial.Says(t, trial.Page(t, "../../docs/SERVICE.md"), map[string]bool{
+	testutil.Says(t, testutil.Page(t, "../../docs/SERVICE.md"), map[string]bool{
 		"A request, `POST /add-checkpoint`, has at most 64 KiB and 63 hashes": MaxBody == 64<<10 &&
 			MaxProof == 63,
 		"| 503 `clock` | the clock is more than a minute behind the last timestamp |": maxLag == 60,

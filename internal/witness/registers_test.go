@@ -24,7 +24,7 @@ import (
 	"golang.org/x/mod/sumdb/note"
 
 	"wagtenib/internal/stores"
-	"wagtenib/internal/trial"
+	"wagtenib/internal/testutil"
 )
 
 // grounds are the kinds of registers that keep a witness's states. Each returns an address for a folder and a name that
@@ -332,7 +332,7 @@ func TestEngineDies(t *testing.T) {
 func engineDies(t *testing.T, at string, words []string, command string) {
 	by := headKey(t, origin)
 	s := witnessOver(t, registerAt(t, at), newKey(t), by)
-	ctx, cancel := context.WithTimeout(context.Background(), trial.Longest)
+	ctx, cancel := context.WithTimeout(context.Background(), testutil.Longest)
 	defer cancel()
 	killed := make(chan error, 1)
 	go func() {

@@ -24,12 +24,12 @@ import (
 
 	"wagtenib/internal/signer"
 	"wagtenib/internal/stores"
-	"wagtenib/internal/trial"
+	"wagtenib/internal/testutil"
 )
 
-var must = trial.Must
+var must = testutil.Must
 
-func limited(t testing.TB) context.Context { return trial.Limited(t, trial.Longest) }
+func limited(t testing.TB) context.Context { return testutil.Limited(t, testutil.Longest) }
 
 const origin = "log.example/1"
 

@@ -276,7 +276,7 @@ class Trial:
     def figures(self, said):
         until(lambda: prometheus("query?query=ctserve_ready")["result"], "Prometheus has no figures of the log")
         rules = [rule["name"] for group in prometheus("rules")["groups"] for rule in group["rules"]]
-        due = re.findall(r"alert: (\w+)", (ROOT / "release" / "ctserve.rules.yml").read_text())
+        due = re.findall(r"alert: (\w+)", (ROOT / "release" / "prometheus" / "ctserve.rules.yml").read_text())
         if rules != due or prometheus("query?query=up")["result"][0]["value"][1] != "1":
             fail(f"Prometheus has the rules {rules}")
 

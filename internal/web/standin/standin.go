@@ -18,7 +18,7 @@ import (
 	"golang.org/x/crypto/cryptobyte"
 
 	"wagtenib/internal/chains"
-	"wagtenib/internal/log"
+	"wagtenib/internal/logapi"
 	"wagtenib/internal/stores"
 )
 
@@ -56,12 +56,12 @@ type tree struct {
 	objects map[string][]byte
 	leaves  [][]byte
 	hashes  [][32]byte
-	head    log.Head
+	head    logapi.Head
 }
 
 type waiting struct {
-	entry log.Entry
-	place chan log.Place
+	entry logapi.Entry
+	place chan logapi.Place
 }
 
 // New makes a log without entries, which publishes every so often; with 0 only where Publish is called.
@@ -96,39 +96,39 @@ func (l *Log) run() {
 	}
 }
 
-// Submit is log.Log's.
-func (l *Log) Submit(ctx context.Context, entry log.Entry) (log.Place, error) {
-	w := waiting{entry, make(chan log.Place, 1)}
+// Submit is logapi.Log's.
+func (l *Log) Submit(ctx context.Context, entry logapi.Entry) (logapi.Place, error) {
+	w := waiting{entry, make(chan logapi.Place, 1)}
 	l.mutex.Lock()
 	var err error
 	switch {
 	case l.Fault != nil:
 		err = l.Fault
 	case l.ended:
-		err = log.ErrEnded
+		err = logapi.ErrEnded
 	case len(l.waiting) >= l.MaxQueue:
-		err = log.ErrBusy
+		err = logapi.ErrBusy
 	default:
 		l.waiting = append(l.waiting, w)
 	}
 	l.mutex.Unlock()
 	if err != nil {
-		return log.Place{}, err
+		return logapi.Place{}, err
 	}
 	select {
 	case place := <-w.place:
 		return place, nil
 	case <-ctx.Done():
-		return log.Place{}, ctx.Err()
+		return logapi.Place{}, ctx.Err()
 	}
 }
 
 // Add publishes entries, whose places nobody waits for.
-func (l *Log) Add(entries []log.Entry) {
+func (l *Log) Add(entries []logapi.Entry) {
 	l.mutex.Lock()
 	defer l.mutex.Unlock()
 	for _, entry := range entries {
-		l.waiting = append(l.waiting, waiting{entry, make(chan log.Place, 1)})
+		l.waiting = append(l.waiting, waiting{entry, make(chan logapi.Place, 1)})
 	}
 	l.publish()
 }
@@ -146,13 +146,13 @@ func (l *Log) publish() {
 	now := uint64(time.Now().UnixMilli())
 	batch := l.waiting
 	l.waiting = nil
-	var places []log.Place
+	var places []logapi.Place
 	for _, w := range batch {
 		places = append(places, l.take(w.entry, now))
 	}
 	l.tiles()
 	root := MerkleTreeHash(l.tree.hashes)
-	l.tree.head = log.Head{TreeSize: uint64(len(l.tree.leaves)), Timestamp: now, RootHash: root}
+	l.tree.head = logapi.Head{TreeSize: uint64(len(l.tree.leaves)), Timestamp: now, RootHash: root}
 	l.tree.head.Note = []byte(fmt.Sprintf("log.example/stand-in\n%d\n%s\n\n— log.example/stand-in AAAAAA==\n",
 		len(l.tree.leaves), base64.StdEncoding.EncodeToString(root[:])))
 	l.tree.head.Signature = l.sign(HeadSigned(l.tree.head))
@@ -162,7 +162,7 @@ func (l *Log) publish() {
 }
 
 // take settles an entry.
-func (l *Log) take(entry log.Entry, now uint64) log.Place {
+func (l *Log) take(entry logapi.Entry, now uint64) logapi.Place {
 	index := uint64(len(l.tree.leaves))
 	extensions := []byte{0, 0, 5, byte(index >> 32), byte(index >> 24), byte(index >> 16),
 		byte(index >> 8), byte(index)}
@@ -180,11 +180,11 @@ func (l *Log) take(entry log.Entry, now uint64) log.Place {
 	})
 	l.tree.leaves = append(l.tree.leaves, leaf.BytesOrPanic())
 	l.tree.hashes = append(l.tree.hashes, LeafHash(append([]byte{0, 0}, timestamped...)))
-	return log.Place{LeafIndex: index, Timestamp: now, Extensions: extensions, LogID: l.id,
+	return logapi.Place{LeafIndex: index, Timestamp: now, Extensions: extensions, LogID: l.id,
 		Signature: l.sign(append([]byte{0, 0}, timestamped...))}
 }
 
-func timestampedEntry(entry log.Entry, now uint64, extensions []byte) []byte {
+func timestampedEntry(entry logapi.Entry, now uint64, extensions []byte) []byte {
 	var b cryptobyte.Builder
 	b.AddUint64(now)
 	b.AddUint16(uint16(entry.Type))
@@ -240,20 +240,20 @@ func (l *Log) sign(signed []byte) []byte {
 	return append([]byte{4, 3, 0, byte(len(signature))}, signature...)
 }
 
-// Checkpoint is log.Log's.
-func (l *Log) Checkpoint(ctx context.Context) (log.Head, error) {
+// Checkpoint is logapi.Log's.
+func (l *Log) Checkpoint(ctx context.Context) (logapi.Head, error) {
 	if err := l.slowly(ctx); err != nil {
-		return log.Head{}, err
+		return logapi.Head{}, err
 	}
 	l.mutex.Lock()
 	defer l.mutex.Unlock()
 	return l.tree.head, l.Fault
 }
 
-// HeadOf is log.Log's.
-func (l *Log) HeadOf(ctx context.Context, _ uint64) (log.Head, error) { return l.Checkpoint(ctx) }
+// HeadOf is logapi.Log's.
+func (l *Log) HeadOf(ctx context.Context, _ uint64) (logapi.Head, error) { return l.Checkpoint(ctx) }
 
-// Object is log.Log's.
+// Object is logapi.Log's.
 func (l *Log) Object(ctx context.Context, name string, most int64) ([]byte, error) {
 	if err := l.slowly(ctx); err != nil {
 		return nil, err
@@ -319,7 +319,7 @@ func (l *Log) Bend(damage string) {
 	l.Damage = damage
 }
 
-// IndexOf is log.Log's.
+// IndexOf is logapi.Log's.
 func (l *Log) IndexOf(ctx context.Context, leafHash [32]byte) (uint64, error) {
 	if err := l.slowly(ctx); err != nil {
 		return 0, err
@@ -334,7 +334,7 @@ func (l *Log) IndexOf(ctx context.Context, leafHash [32]byte) (uint64, error) {
 	return 0, stores.ErrAbsent
 }
 
-// End is log.Log's.
+// End is logapi.Log's.
 func (l *Log) End(ctx context.Context) error {
 	l.mutex.Lock()
 	defer l.mutex.Unlock()
@@ -346,22 +346,22 @@ func (l *Log) End(ctx context.Context) error {
 	return ctx.Err()
 }
 
-// Figures is log.Log's.
-func (l *Log) Figures() log.Figures {
+// Figures is logapi.Log's.
+func (l *Log) Figures() logapi.Figures {
 	l.mutex.Lock()
 	defer l.mutex.Unlock()
-	figures := log.Figures{
+	figures := logapi.Figures{
 		Queue: len(l.waiting), MaxQueue: l.MaxQueue, Entries: l.tree.head.TreeSize,
 		HeadAge: time.Since(time.UnixMilli(int64(l.tree.head.Timestamp))),
-		Rounds: log.Rounds{LostSwaps: 3, Unpublished: 18, SinceRound: 2500 * time.Millisecond, Written: 16,
-			Phases:  []log.Phase{{Name: "stage", Count: 17, Took: 1500 * time.Millisecond}},
-			Batches: log.Batches{Steps: 20, Submissions: 21, AtMost: map[int]uint64{1: 18, 8: 20}}},
-		Answers: log.Answers{SignerStarts: 7, WrongSignatures: 22},
-		Janitor: log.Janitor{Swept: 4, SweptHeads: 8, Scrubbed: 5, SweptBundles: 11, Staged: 12, TendFailures: 13,
+		Rounds: logapi.Rounds{LostSwaps: 3, Unpublished: 18, SinceRound: 2500 * time.Millisecond, Written: 16,
+			Phases:  []logapi.Phase{{Name: "stage", Count: 17, Took: 1500 * time.Millisecond}},
+			Batches: logapi.Batches{Steps: 20, Submissions: 21, AtMost: map[int]uint64{1: 18, 8: 20}}},
+		Answers: logapi.Answers{SignerStarts: 7, WrongSignatures: 22},
+		Janitor: logapi.Janitor{Swept: 4, SweptHeads: 8, Scrubbed: 5, SweptBundles: 11, Staged: 12, TendFailures: 13,
 			TendFailure: "nothing is deleted", SweptTo: 512, ReadNext: 19},
-		Damages:  log.Damages{Damaged: 6, Damage: l.Damage, DamagedIssuers: 9, Mended: 10, LastMended: "issuer/07"},
-		Faulting: log.Faulting{Faults: l.faults, LastFault: l.lastFault},
-		Witnesses: []log.Witness{{Name: "w.example", Missed: 14, Cosigned: 15, SeenMore: true,
+		Damages:  logapi.Damages{Damaged: 6, Damage: l.Damage, DamagedIssuers: 9, Mended: 10, LastMended: "issuer/07"},
+		Faulting: logapi.Faulting{Faults: l.faults, LastFault: l.lastFault},
+		Witnesses: []logapi.Witness{{Name: "w.example", Missed: 14, Cosigned: 15, SeenMore: true,
 			Fault: "it has seen 7 entries"}},
 	}
 	if l.Fault != nil {
@@ -390,7 +390,7 @@ func MerkleTreeHash(hashes [][32]byte) [32]byte {
 }
 
 // HeadSigned are the bytes under a head's signature (RFC 6962, section 3.5).
-func HeadSigned(head log.Head) []byte {
+func HeadSigned(head logapi.Head) []byte {
 	var b cryptobyte.Builder
 	b.AddUint16(1)
 	b.AddUint64(head.Timestamp)
@@ -400,6 +400,6 @@ func HeadSigned(head log.Head) []byte {
 }
 
 // TimestampSigned are the bytes under a timestamp's signature (RFC 6962, section 3.2).
-func TimestampSigned(entry log.Entry, timestamp uint64, extensions []byte) []byte {
+func TimestampSigned(entry logapi.Entry, timestamp uint64, extensions []byte) []byte {
 	return append([]byte{0, 0}, timestampedEntry(entry, timestamp, extensions)...)
 }

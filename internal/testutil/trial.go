@@ -1,5 +1,5 @@
-// Package trial has what the tests of several packages ask for.
-package trial
+// Package testutil has what the tests of several packages ask for.
+package testutil
 
 import (
 	"context"

@@ -1,6 +1,6 @@
-// Package log says what a front sees of a log: submissions that are answered with their places, the newest published
+// Package logapi says what a front sees of a log: submissions that are answered with their places, the newest published
 // head, and the published objects. The log of wagtenib/internal/serve is one.
-package log
+package logapi
 
 import (
 	"context"

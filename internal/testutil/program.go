@@ -1,4 +1,4 @@
-package trial
+package testutil
 
 import (
 	"bytes"

@@ -1,4 +1,4 @@
-package trial_test
+package testutil_test
 
 import (
 	"fmt"
@@ -7,7 +7,7 @@ import (
 	"slices"
 	"testing"
 
-	"wagtenib/internal/trial"
+	"wagtenib/internal/testutil"
 )
 
 // told is a test that keeps what it is told.
@@ -24,7 +24,7 @@ func (t *told) Errorf(form string, words ...any) {
 // TestSays: a page must say each sentence, and what it says must be so.
 func TestSays(t *testing.T) {
 	path := filepath.Join(t.TempDir(), "page.md")
-	trial.Must(t, os.WriteFile(path, []byte("# A page\n\nIt has two\nlines.\n"), 0o600))
+	testutil.Must(t, os.WriteFile(path, []byte("# A page\n\nIt has two\nlines.\n"), 0o600))
 	for _, test := range []struct {
 		sentence string
 		isSo     bool
@@ -35,7 +35,7 @@ func TestSays(t *testing.T) {
 		{"It has three lines.", true, []string{`the page does not say "It has three lines."`}},
 	} {
 		of := &told{TB: t}
-		trial.Says(of, trial.Page(t, path), map[string]bool{test.sentence: test.isSo})
+		testutil.Says(of, testutil.Page(t, path), map[string]bool{test.sentence: test.isSo})
 		if !slices.Equal(of.faults, test.faults) {
 			t.Errorf("%q, %t: %q", test.sentence, test.isSo, of.faults)
 		}
