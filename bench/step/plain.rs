@@ -4,7 +4,7 @@
 //!
 //! Makes STEPS steps of COUNT submissions, each from one state of SIZE leaves, and prints the line of the last.
 
-#[path = "../baseline/src/sha256.rs"]
+#[path = "../plain-ctlog/src/sha256.rs"]
 mod sha256;
 
 use sha256::{Hash, hash_of};
