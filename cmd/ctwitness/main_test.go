@@ -12,6 +12,7 @@ import (
 	"encoding/pem"
 	"fmt"
 	"io"
+	"io/fs"
 	"net/http"
 	"os"
 	"path/filepath"
@@ -333,11 +334,14 @@ func TestWords(t *testing.T) {
 			t.Errorf("%q: status %d: %s", words, status, &told)
 		}
 	}
-	must(t, os.Chmod(p.path("key.pem"), 0o640))
 	p.write("settings", string(base))
-	var told bytes.Buffer
-	if status := run(p.words(), io.Discard, &told, nil); status != 1 ||
-		!strings.Contains(told.String(), "not only its owner") {
-		t.Errorf("a key that others may read: status %d: %s", status, &told)
+	for _, mode := range []fs.FileMode{0o640, 0o604, 0o620} {
+		must(t, os.Chmod(p.path("key.pem"), mode))
+		var told bytes.Buffer
+		// (with --verifier-key it ends if it takes the key)
+		if status := run(p.words("--verifier-key"), io.Discard, &told, nil); status != 1 ||
+			!strings.Contains(told.String(), "not only its owner") {
+			t.Errorf("a key of the mode %v: status %d: %s", mode, status, &told)
+		}
 	}
 }

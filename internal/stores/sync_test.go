@@ -113,6 +113,17 @@ func TestFileSyncs(t *testing.T) {
 	syncedAs(t, "the same Raise by another process", syncs(t, root, "none", same), []string{"."})
 }
 
+// TestCurrentSyncs: the folder of an object that is replaced is on the disk before Swap returns, also if another process
+// has replaced the object before, and may have been killed before its own sync.
+func TestCurrentSyncs(t *testing.T) {
+	root := filepath.Join(t.TempDir(), "store")
+	objects, err := OpenFolder(root)
+	must(t, err)
+	swap := func() error { return objects.(*folder).Swap(limited(t), "checkpoint", nil, []byte("a")) }
+	syncedAs(t, "Swap", syncs(t, root, "checkpoint", swap), []string{"file", ". (named)"})
+	syncedAs(t, "the same Swap", syncs(t, root, "checkpoint", swap), []string{". (named)"})
+}
+
 // TestFailedSyncs: if a sync fails, nothing is acknowledged. The outcome of a swap is unknown after its text has its
 // name.
 func TestFailedSyncs(t *testing.T) {

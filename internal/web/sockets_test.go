@@ -446,7 +446,7 @@ func TestTLS(t *testing.T) {
 		t.Errorf("%v, %v", state, err)
 	}
 	if _, err := ask(&tls.Config{MinVersion: tls.VersionTLS10, MaxVersion: tls.VersionTLS11}); err == nil {
-		t.Error("TLS 1.1 is taken")
+		t.Fatal("TLS 1.1 is taken")
 	}
 	// (of a front of its own: the others' handshakes have no such time)
 	brief := newFixture(t, 0, func(o *Options) { o.Limits.Headers = 200 * time.Millisecond })
