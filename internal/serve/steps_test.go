@@ -84,6 +84,8 @@ func TestStepBesideAnotherHistory(t *testing.T) {
 		config := p.config()
 		// (the guard of a signer would refuse the head, too)
 		config.Signer = p.key
+		clock := &stopped{Clock: config.Machine.Of}
+		config.Machine.Of = clock
 		l := started(t, config)
 		got.submit(t, l, 0, 3)
 		head, err := l.Checkpoint(limited(t))
@@ -91,6 +93,8 @@ func TestStepBesideAnotherHistory(t *testing.T) {
 		other := head.Timestamp + 1
 		must(t, os.WriteFile(p.object(fmt.Sprintf("heads/%020d-%020d", size, other)), []byte("a head"), 0o644))
 		eventually(t, "the next timestamp is later", func() bool { return uint64(time.Now().UnixMilli()) > other })
+		// The list of the heads that the step before made is too old then.
+		clock.elapsed.Add(int64(time.Second))
 		_, err = l.Submit(limited(t), entryOf(3))
 		wants(t, err, node.ErrRolledBack)
 		if head, err := l.Checkpoint(limited(t)); err != nil || head.TreeSize != 3 {
