@@ -61,7 +61,7 @@ case $what in
       go test ./internal/chains -run '^$' -fuzz "^$target\$" -fuzztime "${1:-60}s" -fuzzminimizetime 1s -parallel "${PROCESSORS:-2}"
     done
     for target in FuzzHandlers FuzzConnections; do
-      go test ./internal/web -run '^$' -fuzz "^$target\$" -fuzztime "${1:-60}s" -fuzzminimizetime 1s -parallel "${PROCESSORS:-2}"
+      go test ./internal/httpserver -run '^$' -fuzz "^$target\$" -fuzztime "${1:-60}s" -fuzzminimizetime 1s -parallel "${PROCESSORS:-2}"
     done
     go test ./internal/tile -run '^$' -fuzz '^FuzzRead$' -fuzztime "${1:-60}s" -fuzzminimizetime 1s -parallel "${PROCESSORS:-2}"
     # (what ctwatch reads: certificates, watch lists, answers of logs, log lists, and settings)

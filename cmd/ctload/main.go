@@ -29,8 +29,8 @@ import (
 	"golang.org/x/sync/errgroup"
 
 	"wagtenib/internal/check"
+	"wagtenib/internal/httpserver/standin"
 	"wagtenib/internal/version"
-	"wagtenib/internal/web/standin"
 )
 
 // load submits certificates to the nodes of a log.

@@ -19,8 +19,8 @@ import (
 	"time"
 
 	"wagtenib/internal/check"
+	"wagtenib/internal/httpserver/standin"
 	"wagtenib/internal/testutil"
-	"wagtenib/internal/web/standin"
 )
 
 var must = testutil.Must

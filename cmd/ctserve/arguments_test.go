@@ -10,7 +10,7 @@ import (
 	"time"
 
 	"wagtenib/internal/chains"
-	"wagtenib/internal/web/standin"
+	"wagtenib/internal/httpserver/standin"
 )
 
 // TestSettings: the rules for arguments and the config file.

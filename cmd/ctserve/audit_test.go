@@ -22,8 +22,8 @@ import (
 	"github.com/minio/minio-go/v7"
 	"github.com/minio/minio-go/v7/pkg/credentials"
 
+	"wagtenib/internal/httpserver/standin"
 	"wagtenib/internal/testutil"
-	"wagtenib/internal/web/standin"
 )
 
 // audited is a log on a folder that `ctserve audit` looks at, with the files that it needs.

@@ -8,9 +8,9 @@ import (
 	"os"
 	"strings"
 
+	"wagtenib/internal/httpserver"
 	"wagtenib/internal/signer"
 	"wagtenib/internal/stores"
-	"wagtenib/internal/web"
 )
 
 // checkPage is what `ctserve check --help` prints.
@@ -38,7 +38,7 @@ func runCheck(words []string, answers, faults io.Writer) error {
 	c.look("max-merge-delay",
 		fmt.Sprintf("%v, so a head is made at least each %v", s.node.maxMergeDelay, s.node.refresh), nil)
 	if s.certificate != "" {
-		_, err := web.LoadCertificate(s.certificate, s.key)
+		_, err := httpserver.LoadCertificate(s.certificate, s.key)
 		c.look("tls-certificate", s.certificate, err)
 	}
 	c.lookAtGuard(s)

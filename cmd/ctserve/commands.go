@@ -19,12 +19,12 @@ import (
 	"strings"
 	"time"
 
-	"wagtenib/internal/serve"
+	"wagtenib/internal/httpserver"
+	"wagtenib/internal/logservice"
 	"wagtenib/internal/settingsfile"
 	"wagtenib/internal/signer"
 	"wagtenib/internal/stores"
 	"wagtenib/internal/version"
-	"wagtenib/internal/web"
 )
 
 // commands are what ctserve does beside serving, by the first word.
@@ -231,16 +231,16 @@ func entryOf(s *settings, public []byte) listed {
 }
 
 // aboutOf is what a log answers of itself: nothing where its key isn't known.
-func aboutOf(s *settings, public []byte) (web.About, error) {
+func aboutOf(s *settings, public []byte) (httpserver.About, error) {
 	if public == nil {
-		return web.About{MaxMergeDelay: s.node.maxMergeDelay}, nil
+		return httpserver.About{MaxMergeDelay: s.node.maxMergeDelay}, nil
 	}
 	entry, err := json.MarshalIndent(struct {
 		listed
 		Version string `json:"version"`
 		Notice  string `json:"notice,omitempty"`
 	}{entryOf(s, public), version.Number() + " (commit " + version.Commit() + ")", s.notice}, "", "  ")
-	about := web.About{Key: public, Entry: append(entry, '\n'), MaxMergeDelay: s.node.maxMergeDelay}
+	about := httpserver.About{Key: public, Entry: append(entry, '\n'), MaxMergeDelay: s.node.maxMergeDelay}
 	if s.node.archive != "" {
 		about.MaxMergeDelay = 0
 	}
@@ -309,7 +309,7 @@ func runIndex(words []string, answers, faults io.Writer) (err error) {
 		return err
 	}
 	defer of.close()
-	return serve.RebuildIndex(context.Background(), of.Stores, func(left uint64) {
+	return logservice.RebuildIndex(context.Background(), of.Stores, func(left uint64) {
 		fmt.Fprintf(answers, "%d entries are left\n", left)
 	})
 }
@@ -330,7 +330,7 @@ func runClock(words []string, answers, faults io.Writer) error {
 		return err
 	}
 	now := time.Now()
-	if err := serve.NameDay(s.node.namedDay, flags.Arg(1), now); err != nil {
+	if err := logservice.NameDay(s.node.namedDay, flags.Arg(1), now); err != nil {
 		return err
 	}
 	fmt.Fprintf(answers, "%s: on %s the log continues. This machine's clock says %s\n", s.node.origin, flags.Arg(1),

@@ -16,8 +16,8 @@ import (
 	"testing"
 	"time"
 
+	"wagtenib/internal/httpserver/standin"
 	"wagtenib/internal/testutil"
-	"wagtenib/internal/web/standin"
 )
 
 // does runs one of the commands in this process.

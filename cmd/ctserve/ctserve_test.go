@@ -20,8 +20,8 @@ import (
 	"testing"
 	"time"
 
+	"wagtenib/internal/httpserver/standin"
 	"wagtenib/internal/testutil"
-	"wagtenib/internal/web/standin"
 )
 
 // The tests start this program again as ctserve, over a log in memory where every is set.

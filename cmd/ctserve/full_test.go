@@ -14,9 +14,9 @@ import (
 	"time"
 
 	"wagtenib/internal/check"
+	"wagtenib/internal/httpserver/standin"
 	"wagtenib/internal/signer"
 	"wagtenib/internal/testutil"
-	"wagtenib/internal/web/standin"
 )
 
 // fill fills the file system below a folder up to so many bytes, and gives the way to make room again.

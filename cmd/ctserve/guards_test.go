@@ -13,9 +13,9 @@ import (
 	"time"
 
 	"wagtenib/internal/check"
+	"wagtenib/internal/httpserver/standin"
 	"wagtenib/internal/signer"
 	"wagtenib/internal/testutil"
-	"wagtenib/internal/web/standin"
 )
 
 // The plainest backup of a log, a copy of its folder while it is stopped, is put back: the start is refused by a status

@@ -20,13 +20,13 @@ import (
 	"time"
 
 	"wagtenib/internal/chains"
+	"wagtenib/internal/httpserver"
 	"wagtenib/internal/logapi"
-	"wagtenib/internal/serve"
+	"wagtenib/internal/logservice"
 	"wagtenib/internal/settingsfile"
 	"wagtenib/internal/stores"
 	"wagtenib/internal/tile"
 	"wagtenib/internal/version"
-	"wagtenib/internal/web"
 )
 
 // opened is a log that was opened.
@@ -38,7 +38,7 @@ type opened struct {
 	// nodes returns the handler of what other nodes forward, forward forwards to them, and secured has the certificates
 	// for both. All are nil if the log has one node.
 	nodes   func(front http.Handler) http.Handler
-	forward web.Forwarder
+	forward httpserver.Forwarder
 	secured *secured
 	key     []byte
 	// putEntry puts the log's entry for a log list into the store. It is nil unless the log is read from there.
@@ -83,10 +83,10 @@ func run(words []string, to io.Writer, open opener) int {
 	surviveReader()
 	signals := make(chan os.Signal, 4)
 	signal.Notify(signals, syscall.SIGHUP, syscall.SIGTERM, syscall.SIGINT)
-	lines := web.NewLines(to)
+	lines := httpserver.NewLines(to)
 	if err := serveLog(s, lines, signals, open); err != nil {
 		lines.Error("end", "fault", err)
-		if serve.NeedsOperator(err) {
+		if logservice.NeedsOperator(err) {
 			return statusSetBack
 		}
 		return 1
@@ -101,7 +101,7 @@ func run(words []string, to io.Writer, open opener) int {
 func surviveReader() { signal.Notify(make(chan os.Signal, 1), syscall.SIGPIPE) }
 
 // serveLog opens the log of the settings, and serves it until a signal ends it or a server fails.
-func serveLog(s *settings, lines *web.Lines, signals <-chan os.Signal, open opener) (err error) {
+func serveLog(s *settings, lines *httpserver.Lines, signals <-chan os.Signal, open opener) (err error) {
 	roots, err := s.loadRoots()
 	if err != nil {
 		return err
@@ -127,7 +127,7 @@ func serveLog(s *settings, lines *web.Lines, signals <-chan os.Signal, open open
 	if err := putEntry(s, of, about.Entry); err != nil {
 		return err
 	}
-	front := web.New(of.log, of.proofs, checker, web.Options{
+	front := httpserver.New(of.log, of.proofs, checker, httpserver.Options{
 		Limits: s.limits, Proxies: s.proxies, Lines: lines, LogRequests: s.logRequests, ReadOnly: s.readOnly, About: about,
 		Stores: of.calls, Forward: of.forward,
 	})
@@ -138,7 +138,7 @@ func serveLog(s *settings, lines *web.Lines, signals <-chan os.Signal, open open
 		telling, stop := context.WithCancel(context.Background())
 		defer stop()
 		go front.Tell(telling, looksEvery)
-		ending, err = wait(func() { reload(s, front, checker, []*web.Certificate{certificate, of.secured.its()}, lines) },
+		ending, err = wait(func() { reload(s, front, checker, []*httpserver.Certificate{certificate, of.secured.its()}, lines) },
 			signals, failed)
 	}
 	// From now on another signal ends the process. The end is logged after that.
@@ -181,14 +181,14 @@ func awaitHead(s *settings, of logapi.Log) {
 }
 
 // tellLeftOut logs which certificates in the files of roots are not roots of the log.
-func tellLeftOut(roots *chains.Roots, lines *web.Lines) {
+func tellLeftOut(roots *chains.Roots, lines *httpserver.Lines) {
 	for _, each := range roots.LeftOut() {
 		lines.Warn("root-left-out", "root", each)
 	}
 }
 
 // tellHead logs the published head at a start.
-func tellHead(s *settings, of logapi.Log, lines *web.Lines) {
+func tellHead(s *settings, of logapi.Log, lines *httpserver.Lines) {
 	ctx, cancel := context.WithTimeout(context.Background(), s.limits.Reading)
 	defer cancel()
 	head, err := of.Checkpoint(ctx)
@@ -228,7 +228,7 @@ func wait(reload func(), signals <-chan os.Signal, failed <-chan error) (os.Sign
 }
 
 // reload reads the roots and the certificate again, and logs the result.
-func reload(s *settings, front *web.Front, checker *chains.Checker, certificates []*web.Certificate, lines *web.Lines) {
+func reload(s *settings, front *httpserver.Front, checker *chains.Checker, certificates []*httpserver.Certificate, lines *httpserver.Lines) {
 	reloaded := func(of string, err error, more ...any) {
 		front.Reloaded(of, err)
 		if err != nil {

@@ -16,8 +16,8 @@ import (
 	"testing"
 	"time"
 
+	"wagtenib/internal/httpserver"
 	"wagtenib/internal/testutil"
-	"wagtenib/internal/web"
 )
 
 // nginxFound is the program, without which nothing of this is tried.
@@ -144,7 +144,7 @@ func TestFolderOfTiles(t *testing.T) {
 // TestExampleHasTheDefaults: the numbers of the example are those of ctserve's defaults, and nginx closes an idle
 // connection well before ctserve does.
 func TestExampleHasTheDefaults(t *testing.T) {
-	site, limits := exampleSite(t), web.DefaultLimits()
+	site, limits := exampleSite(t), httpserver.DefaultLimits()
 	defaults, err := parse([]string{"--roots", "a", "--origin", "b", "--signing-key", "c"}, io.Discard)
 	testutil.Must(t, err)
 	for _, line := range []string{

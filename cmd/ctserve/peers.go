@@ -10,7 +10,7 @@ import (
 	"os"
 	"strings"
 
-	"wagtenib/internal/web"
+	"wagtenib/internal/httpserver"
 )
 
 // peers are the settings of a log with several nodes.
@@ -69,8 +69,8 @@ func (p *peers) check() error {
 const maxNodeAddress = 200
 
 // load reads the files.
-func (p *peers) load() (*web.Certificate, *x509.CertPool, error) {
-	certificate, err := web.LoadCertificate(p.certificate, p.key)
+func (p *peers) load() (*httpserver.Certificate, *x509.CertPool, error) {
+	certificate, err := httpserver.LoadCertificate(p.certificate, p.key)
 	if err != nil {
 		return nil, nil, fmt.Errorf("--nodes-certificate: %w", err)
 	}
@@ -89,7 +89,7 @@ func (p *peers) load() (*web.Certificate, *x509.CertPool, error) {
 // secured are the configurations of TLS between the nodes: of the one that listens, and of the one that forwards. Both
 // ask for a certificate of the CA.
 type secured struct {
-	certificate    *web.Certificate
+	certificate    *httpserver.Certificate
 	listens, dials *tls.Config
 }
 
@@ -112,7 +112,7 @@ func (p *peers) secure() (*secured, error) {
 }
 
 // its returns the node's certificate, or nil if the log has one node.
-func (s *secured) its() *web.Certificate {
+func (s *secured) its() *httpserver.Certificate {
 	if s == nil {
 		return nil
 	}

@@ -13,10 +13,10 @@ import (
 	"time"
 
 	"wagtenib/internal/check"
+	"wagtenib/internal/httpserver"
+	"wagtenib/internal/httpserver/standin"
 	"wagtenib/internal/softhsm"
 	"wagtenib/internal/testutil"
-	"wagtenib/internal/web"
-	"wagtenib/internal/web/standin"
 )
 
 // realWords are those of a log on a folder.
@@ -44,7 +44,7 @@ func TestRealLog(t *testing.T) {
 		p = started(t, "", append(words, "--create")...)
 		// (a first head is waited for as long as a reading may take, and no longer)
 		isLate := p.serving["level"] == "warn" && p.serving["fault"] != nil &&
-			time.Since(began) >= web.DefaultLimits().Reading
+			time.Since(began) >= httpserver.DefaultLimits().Reading
 		if !isLate || time.Now().After(until) {
 			break
 		}

@@ -11,15 +11,15 @@ import (
 	"time"
 
 	"wagtenib/internal/chains"
+	"wagtenib/internal/logservice"
 	lognode "wagtenib/internal/node"
-	"wagtenib/internal/serve"
 	"wagtenib/internal/stores"
 	"wagtenib/internal/tile"
 )
 
 // shared are the stores that all nodes of a log share, and what closes them.
 type shared struct {
-	serve.Stores
+	logservice.Stores
 	calls   *stores.Calls
 	closers []func() error
 }
@@ -139,7 +139,7 @@ func openNode(ctx context.Context, n node) (of *opened, err error) {
 	if of.secured, err = n.peers.secure(); err != nil {
 		return nil, err
 	}
-	log, err := serve.Open(ctx, config)
+	log, err := logservice.Open(ctx, config)
 	if err != nil {
 		return nil, err
 	}
@@ -160,22 +160,22 @@ func openNode(ctx context.Context, n node) (of *opened, err error) {
 const defaultInterval, localInterval = 50 * time.Millisecond, 5 * time.Millisecond
 
 // config returns the configuration of a log over its stores.
-func (n *node) config(of serve.Stores) serve.Config {
+func (n *node) config(of logservice.Stores) logservice.Config {
 	interval := n.interval
 	if interval == 0 {
 		if interval = localInterval; n.isAway() || len(n.witnesses) > 0 {
 			interval = defaultInterval
 		}
 	}
-	return serve.Config{
+	return logservice.Config{
 		Origin: n.origin, Address: n.peers.address, Create: n.create, Stores: of, Witnesses: n.witnesses,
 		Quorums: n.quorums,
-		Pace: serve.Pace{Interval: interval, Refresh: n.refresh, MaxWritten: n.maxWritten, MaxBatch: n.maxBatch,
+		Pace: logservice.Pace{Interval: interval, Refresh: n.refresh, MaxWritten: n.maxWritten, MaxBatch: n.maxBatch,
 			MaxQueue: n.maxQueue},
-		Keep: serve.Keep{Heads: n.sweepAfter, Tiles: n.sweepTilesAfter, Every: n.readEvery, Reread: n.readAllWithin},
-		Machine: serve.MachineConfig{
-			Files: serve.Files{LatestHead: n.latestHead, NamedDay: n.namedDay},
-			Clock: serve.ClockBounds{MaxSkew: n.maxSkew, Synchronized: n.synchronized},
+		Keep: logservice.Keep{Heads: n.sweepAfter, Tiles: n.sweepTilesAfter, Every: n.readEvery, Reread: n.readAllWithin},
+		Machine: logservice.MachineConfig{
+			Files: logservice.Files{LatestHead: n.latestHead, NamedDay: n.namedDay},
+			Clock: logservice.ClockBounds{MaxSkew: n.maxSkew, Synchronized: n.synchronized},
 		},
 	}
 }

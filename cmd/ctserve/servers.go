@@ -7,8 +7,8 @@ import (
 	"net"
 	"net/http"
 
+	"wagtenib/internal/httpserver"
 	"wagtenib/internal/logapi"
-	"wagtenib/internal/web"
 )
 
 // served is one listener with its server.
@@ -17,17 +17,17 @@ type served struct {
 	address  string
 	over     *tls.Config
 	handler  http.Handler
-	make     func(http.Handler) *web.Server
+	make     func(http.Handler) *httpserver.Server
 	listener net.Listener
-	server   *web.Server
+	server   *httpserver.Server
 }
 
 // loadCertificate reads the certificate for clients. Without one, the log serves plain HTTP.
-func (s *settings) loadCertificate() (*web.Certificate, *tls.Config, error) {
+func (s *settings) loadCertificate() (*httpserver.Certificate, *tls.Config, error) {
 	if s.certificate == "" {
 		return nil, nil, nil
 	}
-	certificate, err := web.LoadCertificate(s.certificate, s.key)
+	certificate, err := httpserver.LoadCertificate(s.certificate, s.key)
 	if err != nil {
 		return nil, nil, err
 	}
@@ -35,7 +35,7 @@ func (s *settings) loadCertificate() (*web.Certificate, *tls.Config, error) {
 }
 
 // serversOf returns the servers of a log: for clients, for other nodes and for operators.
-func serversOf(s *settings, of *opened, front *web.Front, over *tls.Config) []*served {
+func serversOf(s *settings, of *opened, front *httpserver.Front, over *tls.Config) []*served {
 	servers := []*served{{of: "clients", address: s.listen, over: over, handler: front, make: front.Serve}}
 	if of.secured != nil {
 		servers = append(servers, &served{of: "nodes", address: s.node.peers.listen, over: of.secured.listens,
@@ -49,7 +49,7 @@ func serversOf(s *settings, of *opened, front *web.Front, over *tls.Config) []*s
 }
 
 // listen opens the listeners of servers. If one of them cannot be opened, none is open after it.
-func listen(servers []*served, lines *web.Lines) (err error) {
+func listen(servers []*served, lines *httpserver.Lines) (err error) {
 	for at, each := range servers {
 		if each.listener, err = net.Listen("tcp", each.address); err != nil {
 			for _, open := range servers[:at] {

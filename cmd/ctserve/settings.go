@@ -9,8 +9,8 @@ import (
 	"time"
 
 	"wagtenib/internal/chains"
+	"wagtenib/internal/httpserver"
 	"wagtenib/internal/settingsfile"
-	"wagtenib/internal/web"
 	"wagtenib/internal/witness"
 )
 
@@ -26,7 +26,7 @@ type settings struct {
 	roots                    chains.RootFiles
 	rules                    chains.Rules
 	anyPurpose               bool
-	limits                   web.Limits
+	limits                   httpserver.Limits
 	endWithin                time.Duration
 	logRequests, readOnly    bool
 	node                     node
@@ -90,7 +90,7 @@ func parse(words []string, help io.Writer) (*settings, error) {
 
 // parseTo defines the settings as flags of a program or a command, and reads its arguments as parse does.
 func parseTo(flags *flag.FlagSet, words []string) (*settings, error) {
-	s := &settings{limits: web.DefaultLimits()}
+	s := &settings{limits: httpserver.DefaultLimits()}
 	flags.String("config", "", "`file` with a line 'name value' for each of these settings. A comment begins with #")
 	s.frontFlags(flags)
 	limitFlags(flags, &s.limits)
@@ -148,7 +148,7 @@ func (s *settings) frontFlags(flags *flag.FlagSet) {
 }
 
 // limitFlags defines the bounds of what clients may use.
-func limitFlags(flags *flag.FlagSet, l *web.Limits) {
+func limitFlags(flags *flag.FlagSet, l *httpserver.Limits) {
 	flags.IntVar(&l.Connections, "max-connections", l.Connections, "maximum number of connections at the same time")
 	flags.IntVar(&l.ConnectionsByAddress, "max-connections-per-address", l.ConnectionsByAddress,
 		"maximum number of connections of one address or one /64 at the same time. "+

@@ -9,9 +9,9 @@ import (
 	"strings"
 	"time"
 
+	"wagtenib/internal/httpserver"
 	"wagtenib/internal/settingsfile"
 	"wagtenib/internal/stores"
-	"wagtenib/internal/web"
 	"wagtenib/internal/witness"
 )
 
@@ -113,7 +113,7 @@ func (s *settings) settleLimits() error {
 		{"submission-rate-per-address", int64(l.SubmissionRate), 0},
 		{"read-rate-per-address", int64(l.ReadRate), 0},
 		{"max-checks", int64(l.Checks), 1},
-		{"max-queued-bytes", l.WaitingBytes, web.MaxBody},
+		{"max-queued-bytes", l.WaitingBytes, httpserver.MaxBody},
 		{"max-response-bytes", l.AnswerBytes, stores.MaxObject},
 		{"max-queue", int64(n.maxQueue), 1},
 		{"max-batch", int64(n.maxBatch), 1},

@@ -12,8 +12,8 @@ import (
 	"testing"
 	"time"
 
+	"wagtenib/internal/httpserver/standin"
 	"wagtenib/internal/testutil"
-	"wagtenib/internal/web/standin"
 )
 
 // At SIGTERM who waits is answered, idle connections and half requests don't hold it up, and it ends by itself with

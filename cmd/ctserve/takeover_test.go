@@ -9,7 +9,7 @@ import (
 	"time"
 
 	"wagtenib/internal/check"
-	"wagtenib/internal/serve"
+	"wagtenib/internal/logservice"
 	"wagtenib/internal/signer"
 )
 
@@ -27,7 +27,7 @@ func takenOver(t *testing.T) (*place, []string) {
 		t.Fatal(err)
 	}
 	now := time.Now()
-	if err := serve.NameDay(p.path("log.day"), now.UTC().Format("2006-01-02"), now); err != nil {
+	if err := logservice.NameDay(p.path("log.day"), now.UTC().Format("2006-01-02"), now); err != nil {
 		t.Fatal(err)
 	}
 	return p, append(patient(), "--listen", "127.0.0.1:0", "--operator-listen", "127.0.0.1:0", "--origin",

@@ -7,8 +7,8 @@ import (
 	"strings"
 	"time"
 
+	"wagtenib/internal/httpserver"
 	"wagtenib/internal/settingsfile"
-	"wagtenib/internal/web"
 )
 
 func prefixes(text string) (found []netip.Prefix, err error) {
@@ -33,7 +33,7 @@ func prefixOf(text string) (netip.Prefix, error) {
 }
 
 // submitters reads prefixes, each with a bound. No prefix may occur twice.
-func submitters(text string) (found []web.Submitter, err error) {
+func submitters(text string) (found []httpserver.Submitter, err error) {
 	for _, part := range strings.Split(text, ",") {
 		of, bound, _ := strings.Cut(part, "=")
 		prefix, err := prefixOf(of)
@@ -49,7 +49,7 @@ func submitters(text string) (found []web.Submitter, err error) {
 				return nil, fmt.Errorf("%s occurs twice", prefix)
 			}
 		}
-		found = append(found, web.Submitter{Prefix: prefix, Most: most})
+		found = append(found, httpserver.Submitter{Prefix: prefix, Most: most})
 	}
 	return found, nil
 }

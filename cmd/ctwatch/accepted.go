@@ -7,9 +7,9 @@ import (
 	"path/filepath"
 	"sync"
 
+	"wagtenib/internal/httpserver"
 	"wagtenib/internal/stores"
 	"wagtenib/internal/watch"
-	"wagtenib/internal/web"
 )
 
 // acceptedFolder is a Keeper that also puts the head of each tiled log that was accepted last into a folder, as the log
@@ -17,13 +17,13 @@ import (
 type acceptedFolder struct {
 	watch.Keeper
 	folder string
-	lines  *web.Lines
+	lines  *httpserver.Lines
 	mutex  sync.Mutex
 	shown  map[watch.LogID]uint64 // by log, the timestamp of the head in the folder
 }
 
 // newAcceptedFolder makes the folder, unless it exists.
-func newAcceptedFolder(keeper watch.Keeper, folder string, lines *web.Lines) (*acceptedFolder, error) {
+func newAcceptedFolder(keeper watch.Keeper, folder string, lines *httpserver.Lines) (*acceptedFolder, error) {
 	if err := os.MkdirAll(folder, 0o755); err != nil {
 		return nil, fmt.Errorf("ctwatch: accepted-folder: %w", err)
 	}

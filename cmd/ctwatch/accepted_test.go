@@ -11,8 +11,8 @@ import (
 	"golang.org/x/mod/sumdb/note"
 
 	"wagtenib/bindings/go/wagtenib"
+	"wagtenib/internal/httpserver"
 	"wagtenib/internal/watch"
-	"wagtenib/internal/web"
 	"wagtenib/internal/witness"
 )
 
@@ -58,7 +58,7 @@ func (failing) Keep(watch.Log, watch.State, []watch.Entry) error {
 // TestAcceptedFolderAfterTheStore: a head that the store does not keep is not shown to a witness.
 func TestAcceptedFolderAfterTheStore(t *testing.T) {
 	folder := filepath.Join(t.TempDir(), "accepted")
-	keeper, err := newAcceptedFolder(failing{}, folder, web.NewLines(io.Discard))
+	keeper, err := newAcceptedFolder(failing{}, folder, httpserver.NewLines(io.Discard))
 	must(t, err)
 	log := watch.Log{ID: watch.LogID{1}, Origin: "log.example"}
 	head := watch.Head{TreeHead: wagtenib.TreeHead{TreeSize: 1, Timestamp: 1}, Signed: []byte("a checkpoint")}

@@ -14,12 +14,12 @@ import (
 	"time"
 
 	"wagtenib/internal/alert"
+	"wagtenib/internal/httpserver"
 	"wagtenib/internal/logclient"
 	"wagtenib/internal/loglist"
 	"wagtenib/internal/version"
 	"wagtenib/internal/watch"
 	"wagtenib/internal/watchstore"
-	"wagtenib/internal/web"
 )
 
 // The bounds of what settings name.
@@ -90,7 +90,7 @@ type follower struct {
 	of     logSettings
 	list   *loglist.Source // nil if no list is followed
 	group  *watch.Group
-	lines  *web.Lines
+	lines  *httpserver.Lines
 	lists  *watchstore.Store // has the list that was read last; it must be set before logs are read
 	listed listStatus
 }
@@ -139,7 +139,7 @@ func (l *listStatus) silence(now time.Time, after time.Duration) string {
 	return fmt.Sprintf("it could not be read for %v: %v", now.Sub(l.since).Round(time.Minute), l.fault)
 }
 
-func newFollower(of logSettings, keeper watch.Keeper, lines *web.Lines) (*follower, error) {
+func newFollower(of logSettings, keeper watch.Keeper, lines *httpserver.Lines) (*follower, error) {
 	agent, err := logclient.UserAgent("ctwatch", version.Number(), of.contact)
 	if err != nil {
 		return nil, fmt.Errorf("%w: %w", errUsage, err)

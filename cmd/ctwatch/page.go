@@ -17,8 +17,8 @@ import (
 
 	"wagtenib/internal/alert"
 	"wagtenib/internal/finding"
+	"wagtenib/internal/httpserver"
 	"wagtenib/internal/watchstore"
-	"wagtenib/internal/web"
 )
 
 //go:embed page.html
@@ -56,7 +56,7 @@ type pageServer struct {
 }
 
 // listen serves the page at the address of the settings. If there is none, nothing is served.
-func listen(of serveSettings, store *watchstore.Store, listed *listStatus, lines *web.Lines) (*pageServer, error) {
+func listen(of serveSettings, store *watchstore.Store, listed *listStatus, lines *httpserver.Lines) (*pageServer, error) {
 	if of.listen == "" {
 		return &pageServer{}, nil
 	}
@@ -94,7 +94,7 @@ func (p *pageServer) close() error {
 }
 
 // pageHandler returns the handler of the page, of metrics and of health.
-func pageHandler(store *watchstore.Store, listed *listStatus, lines *web.Lines) http.Handler {
+func pageHandler(store *watchstore.Store, listed *listStatus, lines *httpserver.Lines) http.Handler {
 	h := &pages{store, listed, lines}
 	mux := http.NewServeMux()
 	mux.HandleFunc("GET /{$}", h.search)
@@ -123,7 +123,7 @@ func pageHandler(store *watchstore.Store, listed *listStatus, lines *web.Lines) 
 type pages struct {
 	store  *watchstore.Store
 	listed *listStatus
-	lines  *web.Lines
+	lines  *httpserver.Lines
 }
 
 // content is what the template shows.

@@ -17,9 +17,9 @@ import (
 
 	"wagtenib/internal/alert"
 	"wagtenib/internal/finding"
+	"wagtenib/internal/httpserver"
 	"wagtenib/internal/watch"
 	"wagtenib/internal/watchstore"
-	"wagtenib/internal/web"
 )
 
 var _ = addCommand("run", "follows logs, and alerts to certificates for the watched names", runWatch)
@@ -33,7 +33,7 @@ type watching struct {
 	store    *watchstore.Store
 	outputs  []alert.Output
 	follower *follower
-	lines    *web.Lines
+	lines    *httpserver.Lines
 	wakes    []chan struct{}
 }
 
@@ -47,7 +47,7 @@ func runWatch(ctx context.Context, words []string, out io.Writer) error {
 	if err != nil {
 		return err
 	}
-	lines := web.NewLines(os.Stderr)
+	lines := httpserver.NewLines(os.Stderr)
 	if s.logs.once || s.serve.config == "" {
 		return s.watch(ctx, out, lines)
 	}
@@ -70,7 +70,7 @@ func runWatch(ctx context.Context, words []string, out io.Writer) error {
 
 // readAgain reads the settings again at each SIGHUP, and returns those that are right. It returns nil after the context
 // has ended.
-func readAgain(ctx context.Context, words []string, hangups <-chan os.Signal, lines *web.Lines) *settings {
+func readAgain(ctx context.Context, words []string, hangups <-chan os.Signal, lines *httpserver.Lines) *settings {
 	for {
 		select {
 		case <-ctx.Done():
@@ -89,7 +89,7 @@ func readAgain(ctx context.Context, words []string, hangups <-chan os.Signal, li
 }
 
 // check opens what the settings name, as far as another run can have it open too.
-func (s *settings) check(lines *web.Lines) error {
+func (s *settings) check(lines *httpserver.Lines) error {
 	_, closeOutputs, err := s.outputs.open(io.Discard, s.logs.contact)
 	if err == nil {
 		_, err = newFollower(s.logs, nil, lines)
@@ -99,7 +99,7 @@ func (s *settings) check(lines *web.Lines) error {
 
 // watch opens the store and the outputs, and follows logs until the context ends, or with --once up to their newest
 // heads.
-func (s *settings) watch(ctx context.Context, out io.Writer, lines *web.Lines) (err error) {
+func (s *settings) watch(ctx context.Context, out io.Writer, lines *httpserver.Lines) (err error) {
 	outputs, closeOutputs, err := s.outputs.open(out, s.logs.contact)
 	if err != nil {
 		return err

@@ -6,7 +6,7 @@ import (
 	"net/netip"
 	"sync"
 
-	"wagtenib/internal/web"
+	"wagtenib/internal/httpserver"
 )
 
 // maxOfAddress is how many connections one address has at once, an eighth of all: one host must not keep a witness from
@@ -107,4 +107,4 @@ func (c *counted) Close() error {
 }
 
 // logOf returns a logger for net/http that writes log lines.
-func logOf(lines *web.Lines) *stdlog.Logger { return stdlog.New(lines, "", 0) }
+func logOf(lines *httpserver.Lines) *stdlog.Logger { return stdlog.New(lines, "", 0) }

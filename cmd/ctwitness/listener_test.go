@@ -17,9 +17,9 @@ import (
 	"testing"
 	"time"
 
+	"wagtenib/internal/httpserver"
 	"wagtenib/internal/stores"
 	"wagtenib/internal/testutil"
-	"wagtenib/internal/web"
 )
 
 // listening returns a connection each time that it is asked, or fails.
@@ -106,7 +106,7 @@ func TestOneHost(t *testing.T) {
 	clients, err := clientsAt("127.0.0.1:0")
 	must(t, err)
 	server := serverOf(http.HandlerFunc(func(w http.ResponseWriter, r *http.Request) { io.WriteString(w, "answered") }),
-		web.NewLines(io.Discard))
+		httpserver.NewLines(io.Discard))
 	go server.Serve(clients)
 	defer server.Close()
 	from := func(host byte) net.Conn {
@@ -172,7 +172,7 @@ func TestClientsAt(t *testing.T) {
 func TestListenerThatFails(t *testing.T) {
 	fails, failed := errors.New("no connection comes any more"), make(chan error, 1)
 	failed <- fails
-	if err := (&running{}).wait(&settings{}, web.NewLines(io.Discard), nil, failed); !errors.Is(err, fails) {
+	if err := (&running{}).wait(&settings{}, httpserver.NewLines(io.Discard), nil, failed); !errors.Is(err, fails) {
 		t.Error(err)
 	}
 }
@@ -194,7 +194,7 @@ func TestOpenedOnce(t *testing.T) {
 	p, _ := ofOneLog(t)
 	s, err := parse(p.words(), io.Discard)
 	must(t, err)
-	w, err := open(s, web.NewLines(io.Discard))
+	w, err := open(s, httpserver.NewLines(io.Discard))
 	must(t, err)
 	must(t, w.takeUp(s))
 	of, found := s.log("a.example")
@@ -220,7 +220,7 @@ func TestRemovedLogIsClosed(t *testing.T) {
 	p, _ := ofOneLog(t)
 	s, err := parse(p.words(), io.Discard)
 	must(t, err)
-	w, err := open(s, web.NewLines(io.Discard))
+	w, err := open(s, httpserver.NewLines(io.Discard))
 	must(t, err)
 	must(t, w.takeUp(s))
 	removed := &closing{Register: w.registers["a.example"]}
@@ -256,11 +256,11 @@ func TestOpenWithin(t *testing.T) {
 	p, _ := ofOneLog(t)
 	s, err := parse(p.words("--open-timeout", "10ms", "--create", "a.example"), io.Discard)
 	must(t, err)
-	w, err := open(s, web.NewLines(io.Discard))
+	w, err := open(s, httpserver.NewLines(io.Discard))
 	must(t, err)
 	w.registers["a.example"] = standing{}
 	for what, opens := range map[string]func() error{"takes up": func() error { return w.takeUp(s) },
-		"makes": func() error { return w.create(s, web.NewLines(io.Discard)) }} {
+		"makes": func() error { return w.create(s, httpserver.NewLines(io.Discard)) }} {
 		if err := opens(); !errors.Is(err, context.DeadlineExceeded) {
 			t.Errorf("it %s: %v", what, err)
 		}
@@ -270,7 +270,7 @@ func TestOpenWithin(t *testing.T) {
 // TestServerOf: each part of a request has a timeout, and its headers have a bound. What net/http logs is a log line.
 func TestServerOf(t *testing.T) {
 	var told strings.Builder
-	s := serverOf(http.NotFoundHandler(), web.NewLines(&told))
+	s := serverOf(http.NotFoundHandler(), httpserver.NewLines(&told))
 	if s.ErrorLog.Print("a handler that fails"); !strings.Contains(told.String(), "a handler that fails") {
 		t.Errorf("%q is told", told.String())
 	}
@@ -335,7 +335,7 @@ func (p place) startedOver(more ...string) (*process, *held) {
 	must(p.t, err)
 	of := &held{asked: make(chan struct{}), may: make(chan struct{})}
 	one := p.runs(func(to io.Writer, signals chan os.Signal) int {
-		lines := web.NewLines(to)
+		lines := httpserver.NewLines(to)
 		w, err := open(s, lines)
 		must(p.t, err)
 		defer w.close()

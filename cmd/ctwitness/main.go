@@ -17,10 +17,10 @@ import (
 	"syscall"
 	"time"
 
+	"wagtenib/internal/httpserver"
 	"wagtenib/internal/settingsfile"
 	"wagtenib/internal/stores"
 	"wagtenib/internal/version"
-	"wagtenib/internal/web"
 	"wagtenib/internal/witness"
 )
 
@@ -54,7 +54,7 @@ func run(words []string, out, to io.Writer, signals <-chan os.Signal) int {
 	if status, ends := settingsfile.Ends(err, to); ends {
 		return status
 	}
-	lines := web.NewLines(to)
+	lines := httpserver.NewLines(to)
 	w, err := open(s, lines)
 	if err == nil {
 		defer w.close()
@@ -72,7 +72,7 @@ func run(words []string, out, to io.Writer, signals <-chan os.Signal) int {
 }
 
 // statusOf reports the end, and returns its status.
-func statusOf(err error, lines *web.Lines) int {
+func statusOf(err error, lines *httpserver.Lines) int {
 	if err != nil {
 		lines.Error("end", "fault", err)
 		if errors.Is(err, witness.ErrState) {
@@ -90,7 +90,7 @@ type running struct {
 	registers map[string]stores.Register
 }
 
-func open(s *settings, lines *web.Lines) (*running, error) {
+func open(s *settings, lines *httpserver.Lines) (*running, error) {
 	key, err := readKey(s.key)
 	if err != nil {
 		return nil, err
@@ -127,7 +127,7 @@ func (w *running) log(ctx context.Context, s *settings, of logSetting) (witness.
 }
 
 // create makes the states of the logs that were named: of logs of which this witness never cosigned anything.
-func (w *running) create(s *settings, lines *web.Lines) error {
+func (w *running) create(s *settings, lines *httpserver.Lines) error {
 	ctx, cancel := context.WithTimeout(context.Background(), s.openWithin)
 	defer cancel()
 	for _, origin := range s.create {
@@ -178,7 +178,7 @@ func (w *running) closeOthers(s *settings) {
 	}
 }
 
-func (w *running) serve(s *settings, lines *web.Lines, signals <-chan os.Signal) error {
+func (w *running) serve(s *settings, lines *httpserver.Lines, signals <-chan os.Signal) error {
 	if err := w.takeUp(s); err != nil {
 		return err
 	}
@@ -221,7 +221,7 @@ func (w *running) serve(s *settings, lines *web.Lines, signals <-chan os.Signal)
 }
 
 // wait waits for a signal that ends the witness, and reloads the logs at SIGHUP.
-func (w *running) wait(s *settings, lines *web.Lines, signals <-chan os.Signal, failed <-chan error) error {
+func (w *running) wait(s *settings, lines *httpserver.Lines, signals <-chan os.Signal, failed <-chan error) error {
 	for {
 		select {
 		case err := <-failed:
@@ -245,7 +245,7 @@ func (w *running) wait(s *settings, lines *web.Lines, signals <-chan os.Signal, 
 	}
 }
 
-func serverOf(handler http.Handler, lines *web.Lines) *http.Server {
+func serverOf(handler http.Handler, lines *httpserver.Lines) *http.Server {
 	return &http.Server{
 		Handler: handler, ReadHeaderTimeout: 10 * time.Second, ReadTimeout: 20 * time.Second, WriteTimeout: time.Minute,
 		IdleTimeout: time.Minute, MaxHeaderBytes: maxHeader, ErrorLog: logOf(lines),

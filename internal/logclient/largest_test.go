@@ -9,7 +9,7 @@ import (
 	"wagtenib/bindings/go/wagtenib"
 	"wagtenib/internal/chains"
 	"wagtenib/internal/logclient"
-	"wagtenib/internal/serve"
+	"wagtenib/internal/logservice"
 )
 
 // TestReadsTheLargestDataTile reads a full data tile of which each entry has as many bytes as a log of ctserve takes, and
@@ -18,8 +18,8 @@ func TestReadsTheLargestDataTile(t *testing.T) {
 	var largest []byte
 	for index := range uint64(logclient.TileWidth) {
 		largest = binary.BigEndian.AppendUint64(largest, 1_800_000_000_000+index)
-		largest = append(largest, 0, 0, byte(serve.MaxEntry>>16), byte(serve.MaxEntry>>8&0xff), byte(serve.MaxEntry&0xff))
-		largest = append(largest, bytes.Repeat([]byte{byte(index)}, serve.MaxEntry)...)
+		largest = append(largest, 0, 0, byte(logservice.MaxEntry>>16), byte(logservice.MaxEntry>>8&0xff), byte(logservice.MaxEntry&0xff))
+		largest = append(largest, bytes.Repeat([]byte{byte(index)}, logservice.MaxEntry)...)
 		// The extension leaf_index (C2SP static-ct-api).
 		largest = append(largest, 0, 8, 0, 0, 5)
 		largest = append(largest, binary.BigEndian.AppendUint64(nil, index)[3:]...)

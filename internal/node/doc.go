@@ -1,5 +1,5 @@
 // Package node is one node of a log: a plain loop in one goroutine, over small interfaces, with the proved decisions in
-// between. Package serve serves a log out of it.
+// between. Package logservice serves a log out of it.
 //
 // A step goes in this order, which keeps a log one list of entries, whichever node dies at whichever call. The proved
 // decider says the order (docs/NODE.md); the loop carries it out.

@@ -1,0 +1,74 @@
+package httpserver
+
+import (
+	"context"
+	"errors"
+	"net/http"
+	"net/netip"
+
+	"wagtenib/internal/logapi"
+)
+
+// Forwarder forwards submissions to the node of the log that makes the steps.
+type Forwarder interface {
+	// Forward forwards a client's request with this body, and reports whether it was answered. If not, nothing was
+	// written. An error says that the other node does not answer, so this one must take the submission itself.
+	Forward(w http.ResponseWriter, r *http.Request, client netip.Addr, body []byte) (isAnswered bool, err error)
+}
+
+// maxForwards is how often a submission is forwarded, or taken here, while the nodes change which of them makes the
+// steps.
+const maxForwards = 3
+
+// submit has a submission taken, by this node or by another one, and answered.
+func (f *Front) submit(ctx context.Context, w http.ResponseWriter, r *http.Request, client netip.Addr, entry logapi.Entry,
+	body []byte) error {
+	for tries := 0; ; tries++ {
+		if f.options.Forward == nil || tries == maxForwards {
+			ctx = logapi.Forwarded(ctx)
+		}
+		if !logapi.IsForwarded(ctx) {
+			isAnswered, err := f.options.Forward.Forward(w, r.WithContext(ctx), client, body)
+			if isAnswered {
+				return nil
+			}
+			if ctx.Err() != nil {
+				return ctx.Err()
+			}
+			if err != nil {
+				ctx = logapi.Forwarded(ctx)
+			}
+		}
+		place, err := f.log.Submit(ctx, entry)
+		if errors.Is(err, logapi.ErrElsewhere) && tries < maxForwards {
+			continue
+		}
+		if err != nil {
+			return err
+		}
+		w.Header().Set("Cache-Control", "no-store")
+		writeJSON(w, http.StatusOK, timestampOf(place))
+		return nil
+	}
+}
+
+// nodeKey is in the context of a request that another node forwarded. Its client was counted there.
+type nodeKey struct{}
+
+// Nodes returns the handler of the submissions that other nodes forward. They are never forwarded again. Its listener
+// must let nobody in except the nodes of the log.
+func (f *Front) Nodes() http.Handler {
+	return http.HandlerFunc(func(w http.ResponseWriter, r *http.Request) {
+		if callOf(r).costs != aSubmission {
+			http.Error(w, "this address is for submissions that other nodes forward", http.StatusNotFound)
+			return
+		}
+		ctx := context.WithValue(logapi.Forwarded(r.Context()), nodeKey{}, true)
+		f.ServeHTTP(w, r.WithContext(ctx))
+	})
+}
+
+// isUncounted reports whether a request counts as no client's: an operator's, or one that another node forwarded.
+func isUncounted(ctx context.Context) bool {
+	return ctx.Value(operatorKey{}) != nil || ctx.Value(nodeKey{}) != nil
+}

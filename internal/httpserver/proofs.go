@@ -1,0 +1,251 @@
+package httpserver
+
+import (
+	"context"
+	"crypto/sha256"
+	"encoding/base64"
+	"errors"
+	"fmt"
+	"net/http"
+	"net/url"
+
+	"wagtenib/bindings/go/wagtenib"
+	"wagtenib/internal/logapi"
+	"wagtenib/internal/stores"
+	"wagtenib/internal/tile"
+)
+
+// noSuchLeaf: a hash is that of no leaf of the tree.
+var noSuchLeaf = refusal{status: http.StatusNotFound, name: "no-such-leaf"}
+
+// getSTHConsistency answers the consistency proof between two trees of the log (RFC 6962, section 4.4).
+func (f *Front) getSTHConsistency(w http.ResponseWriter, r *http.Request) error {
+	_, numbers, err := numbersOf(r, "first", "second")
+	if err != nil {
+		return err
+	}
+	first, second := numbers[0], numbers[1]
+	if first > second {
+		return badParameter("first is after second")
+	}
+	var proof [][32]byte
+	err = f.underHead(r, second, func(ctx context.Context, head logapi.Head) error {
+		if first == 0 || first == second {
+			return nil
+		}
+		one, err := f.rootAt(ctx, head, first)
+		if err != nil {
+			return err
+		}
+		two, err := f.rootAt(ctx, head, second)
+		if err != nil {
+			return err
+		}
+		if proof, err = f.reader.Proof(ctx, first, second, head.TreeSize); err != nil {
+			return err
+		}
+		return tile.CheckProof(proof, second, two, first, one)
+	})
+	return answerProof(w, err, struct {
+		Consistency [][]byte `json:"consistency"`
+	}{hashesOf(proof)})
+}
+
+// getProofByHash answers with the index of the leaf with a hash, and its audit path (RFC 6962, section 4.5).
+func (f *Front) getProofByHash(w http.ResponseWriter, r *http.Request) error {
+	query, numbers, err := numbersOf(r, "tree_size")
+	if err != nil {
+		return err
+	}
+	text, err := textOf(query, "hash")
+	if err != nil {
+		return err
+	}
+	var leaf [32]byte
+	if hash, err := base64.StdEncoding.Strict().DecodeString(text); err != nil || copy(leaf[:], hash) != len(hash) ||
+		len(hash) != len(leaf) {
+		return badParameter("hash is 32 bytes in base64")
+	}
+	size, index := numbers[0], uint64(0)
+	var path [][32]byte
+	err = f.underHead(r, size, func(ctx context.Context, head logapi.Head) error {
+		if index, err = f.log.IndexOf(ctx, leaf); errors.Is(err, stores.ErrAbsent) {
+			return noSuchLeaf
+		}
+		if err != nil {
+			return err
+		}
+		if index >= size {
+			return noSuchLeaf
+		}
+		// If the index is wrong, the path is wrong too. The tile shows whether it is.
+		if there, err := f.leafAt(ctx, head, index); err != nil || there != leaf {
+			return orElse(err, noSuchLeaf)
+		}
+		path, err = f.path(ctx, head, index, size, leaf)
+		return err
+	})
+	return answerProof(w, err, struct {
+		Index uint64   `json:"leaf_index"`
+		Path  [][]byte `json:"audit_path"`
+	}{index, hashesOf(path)})
+}
+
+// getEntryAndProof answers an entry and its audit path (RFC 6962, section 4.8).
+func (f *Front) getEntryAndProof(w http.ResponseWriter, r *http.Request) error {
+	_, numbers, err := numbersOf(r, "leaf_index", "tree_size")
+	if err != nil {
+		return err
+	}
+	index, size := numbers[0], numbers[1]
+	if index >= size {
+		return badParameter("leaf_index is not below tree_size")
+	}
+	var entry entryOf
+	var path [][32]byte
+	err = f.underHead(r, size, func(ctx context.Context, head logapi.Head) error {
+		entries, err := f.entries(ctx, index, index)
+		if err != nil {
+			return err
+		}
+		entry = entries[0]
+		path, err = f.path(ctx, head, index, size, sha256.Sum256(append([]byte{0}, entry.LeafInput...)))
+		return err
+	})
+	return answerProof(w, err, struct {
+		entryOf
+		Path [][]byte `json:"audit_path"`
+	}{entry, hashesOf(path)})
+}
+
+// numbersOf reads numbers out of a query.
+func numbersOf(r *http.Request, names ...string) (query url.Values, numbers []uint64, err error) {
+	if query, err = url.ParseQuery(r.URL.RawQuery); err != nil {
+		return nil, nil, badParameter("the query cannot be parsed")
+	}
+	for _, name := range names {
+		value, err := parameter(query, name)
+		if err != nil {
+			return nil, nil, err
+		}
+		numbers = append(numbers, value)
+	}
+	return query, numbers, nil
+}
+
+// underHead makes a proof of the tiles of a head that has at least size leaves. A partial tile may be deleted in
+// between, after the full tile was stored. Then underHead makes the proof again.
+func (f *Front) underHead(r *http.Request, size uint64, ask func(context.Context, logapi.Head) error) error {
+	client := f.clientOf(r)
+	if !f.uses.proofsOf.take(client) {
+		return tooMany
+	}
+	defer f.uses.proofsOf.give(client)
+	ctx, cancel := f.reading(r)
+	defer cancel()
+	for again := false; ; again = true {
+		head, err := f.headOf(ctx, size, again)
+		if err != nil {
+			return err
+		}
+		if size > head.TreeSize {
+			return badParameter(fmt.Sprintf("the log has %d entries", head.TreeSize))
+		}
+		if err = ask(ctx, head); err == nil || again || !errors.Is(err, stores.ErrAbsent) {
+			return faultOf(err)
+		}
+	}
+}
+
+// headOf returns a head of this size if there is one. It is a known head or the newest one.
+func (f *Front) headOf(ctx context.Context, entries uint64, newest bool) (logapi.Head, error) {
+	if newest {
+		return f.log.Checkpoint(ctx)
+	}
+	return f.log.HeadOf(ctx, entries)
+}
+
+// faultOf says of what proofs fail by whose it is.
+func faultOf(err error) error {
+	var known refusal
+	switch {
+	case err == nil, errors.As(err, &known), errors.Is(err, context.DeadlineExceeded), errors.Is(err, context.Canceled),
+		errors.Is(err, logapi.ErrStore), errors.Is(err, logapi.ErrBusy):
+		return err
+	case errors.Is(err, tile.ErrBusy), errors.Is(err, wagtenib.ErrMemory):
+		return fmt.Errorf("%w: %v", logapi.ErrBusy, err)
+	}
+	return fmt.Errorf("%w: %v", logapi.ErrStore, err)
+}
+
+func orElse(err, other error) error {
+	if err != nil {
+		return err
+	}
+	return other
+}
+
+// rootAt returns the root of the first size leaves, at least one. The head's tiles must have a tree with the head's
+// root.
+func (f *Front) rootAt(ctx context.Context, head logapi.Head, size uint64) ([32]byte, error) {
+	if size == head.TreeSize {
+		return head.RootHash, nil
+	}
+	root, err := f.reader.Root(ctx, size, head.TreeSize)
+	if err != nil {
+		return root, err
+	}
+	proof, err := f.reader.Proof(ctx, size, head.TreeSize, head.TreeSize)
+	if err != nil {
+		return root, err
+	}
+	return root, tile.CheckProof(proof, head.TreeSize, head.RootHash, size, root)
+}
+
+// path is the audit path from a leaf's hash to the root of the first size leaves.
+func (f *Front) path(ctx context.Context, head logapi.Head, index, size uint64, leaf [32]byte) ([][32]byte, error) {
+	root, err := f.rootAt(ctx, head, size)
+	if err != nil {
+		return nil, err
+	}
+	path, err := f.reader.Path(ctx, index, size, head.TreeSize)
+	if err != nil {
+		return nil, err
+	}
+	return path, tile.CheckPath(path, size, root, index, leaf)
+}
+
+// leafAt is the hash of a leaf as its tile has it.
+func (f *Front) leafAt(ctx context.Context, head logapi.Head, index uint64) (leaf [32]byte, err error) {
+	name := tileName{index: index / fullWidth, width: fullWidth}
+	if first := name.index * fullWidth; head.TreeSize-first < fullWidth {
+		name.width = head.TreeSize - first
+	}
+	content, err := f.read(ctx, name.String())
+	if err != nil {
+		return leaf, err
+	}
+	if uint64(len(content)) != 32*name.width {
+		return leaf, fmt.Errorf("%w: %s has %d bytes", logapi.ErrStore, name, len(content))
+	}
+	copy(leaf[:], content[32*(index%fullWidth):])
+	return leaf, nil
+}
+
+func hashesOf(proof [][32]byte) [][]byte {
+	hashes := make([][]byte, 0, len(proof))
+	for i := range proof {
+		hashes = append(hashes, proof[i][:])
+	}
+	return hashes
+}
+
+// answerProof answers what stays so for ever.
+func answerProof(w http.ResponseWriter, err error, value any) error {
+	if err != nil {
+		return err
+	}
+	w.Header().Set("Cache-Control", forEver)
+	writeJSON(w, http.StatusOK, value)
+	return nil
+}

@@ -1,0 +1,117 @@
+package httpserver
+
+import (
+	"context"
+	"encoding/json"
+	"errors"
+	"fmt"
+	"net/http"
+	"strconv"
+	"strings"
+
+	"wagtenib/bindings/go/wagtenib"
+	"wagtenib/internal/chains"
+	"wagtenib/internal/logapi"
+	"wagtenib/internal/stores"
+)
+
+// refusal is an answer that isn't what was asked for: a status, a name, and more in words.
+type refusal struct {
+	status int
+	name   string
+	detail string
+	// after is in how many seconds to ask again; 0 says nothing of it.
+	after int
+	// closes ends the connection, since what follows on it may be no request.
+	closes bool
+	// why is logged for the operator, and not sent to the client.
+	why error
+}
+
+func (r refusal) Error() string { return fmt.Sprintf("%d %s", r.status, r.name) }
+
+// refusalOf makes a refusal of an error of the log, of the checker or of this package.
+func refusalOf(err error) refusal {
+	var known refusal
+	if errors.As(err, &known) {
+		return known
+	}
+	if name := chains.RefusalOf(err); name != "" {
+		return refusal{status: http.StatusBadRequest, name: string(name),
+			detail: strings.TrimPrefix(err.Error(), string(name)+": ")}
+	}
+	r := refusal{status: http.StatusServiceUnavailable, why: err}
+	switch {
+	case errors.Is(err, logapi.ErrBusy), errors.Is(err, wagtenib.ErrMemory):
+		r.name, r.after = "busy", 1
+	case errors.Is(err, logapi.ErrTooLarge):
+		r.status, r.name = http.StatusBadRequest, "entry-too-large"
+		// (the log says how many bytes an entry may have)
+		if _, sizes, hasSizes := strings.Cut(err.Error(), logapi.ErrTooLarge.Error()+": "); hasSizes {
+			r.detail = sizes
+		}
+	case errors.Is(err, logapi.ErrEnded):
+		r.name, r.after = "ended", 10
+	case errors.Is(err, logapi.ErrClock):
+		r.name, r.after = "clock", 10
+	case errors.Is(err, logapi.ErrStore):
+		r.name, r.after = "store", 5
+	case errors.Is(err, context.DeadlineExceeded):
+		r.name, r.after = "late", 5
+	case errors.Is(err, stores.ErrAbsent):
+		r.status, r.name = http.StatusNotFound, "absent"
+	case errors.Is(err, stores.ErrName):
+		r.status, r.name = http.StatusNotFound, "no-such-path"
+	default:
+		r.status, r.name = http.StatusInternalServerError, "internal"
+	}
+	return r
+}
+
+// statusGone is what is counted where a client goes before it is answered: no fault of the log, and nobody gets it.
+const statusGone = 499
+
+// gone is of a client that doesn't wait any more, by whatever of the log's side its request failed then.
+var gone = refusal{status: statusGone, name: "gone"}
+
+// refuse answers with a refusal if nothing was written yet.
+func (f *Front) refuse(a *answer, r refusal) {
+	a.refusal, a.detail = r.name, r.detail
+	if r.why != nil {
+		a.detail = r.why.Error()
+	}
+	if a.status != 0 {
+		return
+	}
+	header := a.Header()
+	for _, name := range []string{"ETag", "Content-Length", "Content-Encoding", "Vary", "Content-Security-Policy"} {
+		header.Del(name)
+	}
+	header.Set("Cache-Control", "no-store")
+	if r.after > 0 {
+		header.Set("Retry-After", strconv.Itoa(r.after))
+	}
+	if r.closes {
+		header.Set("Connection", "close")
+	}
+	writeJSON(a, r.status, struct {
+		Message string `json:"error_message"`
+		Detail  string `json:"detail,omitempty"`
+	}{r.name, r.detail})
+}
+
+// writeJSON answers with a value. A write that fails concerns only the client.
+func writeJSON(w http.ResponseWriter, status int, value any) {
+	text, err := json.Marshal(value)
+	if err != nil {
+		panic(err)
+	}
+	write(w, status, "application/json", append(text, '\n'))
+}
+
+func write(w http.ResponseWriter, status int, kind string, content []byte) {
+	w.Header().Set("Content-Type", kind)
+	w.Header().Set("Content-Length", strconv.Itoa(len(content)))
+	w.WriteHeader(status)
+	w.Write(content)
+}

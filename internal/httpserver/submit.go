@@ -1,0 +1,151 @@
+package httpserver
+
+import (
+	"context"
+	"encoding/json"
+	"errors"
+	"io"
+	"net/http"
+	"net/netip"
+	"slices"
+
+	"wagtenib/internal/chains"
+	"wagtenib/internal/logapi"
+)
+
+// signedTimestamp is the answer to a submission (RFC 6962, section 4.1). Bytes are in base64.
+type signedTimestamp struct {
+	Version    int    `json:"sct_version"`
+	ID         []byte `json:"id"`
+	Timestamp  uint64 `json:"timestamp"`
+	Extensions []byte `json:"extensions"`
+	Signature  []byte `json:"signature"`
+}
+
+func (f *Front) addChain(w http.ResponseWriter, r *http.Request) error {
+	return f.add(w, r, f.checker.Certificate)
+}
+
+func (f *Front) addPreChain(w http.ResponseWriter, r *http.Request) error {
+	return f.add(w, r, f.checker.Precertificate)
+}
+
+func (f *Front) add(w http.ResponseWriter, r *http.Request, check func([][]byte) (*chains.Entry, error)) error {
+	if f.ending.Load() {
+		return refusal{status: http.StatusServiceUnavailable, name: "ended", after: 10, closes: true}
+	}
+	if f.options.ReadOnly {
+		return refusal{status: http.StatusForbidden, name: "read-only",
+			detail: "the log takes no more submissions", closes: true}
+	}
+	client := f.clientOf(r)
+	body, taken, err := f.body(r, client)
+	// The entry, which is kept, has fewer bytes than the request. The request's bytes count until the response.
+	defer f.uses.waiting.give(taken)
+	defer f.uses.waitingOf.giveSome(client, int(taken))
+	if err != nil {
+		return err
+	}
+	ctx, cancel := context.WithTimeout(r.Context(), f.limits.Submission)
+	defer cancel()
+	entry, err := f.checked(ctx, body, check)
+	if err != nil {
+		return err
+	}
+	if f.options.Forward == nil || logapi.IsForwarded(ctx) {
+		// (the entry has its own bytes)
+		body = nil
+	}
+	return f.submit(ctx, w, r, client, *entry, body)
+}
+
+func timestampOf(place logapi.Place) signedTimestamp {
+	return signedTimestamp{0, place.LogID[:], place.Timestamp, place.Extensions, place.Signature}
+}
+
+// maxPiece is how many bytes are allocated for a body before they have come.
+const maxPiece = 16 << 10
+
+// body reads a submission, and says how many bytes of the budget it took. A body whose length isn't said is refused: no
+// client of logs sends one.
+func (f *Front) body(r *http.Request, client netip.Addr) (body []byte, taken int64, err error) {
+	if r.ContentLength < 0 {
+		return nil, 0, refusal{status: http.StatusLengthRequired, name: "length-required", closes: true}
+	}
+	if r.ContentLength > MaxBody {
+		return nil, 0, refusal{status: http.StatusRequestEntityTooLarge, name: "body-too-large", closes: true}
+	}
+	if connection, ok := r.Context().Value(openKey{}).(*open); ok {
+		f.uses.connections.isReading(connection, true)
+		defer f.uses.connections.isReading(connection, false)
+	}
+	body = make([]byte, 0, min(r.ContentLength+1, maxPiece))
+	for {
+		if len(body) == cap(body) {
+			body = slices.Grow(body, maxPiece)
+		}
+		n, err := r.Body.Read(body[len(body):cap(body)])
+		if n > 0 {
+			// The received bytes count, and not the announced ones. So a client that sends nothing holds nothing.
+			if !f.uses.waitingOf.takeSome(client, n) {
+				return nil, taken, refusal{status: http.StatusTooManyRequests, name: "too-many-bytes",
+					after: 1, closes: true}
+			}
+			if !f.uses.waiting.take(int64(n)) {
+				f.uses.waitingOf.giveSome(client, n)
+				return nil, taken, refusal{status: http.StatusServiceUnavailable, name: "busy", after: 1, closes: true}
+			}
+			taken += int64(n)
+			body = body[:len(body)+n]
+		}
+		if errors.Is(err, io.EOF) {
+			return body, taken, nil
+		}
+		if err != nil {
+			return nil, taken, refusal{status: http.StatusRequestTimeout, name: "body-broken-off",
+				closes: true, why: err}
+		}
+	}
+}
+
+// checked makes an entry of a submission. Only so many are checked at once.
+func (f *Front) checked(ctx context.Context, body []byte, check func([][]byte) (*chains.Entry,
+	error)) (*chains.Entry, error) {
+	select {
+	case f.uses.checks <- struct{}{}:
+	case <-ctx.Done():
+		return nil, ctx.Err()
+	}
+	defer func() { <-f.uses.checks }()
+	var submission struct {
+		Chain [][]byte `json:"chain"`
+	}
+	if err := json.Unmarshal(body, &submission); err != nil {
+		return nil, refusal{status: http.StatusBadRequest, name: "no-submission",
+			detail: "the body is not a JSON object with the chain as a list of base64 strings"}
+	}
+	return check(submission.Chain)
+}
+
+// encodedRoots is the answer to get-roots for some roots.
+type encodedRoots struct {
+	of   *chains.Roots
+	text []byte
+}
+
+func (f *Front) getRoots(w http.ResponseWriter, r *http.Request) error {
+	roots, encoded := f.checker.Roots(), f.roots.Load()
+	if encoded == nil || encoded.of != roots {
+		text, err := json.Marshal(struct {
+			Certificates [][]byte `json:"certificates"`
+		}{roots.Certificates()})
+		if err != nil {
+			return err
+		}
+		encoded = &encodedRoots{roots, append(text, '\n')}
+		f.roots.Store(encoded)
+	}
+	w.Header().Set("Cache-Control", "public, max-age=60")
+	write(w, http.StatusOK, "application/json", encoded.text)
+	return nil
+}

@@ -1,0 +1,37 @@
+package httpserver
+
+import (
+	"crypto/tls"
+	"fmt"
+	"sync/atomic"
+)
+
+// Certificate is a certificate and key for TLS from two PEM files, which can be reloaded.
+type Certificate struct {
+	certificate, key string
+	pair             atomic.Pointer[tls.Certificate]
+}
+
+// LoadCertificate reads the files.
+func LoadCertificate(certificate, key string) (*Certificate, error) {
+	c := &Certificate{certificate: certificate, key: key}
+	return c, c.Reload()
+}
+
+// Reload reads the files again. After an error the previous ones stay in use.
+func (c *Certificate) Reload() error {
+	pair, err := tls.LoadX509KeyPair(c.certificate, c.key)
+	if err != nil {
+		return fmt.Errorf("web: certificate of TLS: %w", err)
+	}
+	c.pair.Store(&pair)
+	return nil
+}
+
+// Config is one that takes what was read last, and TLS 1.2 or later.
+func (c *Certificate) Config() *tls.Config {
+	return &tls.Config{
+		MinVersion:     tls.VersionTLS12,
+		GetCertificate: func(*tls.ClientHelloInfo) (*tls.Certificate, error) { return c.pair.Load(), nil },
+	}
+}

@@ -1,0 +1,193 @@
+package logservice
+
+import (
+	"errors"
+	"sync"
+	"sync/atomic"
+	"time"
+
+	"wagtenib/internal/decider"
+	"wagtenib/internal/logapi"
+	"wagtenib/internal/node"
+)
+
+// counts counts what the node does, for metrics: a node.Observer.
+type counts struct {
+	events    [node.Events]atomic.Uint64
+	forwarded atomic.Uint64
+	written   atomic.Uint64
+
+	mu     sync.Mutex
+	phases map[string]logapi.Phase
+	// batches says how many submissions steps had.
+	batches logapi.Batches
+	happened
+	wentWell  time.Time
+	witnesses map[string]logapi.Witness
+}
+
+// happened has the repaired objects, the faults, and the failures beside the steps.
+type happened struct{ repairs, faults, failures tally }
+
+// tally counts something, and keeps a description of the last one.
+type tally struct {
+	count uint64
+	last  string
+}
+
+func (t *tally) add(what string) { t.count, t.last = t.count+1, what }
+
+func newCounts() *counts {
+	return &counts{phases: map[string]logapi.Phase{}, wentWell: time.Now(), witnesses: map[string]logapi.Witness{},
+		batches: logapi.Batches{AtMost: map[int]uint64{}}}
+}
+
+// phaseNames are the parts of a step in their order, by the names that metrics have.
+var phaseNames = []string{"take", "look", "step", "stage", "swap", "put", "place", "sign", "answer", "delete"}
+
+// Count is node.Observer's.
+func (c *counts) Count(of node.Event) { c.events[of].Add(1) }
+
+func (c *counts) of(event node.Event) uint64 { return c.events[event].Load() }
+
+// Took is node.Observer's.
+func (c *counts) Took(part string, long time.Duration) {
+	if part == decider.Head {
+		part = "sign"
+	}
+	c.mu.Lock()
+	defer c.mu.Unlock()
+	of := c.phases[part]
+	c.phases[part] = logapi.Phase{Name: part, Count: of.Count + 1, Took: of.Took + long}
+}
+
+// batchBounds are the numbers of submissions by which steps are counted.
+var batchBounds = []int{0, 1, 2, 4, 8, 16, 32, 64, 128, 256, 512, 1024}
+
+// Decided is node.Observer's.
+func (c *counts) Decided(submissions, bytes int) {
+	c.written.Add(uint64(bytes))
+	c.mu.Lock()
+	defer c.mu.Unlock()
+	c.batches.Steps++
+	c.batches.Submissions += uint64(submissions)
+	for _, bound := range batchBounds {
+		if submissions <= bound {
+			c.batches.AtMost[bound]++
+		}
+	}
+}
+
+// Repaired is node.Observer's.
+func (c *counts) Repaired(name string) {
+	c.mu.Lock()
+	defer c.mu.Unlock()
+	c.repairs.add(name)
+}
+
+// Faulted is node.Observer's.
+func (c *counts) Faulted(err error) {
+	c.mu.Lock()
+	defer c.mu.Unlock()
+	c.faults.add(named(err).Error())
+}
+
+// WentWell is node.Observer's.
+func (c *counts) WentWell() {
+	c.mu.Lock()
+	defer c.mu.Unlock()
+	c.wentWell = time.Now()
+}
+
+// failed counts something beside the steps that failed and is done later.
+func (c *counts) failed(err error) {
+	c.mu.Lock()
+	defer c.mu.Unlock()
+	c.failures.add(err.Error())
+}
+
+// Cosigned is node.Observer's. Only whether a witness saw more is kept here: remote counts the rest.
+func (c *counts) Cosigned(name string, err error) {
+	if err == nil || errors.Is(err, node.ErrWitnessAhead) {
+		c.witness(name, func(w *logapi.Witness) {
+			if w.SeenMore = err != nil; w.SeenMore {
+				w.Missed, w.Fault = w.Missed+1, err.Error()
+			}
+		})
+	}
+}
+
+// witness changes what is known of a witness.
+func (c *counts) witness(name string, change func(*logapi.Witness)) {
+	c.mu.Lock()
+	defer c.mu.Unlock()
+	w := c.witnesses[name]
+	w.Name = name
+	change(&w)
+	c.witnesses[name] = w
+}
+
+// into writes what was counted into the figures of a log.
+func (c *counts) into(f *logapi.Figures) {
+	f.LostSwaps, f.Unknown = c.of(node.LostSwap), c.of(node.UnknownSwap)
+	f.Helped, f.Repeats, f.HandedOver, f.Written = c.of(node.ResumedStep), c.of(node.Duplicate), c.forwarded.Load(),
+		c.written.Load()
+	c.mu.Lock()
+	defer c.mu.Unlock()
+	for _, name := range phaseNames {
+		of := c.phases[name]
+		of.Name = name
+		f.Phases = append(f.Phases, of)
+	}
+	f.Steps, f.Batches = c.batches.Steps, logapi.Batches{Steps: c.batches.Steps, Submissions: c.batches.Submissions,
+		AtMost: map[int]uint64{}}
+	for _, bound := range batchBounds {
+		f.Batches.AtMost[bound] = c.batches.AtMost[bound]
+	}
+	f.SinceRound = time.Since(c.wentWell)
+	f.Mended, f.LastMended = c.repairs.count, c.repairs.last
+	f.Faults, f.LastFault = c.faults.count, c.faults.last
+	f.TendFailures, f.TendFailure = c.failures.count, c.failures.last
+}
+
+// Figures is logapi.Log's.
+func (l *Log) Figures() logapi.Figures {
+	f := logapi.Figures{Queue: l.node.Waiting(), MaxQueue: l.config.Pace.MaxQueue}
+	if counted, ok := l.config.Signer.(interface{ Starts() uint64 }); ok {
+		f.SignerStarts = counted.Starts()
+	}
+	if verifying, ok := l.config.Signer.(interface{ WrongSignatures() uint64 }); ok {
+		f.WrongSignatures = verifying.WrongSignatures()
+	}
+	l.counts.into(&f)
+	if head := l.node.Known(); head != nil {
+		f.Entries = head.Size
+		f.HeadAge = time.Duration(l.config.Machine.Of.Now().UnixMilli()-int64(head.Timestamp)) * time.Millisecond
+	}
+	if decided := l.node.Decided(); decided.Size > f.Entries {
+		f.Unpublished = decided.Size - f.Entries
+	}
+	if err := l.node.Fault(); err != nil {
+		f.Fault = named(err).Error()
+	}
+	report := l.janitor.Report()
+	f.Swept, f.SweptHeads, f.SweptBundles, f.Staged, f.Scrubbed = report.Tiles, report.Heads, report.Staged,
+		report.Listed, report.Reread
+	f.SweptTo, f.ReadNext, f.Damaged = report.SweptTo, report.Next, len(report.Damaged)
+	if f.TendFailures += report.Failures; report.Failed != nil {
+		f.TendFailure = report.Failed.Error()
+	}
+	if f.DamagedIssuers, f.Damage = l.issuers.damage(); len(report.Damaged) > 0 {
+		first, found := uint64(0), false
+		for number := range report.Damaged {
+			if !found || number < first {
+				first, found = number, true
+			}
+		}
+		f.Damage = report.Damaged[first].Error()
+	}
+	for _, r := range l.running.remotes {
+		f.Witnesses = append(f.Witnesses, r.standing())
+	}
+	return f
+}

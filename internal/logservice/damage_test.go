@@ -1,0 +1,158 @@
+package logservice_test
+
+import (
+	"bytes"
+	"crypto/sha256"
+	"encoding/hex"
+	"errors"
+	"os"
+	"strings"
+	"testing"
+	"time"
+
+	"wagtenib/internal/logapi"
+	"wagtenib/internal/node"
+	"wagtenib/internal/stores"
+)
+
+// damages are ways in which a file is not what was written.
+var damages = map[string]func(path string) error{
+	"bent": func(path string) error {
+		content, err := os.ReadFile(path)
+		if err != nil {
+			return err
+		}
+		// In the part of a data tile's first entry that is in the tree.
+		content[min(20, len(content)-1)] ^= 1
+		return os.WriteFile(path, content, 0o644)
+	},
+	"cut":     func(path string) error { return os.Truncate(path, 7) },
+	"emptied": func(path string) error { return os.Truncate(path, 0) },
+	"removed": os.Remove,
+}
+
+// A full tile of the published tree that is not the tree's, or is missing, is a fault of the store until it is put
+// back. It counts as damaged, and keeps no other one from being read.
+func TestDamagedTilesAreNotGiven(t *testing.T) {
+	t.Parallel()
+	p, got, ctx := newPlace(t), &answers{}, limited(t)
+	l := started(t, p.config())
+	got.submit(t, l, 0, 600)
+	full := []string{"tile/data/000", "tile/0/000", "tile/data/001", "tile/0/001"}
+	for i, name := range full {
+		for how, damage := range damages {
+			content, err := os.ReadFile(p.object(name))
+			must(t, err)
+			must(t, damage(p.object(name)))
+			_, err = l.Object(ctx, name, stores.MaxObject)
+			wants(t, err, logapi.ErrStore, node.ErrDamaged)
+			if f := l.Figures(); f.Damaged == 0 || i == 0 && !strings.Contains(f.Damage, name) {
+				t.Errorf("%s, %s: %d tiles are damaged, %q", name, how, f.Damaged, f.Damage)
+			}
+			if _, err := l.Object(ctx, full[(i+2)%len(full)], stores.MaxObject); err != nil {
+				t.Errorf("%s is %s, and another one: %v", name, how, err)
+			}
+			must(t, os.WriteFile(p.object(name), content, 0o644))
+			if given, err := l.Object(ctx, name, stores.MaxObject); err != nil || !bytes.Equal(given, content) {
+				t.Errorf("%s after it was %s: %v", name, how, err)
+			}
+		}
+	}
+	for _, name := range []string{"tile/data/002", "tile/0/007", "tile/2/000", "tile/data/000.p/7"} {
+		if _, err := l.Object(ctx, name, stores.MaxObject); !errors.Is(err, stores.ErrAbsent) || errors.Is(err,
+			logapi.ErrStore) {
+			t.Errorf("%s, which the tree does not have: %v", name, err)
+		}
+	}
+	for _, name := range []string{"register", "heads/x", "staging/x", "../key.pem"} {
+		_, err := l.Object(ctx, name, stores.MaxObject)
+		wants(t, err, stores.ErrName)
+	}
+	must(t, os.Remove(p.object("tile/data/002.p/88")))
+	_, err := l.Object(ctx, "tile/data/002.p/88", stores.MaxObject)
+	wants(t, err, logapi.ErrStore)
+}
+
+// A duplicate whose data tile is damaged is refused, and everything else goes on. The janitor sees when the tile is put
+// back.
+func TestDamageOfADuplicate(t *testing.T) {
+	t.Parallel()
+	p, got := newPlace(t), &answers{}
+	config := p.config()
+	config.Keep.Every = 5 * time.Millisecond
+	l := started(t, config)
+	got.submit(t, l, 0, 300)
+	const name = "tile/data/000"
+	content, err := os.ReadFile(p.object(name))
+	must(t, err)
+	must(t, os.Remove(p.object(name)))
+	place, err := l.HeadOf(limited(t), 1)
+	must(t, err)
+	if place.TreeSize != 300 {
+		t.Errorf("%+v", place)
+	}
+	refused := 0
+	for n := range 300 {
+		if _, err := l.Submit(limited(t), entryOf(n)); errors.Is(err, logapi.ErrStore) {
+			refused++
+		} else if err != nil {
+			t.Error(err)
+		}
+	}
+	if refused != 256 {
+		t.Errorf("%d of 256 are refused", refused)
+	}
+	got.submit(t, l, 300, 310)
+	if f := l.Figures(); f.Fault != "" || f.Damaged != 1 || !strings.Contains(f.Damage, name+" is missing") {
+		t.Errorf("%+v", f)
+	}
+	must(t, os.WriteFile(p.object(name), content, 0o644))
+	eventually(t, "it is whole", func() bool { return l.Figures().Damaged == 0 })
+	got.submit(t, l, 0, 256)
+	if leaves := p.right(got); leaves != 310 {
+		t.Errorf("%d entries", leaves)
+	}
+}
+
+// issuerOf returns the name and the content of an issuer of an entry.
+func issuerOf(number int) (name string, content []byte) {
+	content = entryOf(number).Issuers[0]
+	fingerprint := sha256.Sum256(content)
+	return "issuer/" + hex.EncodeToString(fingerprint[:]), content
+}
+
+// A damaged issuer is seen, and is put again with the next submission that has it, or at once by the node that put it.
+func TestIssuers(t *testing.T) {
+	t.Parallel()
+	p, got := newPlace(t), &answers{}
+	l := started(t, p.config())
+	got.submit(t, l, 0, 300)
+	ends(t, l)
+	number := 1000
+	for how, damage := range damages {
+		name, content := issuerOf(number)
+		must(t, damage(p.object(name)))
+		config := p.config()
+		config.Keep.Every, config.Keep.Reread = 5*time.Millisecond, 5*time.Millisecond
+		config.Keep.Tiles = time.Millisecond
+		l := started(t, config)
+		got.submit(t, l, number+1, number+2)
+		eventually(t, how+": it is seen", func() bool {
+			f := l.Figures()
+			return f.DamagedIssuers == 1 && strings.Contains(f.Damage, name)
+		})
+		got.submit(t, l, number, number+1)
+		eventually(t, how+": it is right", func() bool { return l.Figures().DamagedIssuers == 0 })
+		if f := l.Figures(); f.Mended != 1 || f.LastMended != name {
+			t.Errorf("%s: %d objects are made again, the last is %s", how, f.Mended, f.LastMended)
+		}
+		must(t, damage(p.object(name)))
+		eventually(t, how+": it is put again without a submission", func() bool {
+			stored, err := os.ReadFile(p.object(name))
+			return err == nil && bytes.Equal(stored, content)
+		})
+		ends(t, l)
+		number += 5
+	}
+	p.right(got)
+}

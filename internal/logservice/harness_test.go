@@ -1,0 +1,236 @@
+package logservice_test
+
+import (
+	"context"
+	"crypto/ecdsa"
+	"crypto/elliptic"
+	"crypto/rand"
+	"crypto/sha256"
+	"crypto/x509"
+	"encoding/pem"
+	"errors"
+	"fmt"
+	"io/fs"
+	"os"
+	"path/filepath"
+	"strings"
+	"sync"
+	"testing"
+	"time"
+
+	"wagtenib/internal/chains"
+	"wagtenib/internal/check"
+	"wagtenib/internal/logapi"
+	"wagtenib/internal/logservice"
+	"wagtenib/internal/signer"
+	"wagtenib/internal/stores"
+	"wagtenib/internal/testutil"
+)
+
+var must, wants = testutil.Must, testutil.Wants
+
+// limited returns a context that ends with the longest time that a test may take.
+func limited(t testing.TB) context.Context { return testutil.Limited(t, testutil.Longest) }
+
+// place is a folder with a log's key, its stores and what its machine keeps.
+type place struct {
+	t      testing.TB
+	folder string
+	key    *signer.Key
+	index  stores.Index
+}
+
+func newPlace(t testing.TB) *place {
+	t.Helper()
+	p := &place{t: t, folder: t.TempDir()}
+	key, err := ecdsa.GenerateKey(elliptic.P256(), rand.Reader)
+	must(t, err)
+	der, err := x509.MarshalECPrivateKey(key)
+	must(t, err)
+	must(t, os.WriteFile(p.path("key.pem"), pem.EncodeToMemory(&pem.Block{Type: "EC PRIVATE KEY", Bytes: der}), 0o600))
+	p.key, err = signer.OpenKey(p.path("key.pem"))
+	must(t, err)
+	return p
+}
+
+func (p *place) path(name string) string { return filepath.Join(p.folder, name) }
+
+// object is the path of an object.
+func (p *place) object(name string) string { return filepath.Join(p.folder, "objects", name) }
+
+// opened returns the index. It is opened once, for all configurations, since only one can have its folder open. If a
+// test took the folder away, it is opened again.
+func (p *place) opened() stores.Index {
+	p.t.Helper()
+	if _, err := os.Stat(p.path("index")); p.index != nil && err == nil {
+		return p.index
+	}
+	if p.index == nil {
+		p.t.Cleanup(func() { must(p.t, p.index.Close()) })
+	} else {
+		must(p.t, p.index.Close())
+	}
+	var err error
+	p.index, err = stores.IndexAt(limited(p.t), "leveldb:"+p.path("index"))
+	must(p.t, err)
+	return p.index
+}
+
+// config opens the stores, and closes them at the test's end. Its janitor waits for an hour, and the kernel says that
+// its clock is right.
+func (p *place) config() logservice.Config {
+	p.t.Helper()
+	ctx := limited(p.t)
+	config := logservice.Config{
+		Origin: "log.example/tried", Create: true,
+		Pace: logservice.Pace{Interval: 5 * time.Millisecond, Refresh: time.Hour, MaxWritten: 16 << 20,
+			MaxBatch: logservice.MaxBatch, MaxQueue: 4096},
+		Keep: logservice.Keep{Heads: time.Hour, Tiles: 5 * time.Minute, Every: time.Hour, Reread: time.Hour},
+		Machine: logservice.MachineConfig{Files: logservice.Files{LatestHead: p.path("latest-head"), NamedDay: p.path("day")},
+			Clock: logservice.ClockBounds{MaxSkew: 10 * time.Second}, Of: newBent(0)},
+	}
+	objects, err := stores.ObjectsAt(ctx, "folder:"+p.path("objects"))
+	must(p.t, err)
+	lock, err := stores.RegisterAt(ctx, "file:"+p.path("register"))
+	must(p.t, err)
+	p.t.Cleanup(func() { must(p.t, errors.Join(lock.Close(), objects.Close())) })
+	config.Stores = logservice.Stores{Objects: objects, Lock: lock, Index: p.opened()}
+	state, err := stores.OpenFile(p.path("guard"))
+	must(p.t, err)
+	config.Signer, err = signer.NewGuarded(ctx, p.key, signer.Guard{State: state, Create: true})
+	must(p.t, err)
+	return config
+}
+
+// started opens a log, which is ended at the test's end.
+func started(t testing.TB, config logservice.Config) *logservice.Log {
+	t.Helper()
+	l, err := logservice.Open(limited(t), config)
+	must(t, err)
+	t.Cleanup(func() {
+		// A test that ends it itself has looked at the outcome.
+		ctx, cancel := context.WithTimeout(context.Background(), 10*time.Second)
+		defer cancel()
+		if err := l.End(ctx); err != nil {
+			t.Log(err)
+		}
+	})
+	return l
+}
+
+// ends ends a log in order.
+func ends(t testing.TB, l *logservice.Log) {
+	t.Helper()
+	must(t, l.End(limited(t)))
+}
+
+// eventually waits until something is so.
+func eventually(t testing.TB, what string, is func() bool) {
+	t.Helper()
+	for until := time.Now().Add(testutil.Longest); !is(); time.Sleep(time.Millisecond) {
+		if time.Now().After(until) {
+			t.Fatalf("it does not come to be: %s", what)
+		}
+	}
+}
+
+// entryOf returns the entry of a number. Every third one is a precertificate's.
+func entryOf(i int) logapi.Entry {
+	text := []byte(strings.Repeat(fmt.Sprintf("%d;", i), 1+i%40))
+	issuers := [][]byte{[]byte(fmt.Sprint("issuer ", i%5)), []byte("root")}
+	if i%3 == 0 {
+		return logapi.Entry{Type: chains.PrecertEntry, IssuerKeyHash: sha256.Sum256(issuers[0]), TBSCertificate: text,
+			Precertificate: append([]byte("pre"), text...), Issuers: issuers}
+	}
+	return logapi.Entry{Type: chains.X509Entry, Certificate: text, Issuers: issuers}
+}
+
+// answers are what clients got.
+type answers struct {
+	mu  sync.Mutex
+	all []check.Answer
+}
+
+func (a *answers) add(entry logapi.Entry, place logapi.Place) {
+	a.mu.Lock()
+	defer a.mu.Unlock()
+	one := check.Answer{Certificate: entry.Certificate, Timestamp: place.Timestamp, Extensions: place.Extensions,
+		Signature: place.Signature, LogID: place.LogID[:]}
+	if entry.Type == chains.PrecertEntry {
+		one.IssuerKeyHash, one.TBSCertificate = entry.IssuerKeyHash[:], entry.TBSCertificate
+	}
+	a.all = append(a.all, one)
+}
+
+// submit submits the numbers from one up to another, all at once, and each must be answered.
+func (a *answers) submit(t testing.TB, l logapi.Log, from, to int) {
+	t.Helper()
+	ctx := limited(t)
+	failed := make(chan error, to-from)
+	var all sync.WaitGroup
+	for n := from; n < to; n++ {
+		all.Add(1)
+		go func() {
+			defer all.Done()
+			place, err := l.Submit(ctx, entryOf(n))
+			if err != nil {
+				failed <- fmt.Errorf("%d: %w", n, err)
+				return
+			}
+			a.add(entryOf(n), place)
+		}()
+	}
+	all.Wait()
+	if len(failed) > 0 {
+		t.Fatal(<-failed)
+	}
+}
+
+// right has the log's folder judged, with all that was answered, by a judge that shares no code with the node. It
+// returns how many entries there are.
+func (p *place) right(a *answers) int {
+	p.t.Helper()
+	for {
+		report, err := check.Folder(p.path("objects"), p.key.Key(), a.all)
+		if errors.Is(err, fs.ErrNotExist) || errors.Is(err, stores.ErrAbsent) {
+			// The janitor deleted something meanwhile.
+			continue
+		}
+		must(p.t, err)
+		if report.Repeats != 0 {
+			p.t.Fatalf("%d entries are in the log twice", report.Repeats)
+		}
+		return report.Leaves
+	}
+}
+
+// bent is this machine's clock, set ahead by so much. The kernel says that something keeps it right, or that nothing
+// does.
+type bent struct {
+	logservice.Clock
+	mu             sync.Mutex
+	by             time.Duration
+	isSynchronized bool
+}
+
+func newBent(by time.Duration) *bent {
+	return &bent{Clock: logservice.Machine(), by: by, isSynchronized: by == 0}
+}
+
+func (b *bent) set(by time.Duration, isSynchronized bool) {
+	b.mu.Lock()
+	defer b.mu.Unlock()
+	b.by, b.isSynchronized = by, isSynchronized
+}
+
+func (b *bent) Now() time.Time {
+	b.mu.Lock()
+	defer b.mu.Unlock()
+	return b.Clock.Now().Add(b.by)
+}
+
+func (b *bent) Synchronized() (is, known bool) {
+	b.mu.Lock()
+	defer b.mu.Unlock()
+	return b.isSynchronized, true
+}

@@ -1,0 +1,72 @@
+package logservice_test
+
+import (
+	"bytes"
+	"encoding/base64"
+	"os"
+	"path/filepath"
+	"slices"
+	"strings"
+	"testing"
+
+	"wagtenib/internal/logapi"
+	"wagtenib/internal/logservice"
+	"wagtenib/internal/node"
+)
+
+// newestHead returns the path of the head that was put last, and its note.
+func (p *place) newestHead() (path string, note []byte) {
+	p.t.Helper()
+	paths, err := filepath.Glob(p.object("heads/*"))
+	must(p.t, err)
+	path = slices.Max(paths)
+	note, err = os.ReadFile(path)
+	must(p.t, err)
+	return path, note
+}
+
+// withOtherSignature returns a note whose log signature has another last bit, so the key never made it.
+func withOtherSignature(t *testing.T, note []byte) []byte {
+	t.Helper()
+	lines := strings.Split(string(note), "\n")
+	words := strings.Split(lines[4], " ")
+	blob, err := base64.StdEncoding.DecodeString(words[2])
+	must(t, err)
+	blob[len(blob)-1] ^= 1
+	lines[4] = strings.Join([]string{words[0], words[1], base64.StdEncoding.EncodeToString(blob)}, " ")
+	return []byte(strings.Join(lines, "\n"))
+}
+
+// A head in the store that has the size, the time and the root of the lock's state, and a signature that the log's key
+// did not make, is not served. A node that starts does not publish it either.
+func TestHeadWithAnotherSignatureIsNotServed(t *testing.T) {
+	t.Parallel()
+	p, got := newPlace(t), &answers{}
+	l := started(t, p.config())
+	got.submit(t, l, 0, 3)
+	ends(t, l)
+	path, note := p.newestHead()
+	forged := withOtherSignature(t, note)
+	if bytes.Equal(forged, note) {
+		t.Fatal("the note was not changed")
+	}
+	must(t, os.WriteFile(path, forged, 0o644))
+	again, err := logservice.Open(limited(t), p.config())
+	if err == nil {
+		t.Cleanup(func() { ends(t, again) })
+		var head logapi.Head
+		if head, err = again.Checkpoint(limited(t)); err == nil {
+			t.Fatalf("it serves %q", head.Note)
+		}
+	}
+	wants(t, err, node.ErrDamaged)
+	must(t, os.WriteFile(path, note, 0o644))
+	healed := again
+	if healed == nil {
+		healed = started(t, p.config())
+	}
+	eventually(t, "the head of the store is served after it was put back", func() bool {
+		head, err := healed.Checkpoint(limited(t))
+		return err == nil && bytes.Equal(head.Note, note)
+	})
+}

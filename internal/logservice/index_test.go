@@ -1,0 +1,155 @@
+package logservice_test
+
+import (
+	"context"
+	"errors"
+	"fmt"
+	"os"
+	"path/filepath"
+	"strings"
+	"testing"
+
+	"wagtenib/internal/logapi"
+	"wagtenib/internal/logservice"
+	"wagtenib/internal/node"
+	"wagtenib/internal/stores"
+)
+
+// An index of another log is refused by its id, and the log's own one is not.
+func TestIndexByItsID(t *testing.T) {
+	t.Parallel()
+	p, got := newPlace(t), &answers{}
+	l := started(t, p.config())
+	ends(t, l)
+	other := newPlace(t)
+	l = started(t, other.config())
+	ends(t, l)
+	config := p.config()
+	config.Stores.Index = other.config().Stores.Index
+	_, err := logservice.Open(limited(t), config)
+	wants(t, err, node.ErrIndex)
+	if names, err := p.config().Stores.Objects.List(limited(t), "places/", "", stores.MaxListed); err != nil ||
+		len(names) != 1 {
+		t.Errorf("%v %v", names, err)
+	}
+	l = started(t, p.config())
+	got.submit(t, l, 0, 3)
+	ends(t, l)
+	// Two nodes with an index of their own each made a first start at once.
+	must(t, p.config().Stores.Objects.Put(limited(t), "places/00000000000000010000000000000002", []byte("another\n")))
+	_, err = logservice.Open(limited(t), p.config())
+	wants(t, err, node.ErrIndex)
+	if !strings.Contains(err.Error(), "places/00000000000000010000000000000002") || !strings.Contains(err.Error(),
+		"delete") {
+		t.Errorf("%v does not name what must be deleted", err)
+	}
+	wants(t, logservice.RebuildIndex(limited(t), p.config().Stores, func(uint64) {}), node.ErrIndex)
+}
+
+// A lost index is built again from the tiles, the newest entries first, and knows each entry and each leaf.
+func TestRebuildIndex(t *testing.T) {
+	t.Parallel()
+	p, got := newPlace(t), &answers{}
+	l := started(t, p.config())
+	got.submit(t, l, 0, 600)
+	ends(t, l)
+	must(t, os.RemoveAll(p.path("index")))
+	_, err := logservice.Open(limited(t), p.config())
+	wants(t, err, node.ErrIndex)
+	var told []uint64
+	must(t, logservice.RebuildIndex(limited(t), p.config().Stores, func(left uint64) { told = append(told, left) }))
+	if len(told) != 3 || told[0] != 512 || told[1] != 256 || told[2] != 0 {
+		t.Errorf("it tells %v", told)
+	}
+	l = started(t, p.config())
+	got.submit(t, l, 0, 610)
+	if f := l.Figures(); f.Repeats != 600 || f.Entries != 610 {
+		t.Errorf("%+v", f)
+	}
+	for _, n := range []int{0, 300, 599} {
+		place, err := l.Submit(limited(t), entryOf(n))
+		must(t, err)
+		if index, err := l.IndexOf(limited(t), leafHash(entryOf(n), place)); err != nil || index != place.LeafIndex {
+			t.Errorf("%d: %v, %d", n, err, index)
+		}
+	}
+	if leaves := p.right(got); leaves != 610 {
+		t.Errorf("%d entries", leaves)
+	}
+}
+
+// An index is not built from a damaged tile.
+func TestRebuildIndexOfDamagedTiles(t *testing.T) {
+	t.Parallel()
+	p, got := newPlace(t), &answers{}
+	l := started(t, p.config())
+	got.submit(t, l, 0, 300)
+	ends(t, l)
+	must(t, damages["bent"](p.object("tile/data/000")))
+	wants(t, logservice.RebuildIndex(limited(t), p.config().Stores, func(uint64) {}), node.ErrDamaged)
+}
+
+// An index whose rebuild was stopped is completed by the log itself: it knows the newest entries at once, and the first
+// ones after a while.
+func TestLogCompletesIndex(t *testing.T) {
+	t.Parallel()
+	p, got := newPlace(t), &answers{}
+	l := started(t, p.config())
+	got.submit(t, l, 0, 600)
+	places := map[int]logapi.Place{}
+	for _, n := range []int{0, 100, 255, 256, 511, 599} {
+		place, err := l.Submit(limited(t), entryOf(n))
+		must(t, err)
+		places[n] = place
+	}
+	ends(t, l)
+	must(t, os.RemoveAll(p.path("index")))
+	ctx, stop := context.WithCancel(limited(t))
+	wants(t, logservice.RebuildIndex(ctx, p.config().Stores, func(left uint64) {
+		if left == 512 {
+			stop()
+		}
+	}), context.Canceled)
+	l = started(t, p.config())
+	eventually(t, "each leaf is found", func() bool {
+		for n, place := range places {
+			if index, err := l.IndexOf(limited(t), leafHash(entryOf(n), place)); err != nil || index != place.LeafIndex {
+				return false
+			}
+		}
+		return true
+	})
+	got.submit(t, l, 0, 610)
+	if f := l.Figures(); f.Repeats != 600 || f.Entries != 610 {
+		t.Errorf("%+v", f)
+	}
+}
+
+// If the newest state is not published, the index is built from the published head, and the node that starts adds the
+// rest.
+func TestRebuildIndexOfUnpublishedState(t *testing.T) {
+	t.Parallel()
+	p, got := newPlace(t), &answers{}
+	l := started(t, p.config())
+	got.submit(t, l, 0, 3)
+	got.submit(t, l, 3, 5)
+	ends(t, l)
+	newest, _ := p.newestHead()
+	must(t, os.Remove(newest))
+	before, _ := p.newestHead()
+	var size, timestamp uint64
+	if _, err := fmt.Sscanf(filepath.Base(before), "%d-%d", &size, &timestamp); err != nil || size == 0 || size >= 5 {
+		t.Fatalf("%s, %v", before, err)
+	}
+	must(t, os.WriteFile(p.path("register/head"), fmt.Appendf(nil, "%d %d", size, timestamp), 0o644))
+	must(t, errors.Join(os.RemoveAll(p.path("index")), os.Remove(p.path("latest-head"))))
+	must(t, logservice.RebuildIndex(limited(t), p.config().Stores, func(uint64) {}))
+	l = started(t, p.config())
+	got.submit(t, l, 0, 6)
+	if f := l.Figures(); f.Entries != 6 {
+		t.Errorf("%+v", f)
+	}
+	if leaves := p.right(got); leaves != 6 {
+		t.Errorf("%d entries", leaves)
+	}
+}

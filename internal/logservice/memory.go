@@ -1,0 +1,64 @@
+package logservice
+
+import (
+	"context"
+	"encoding/json"
+	"errors"
+	"fmt"
+
+	"wagtenib/internal/node"
+	"wagtenib/internal/signer"
+	"wagtenib/internal/stores"
+)
+
+// memory keeps the newest head that this machine accepted in a file of this machine's own.
+type memory struct {
+	path  string
+	logID [32]byte
+}
+
+// latestHead is what that file has: a tree head by the names of get-sth (RFC 6962, section 4.3), in JSON.
+type latestHead struct {
+	LogID     []byte `json:"log_id"`
+	RootHash  []byte `json:"sha256_root_hash"`
+	Timestamp uint64 `json:"timestamp"`
+	TreeSize  uint64 `json:"tree_size"`
+}
+
+// Load returns the head that the file has, and nil if there is no file.
+func (m memory) Load(context.Context) (*signer.Head, error) {
+	if m.path == "" {
+		return nil, nil
+	}
+	content, err := stores.KeptFile(m.path)
+	if errors.Is(err, stores.ErrAbsent) {
+		return nil, nil
+	}
+	if err != nil {
+		return nil, fmt.Errorf("serve: the latest head: %w", err)
+	}
+	var read latestHead
+	if err := json.Unmarshal(content, &read); err != nil || len(read.RootHash) != 32 || len(read.LogID) != 32 {
+		return nil, fmt.Errorf("%w: %s has no tree head: %.80q", node.ErrDamaged, m.path, content)
+	}
+	if [32]byte(read.LogID) != m.logID {
+		return nil, fmt.Errorf("%w: %s has a head of a log with another key (name another file by --latest-head)",
+			node.ErrConfig, m.path)
+	}
+	return &signer.Head{Size: read.TreeSize, Timestamp: read.Timestamp, Root: [32]byte(read.RootHash)}, nil
+}
+
+// Save replaces the file. It returns after the file is on the disk.
+func (m memory) Save(_ context.Context, head signer.Head) error {
+	if m.path == "" {
+		return nil
+	}
+	content, err := json.Marshal(latestHead{m.logID[:], head.Root[:], head.Timestamp, head.Size})
+	if err != nil {
+		return fmt.Errorf("serve: the latest head: %w", err)
+	}
+	if err := stores.KeepFile(m.path, append(content, '\n')); err != nil {
+		return fmt.Errorf("serve: the latest head: %w", err)
+	}
+	return nil
+}

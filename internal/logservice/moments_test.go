@@ -1,0 +1,153 @@
+package logservice_test
+
+import (
+	"bytes"
+	"context"
+	"crypto/ed25519"
+	"crypto/rand"
+	"errors"
+	"fmt"
+	"io"
+	"net/http"
+	"net/http/httptest"
+	"strings"
+	"sync"
+	"sync/atomic"
+	"testing"
+	"time"
+
+	"golang.org/x/mod/sumdb/note"
+
+	"wagtenib/internal/logservice"
+	"wagtenib/internal/stores"
+	"wagtenib/internal/witness"
+)
+
+// later is this machine's clock after some time has passed at once. Nothing keeps it right.
+type later struct {
+	logservice.Clock
+	by atomic.Int64
+}
+
+func (l *later) Now() time.Time                 { return l.Clock.Now().Add(time.Duration(l.by.Load())) }
+func (l *later) Elapsed() time.Duration         { return l.Clock.Elapsed() + time.Duration(l.by.Load()) }
+func (l *later) Synchronized() (is, known bool) { return false, true }
+
+// A node that runs trusts its clock, also after more than a day without a head: its store may have been away for so
+// long. Only a node that starts asks for another clock then.
+func TestGoesOnAfterADayWithoutHeads(t *testing.T) {
+	t.Parallel()
+	p, got := newPlace(t), &answers{}
+	config := p.config()
+	clock := &later{Clock: logservice.Machine()}
+	// (the guard has the machine's own clock, by which the next head is of the future)
+	config.Machine.Of, config.Signer = clock, p.key
+	l := started(t, config)
+	got.submit(t, l, 0, 3)
+	clock.by.Store(int64(30 * time.Hour))
+	place, err := l.Submit(limited(t), entryOf(5))
+	must(t, err)
+	if at := time.UnixMilli(int64(place.Timestamp)); at.Before(time.Now().Add(29 * time.Hour)) {
+		t.Errorf("the timestamp is %v", at)
+	}
+	if fault := l.Figures().LastFault; fault != "" {
+		t.Error(fault)
+	}
+}
+
+// unread is a lock that can be kept from being read.
+type unread struct {
+	stores.Register
+	is atomic.Bool
+}
+
+var errUnread = errors.New("the lock does not answer")
+
+func (u *unread) Read(ctx context.Context) (string, error) {
+	if u.is.Load() {
+		return "", errUnread
+	}
+	return u.Register.Read(ctx)
+}
+
+// asked is a witness over HTTP, which counts the requests to cosign a signed head again.
+type asked struct {
+	http.Handler
+	mu    sync.Mutex
+	seen  map[string]bool
+	again int
+}
+
+func (a *asked) ServeHTTP(w http.ResponseWriter, r *http.Request) {
+	body, err := io.ReadAll(r.Body)
+	if err == nil {
+		if of, err := witness.ParseRequest(body); err == nil {
+			a.count(string(of.Note))
+		}
+	}
+	r.Body = io.NopCloser(bytes.NewReader(body))
+	a.Handler.ServeHTTP(w, r)
+}
+
+func (a *asked) count(note string) {
+	a.mu.Lock()
+	defer a.mu.Unlock()
+	if a.seen[note] {
+		a.again++
+	}
+	a.seen[note] = true
+}
+
+func (a *asked) times() int {
+	a.mu.Lock()
+	defer a.mu.Unlock()
+	return a.again
+}
+
+// witnessed adds a witness to a configuration.
+func (p *place) witnessed(config *logservice.Config) *asked {
+	p.t.Helper()
+	_, private, err := ed25519.GenerateKey(rand.Reader)
+	must(p.t, err)
+	name := fmt.Sprintf("w%d.example", len(config.Witnesses))
+	s, err := witness.New(witness.Options{Name: name, Key: private})
+	must(p.t, err)
+	state, err := stores.OpenFile(p.path(name))
+	must(p.t, err)
+	p.t.Cleanup(func() { must(p.t, state.Close()) })
+	of := witness.Log{Origin: config.Origin, State: state,
+		Keys: []note.Verifier{witness.OfRFC6962(config.Origin, p.key.Key())}}
+	must(p.t, of.Create(limited(p.t)))
+	s.SetLogs([]witness.Log{of})
+	a := &asked{Handler: s, seen: map[string]bool{}}
+	over := httptest.NewServer(a)
+	p.t.Cleanup(over.Close)
+	one, err := witness.ReadOne(over.URL + "," + s.VerifierKey())
+	must(p.t, err)
+	config.Witnesses, config.Quorums = append(config.Witnesses, one), witness.Quorums{Publish: 1, Start: 1}
+	return a
+}
+
+// A node that could not read the lock does not know what was decided meanwhile. So its witnesses must cosign the newest
+// head again before it takes anything.
+func TestWitnessesAreAskedAgainAfterTheLockWasAway(t *testing.T) {
+	t.Parallel()
+	p, got := newPlace(t), &answers{}
+	config := p.config()
+	w := p.witnessed(&config)
+	lock := &unread{Register: config.Stores.Lock}
+	config.Stores.Lock = lock
+	l := started(t, config)
+	got.submit(t, l, 0, 3)
+	if again := w.times(); again != 0 {
+		t.Fatalf("the first heads are cosigned again %d times", again)
+	}
+	lock.is.Store(true)
+	eventually(t, "the lock is missed", func() bool { return strings.Contains(l.Figures().Fault, errUnread.Error()) })
+	lock.is.Store(false)
+	eventually(t, "the lock is read", func() bool { return l.Figures().Fault == "" })
+	got.submit(t, l, 3, 4)
+	if again := w.times(); again == 0 {
+		t.Error("it takes a submission without having the newest head cosigned again")
+	}
+}

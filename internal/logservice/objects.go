@@ -1,0 +1,94 @@
+package logservice
+
+import (
+	"context"
+	"errors"
+	"fmt"
+	"strings"
+
+	"golang.org/x/mod/sumdb/tlog"
+
+	"wagtenib/internal/logapi"
+	"wagtenib/internal/node"
+	"wagtenib/internal/signer"
+	"wagtenib/internal/stores"
+	"wagtenib/internal/tile"
+)
+
+// Object is logapi.Log's. A full tile is compared each time with the tile above it, which was compared up to the head's
+// root. One that is missing from the newest head's tree, or is not that tree's, is a fault of the store, and counts as
+// damaged. A partial tile is compared if something at the log's edge is damaged.
+func (l *Log) Object(ctx context.Context, name string, most int64) ([]byte, error) {
+	if !strings.HasPrefix(name, tile.Prefix) && !strings.HasPrefix(name, issuersPrefix) {
+		return nil, fmt.Errorf("%w: %.80q is not published", stores.ErrName, name)
+	}
+	content, err := l.stored(ctx, name, most)
+	isMissing := errors.Is(err, stores.ErrAbsent)
+	if err != nil && !isMissing {
+		return nil, err
+	}
+	of, isTile := tile.Parse(name)
+	if !isTile || !isMissing && of.W < tile.Width && !errors.Is(l.node.Fault(), node.ErrDamaged) {
+		return content, err
+	}
+	head, err := l.headWith(ctx, of)
+	switch {
+	case err != nil:
+		return nil, err
+	case tile.WidthIn(of, head.Size) == of.W:
+		return l.compared(ctx, name, head, content, isMissing)
+	case isMissing || of.W == tile.Width:
+		return nil, fmt.Errorf("stores: %s: %w", name, stores.ErrAbsent)
+	}
+	// The tree has a wider tile than this one, or none.
+	return content, nil
+}
+
+// stored reads an object from the store. An error that is not one of the request is a fault of the store.
+func (l *Log) stored(ctx context.Context, name string, most int64) ([]byte, error) {
+	content, err := l.config.Stores.Objects.Get(ctx, name, most)
+	var long stores.TooLong
+	switch {
+	case err == nil, errors.Is(err, stores.ErrAbsent), errors.Is(err, stores.ErrName),
+		errors.As(err, &long) && long.Length <= stores.MaxObject:
+		return content, err
+	}
+	return nil, fault{logapi.ErrStore, err}
+}
+
+// compared returns the content of a tile of a head's tree if it is that tree's. If it is not, or if the tile is
+// missing, that is a fault of the store. The janitor learns of each full tile that is damaged.
+func (l *Log) compared(
+	ctx context.Context, name string, head signer.Head, content []byte, isMissing bool,
+) ([]byte, error) {
+	of, _ := tile.Parse(name)
+	err := fmt.Errorf("%w: %s is missing (put it back from a backup)", tile.ErrDamaged, name)
+	if !isMissing {
+		err = l.comparer.Compare(ctx, head, of, content)
+	}
+	if errors.Is(err, tile.ErrDamaged) && of.W == tile.Width {
+		l.janitor.Note(tile.FirstOf(of), err)
+	}
+	if err != nil {
+		return nil, fault{logapi.ErrStore, err}
+	}
+	return content, nil
+}
+
+// headWith returns the newest published head that this node knows, and if that has not all of a tile, the newest one.
+func (l *Log) headWith(ctx context.Context, of tlog.Tile) (signer.Head, error) {
+	if now := l.node.Known(); now != nil && tile.WidthIn(of, now.Size) >= of.W {
+		return now.Head, nil
+	}
+	head, err := l.Checkpoint(ctx)
+	return signer.Head{Size: head.TreeSize, Timestamp: head.Timestamp, Root: head.RootHash}, err
+}
+
+// read reads an object of the log.
+func (l *Log) read(ctx context.Context, name string) ([]byte, error) {
+	return tile.Stored(func(ctx context.Context, name string) ([]byte, error) {
+		ctx, cancel := context.WithTimeout(ctx, patience)
+		defer cancel()
+		return l.config.Stores.Objects.Get(ctx, name, stores.MaxObject)
+	})(ctx, name)
+}

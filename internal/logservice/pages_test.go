@@ -1,0 +1,109 @@
+package logservice
+
+import (
+	"math"
+	"os"
+	"regexp"
+	"strconv"
+	"testing"
+	"time"
+
+	"wagtenib/internal/chains"
+	"wagtenib/internal/httpserver"
+	"wagtenib/internal/node"
+	"wagtenib/internal/step"
+	"wagtenib/internal/stores"
+	"wagtenib/internal/testutil"
+	"wagtenib/internal/tile"
+)
+
+// defaults are the defaults of ctserve's settings that the pages state.
+const (
+	maxWritten, maxSkew = 16 << 20, 10 * time.Second
+	keepTiles, scrub    = 5 * time.Minute, time.Second
+)
+
+// The bounds that docs/SERVICE.md and docs/OPERATING.md state of a node are those of this package.
+func TestPageSaysBounds(t *testing.T) {
+	t.Parallel()
+	week := 7 * 24 * time.Hour
+	// 16 is the maximum number of tiles that one pass of the janitor reads again.
+	const again = 16
+	testutil.Says(t, testutil.Page(t, "../../docs/SERVICE.md"), map[string]bool{
+		"no more than 16 MiB a second are written (`max-write-rate`)":                           maxWritten == 16<<20,
+		"| a partial tile | five minutes after its full tile came, if the full tile is whole |": keepTiles == 5*time.Minute,
+		"| a tree head less than five seconds after another one that stays | " +
+			"ten seconds after a later head came |": thinAfter == 10*time.Second && thinApart == 5*time.Second,
+		"does not answer within ten seconds, or answers with 500 or " +
+			"more, and for two seconds after that": forwardWithin == 10*time.Second && awayFor == 2*time.Second,
+		"half as long as the step took, at most 25 ms":    node.MaxBack == 25*time.Millisecond,
+		"- The tiles of 32 duplicates are read at once.":  maxLookups == 32,
+		"- an entry above 128 KiB.":                       MaxEntry == 128<<10,
+		"Waiting clients get an error after five seconds": patience == 5*time.Second,
+		"If too few witnesses answer (5 s each)":          cosignWithin == 5*time.Second,
+		"one data tile a second is enough for 1.5 x 10^8 entries, and " +
+			"16 (the maximum) for 2.5 x 10^9": scrub == time.Second && week/time.Second*tile.Width/1e7 == 15 &&
+			week/time.Second*tile.Width*again/1e8 == 24,
+	})
+	// 255 of the largest entries and a step's new ones, with what a tile and a line have beside them, and a tile of the
+	// largest.
+	const beside = 10 + 32 + 2*3 + 2 + 8 + 2 + 32*chains.MaxCertificates
+	largest, answers := int64(tile.Width*(MaxEntry+beside)), httpserver.DefaultLimits().AnswerBytes
+	ofOne := max(answers/8, stores.MaxObject+1<<20)
+	// Half of what is written are partial tiles, and these stay for as long again as they have to.
+	partials := float64(maxWritten) / 2 * 2 * keepTiles.Seconds()
+	testutil.Says(t, testutil.Page(t, "../../docs/SERVICE.md"), map[string]bool{
+		"An entry has at most 128 KiB because a step holds 255 of them, in the partial data tile, beside 12 MiB of " +
+			"new ones": MaxEntry == 128<<10 && tile.Width-1 == 255 && MaxBatchBytes == 12<<20,
+		"So a data tile has at most 34 MB. Answers hold at most 15 of " +
+			"these at once, and two for one address": math.Round(float64(largest)/1e6) == 34 && largest < stores.MaxObject &&
+			answers/largest == 15 && ofOne/largest == 2,
+		"which stay for five to ten minutes until they are deleted: up to 5 GB": partials >= 5e9 && partials < 5.1e9,
+		"| the tree | 2^40 entries: `full` |":                                   step.MaxLeaves == 1<<40,
+	})
+	testutil.Says(t, testutil.Page(t, "../../docs/OPERATING.md"), map[string]bool{
+		"(the last name in FOLDER/objects/heads is SIZE-TIMESTAMP)": true,
+		"Partial tiles take up to 5 GB at `max-write-rate` (16 MiB a second)": maxWritten == 16<<20 &&
+			partials >= 5e9 && partials < 5.1e9,
+		"off by more than `max-clock-skew` (10 s), either way": maxSkew == 10*time.Second,
+	})
+}
+
+// alertAt returns the number above which, or below which, an alert fires, as release/prometheus/ctserve.rules.yml has it.
+func alertAt(t *testing.T, expression string) float64 {
+	t.Helper()
+	rules, err := os.ReadFile("../../release/prometheus/ctserve.rules.yml")
+	testutil.Must(t, err)
+	found := regexp.MustCompile(`(?m)^    expr: ` + expression + ` (-?\d+)(?: \* (\d+))?$`).FindSubmatch(rules)
+	if found == nil {
+		t.Fatalf("no alert has %s and a number", expression)
+	}
+	number, err := strconv.ParseFloat(string(found[1]), 64)
+	testutil.Must(t, err)
+	if len(found[2]) > 0 {
+		times, err := strconv.ParseFloat(string(found[2]), 64)
+		testutil.Must(t, err)
+		number *= times
+	}
+	return number
+}
+
+// An alert fires after what a log does by itself, and before what it refuses anyway.
+func TestAlertsFitTheBounds(t *testing.T) {
+	t.Parallel()
+	if ahead := alertAt(t, "ctserve_head_age_seconds <"); ahead >= 0 || -ahead > maxSkew.Seconds() {
+		t.Errorf("a head is ahead from %v s on, and a clock may be by %v", ahead, maxSkew)
+	}
+	// The longest pause after a round that failed is 5 s.
+	const pause = 5 * time.Second
+	if old := alertAt(t, "ctserve_round_age_seconds >"); old < (roundWithin + pause + lookEvery).Seconds() {
+		t.Errorf("no round went well for %v s, and one may take %v, and be %v after the one before", old, roundWithin,
+			pause)
+	}
+	// Each pass of the janitor that fails counts.
+	if failed := alertAt(t,
+		`increase\(ctserve_janitor_failures_total\[1h\]\) >`); failed >= time.Hour.Seconds()/scrub.Seconds() ||
+		failed < 1 {
+		t.Errorf("an alert fires after %v failures in an hour, and a pass is made each %v", failed, scrub)
+	}
+}

@@ -1,0 +1,135 @@
+package logservice
+
+import (
+	"context"
+	"crypto/sha256"
+	"errors"
+	"fmt"
+	"strings"
+	"time"
+
+	"wagtenib/bindings/go/wagtenib"
+	"wagtenib/internal/node"
+	"wagtenib/internal/signer"
+	"wagtenib/internal/stores"
+	"wagtenib/internal/tile"
+)
+
+// leftIdentity is the identity under which an index has how many of the first entries it lacks, while it is being built
+// again. It is no submission's.
+var leftIdentity = stores.Identity(sha256.Sum256([]byte("how many of a log's first entries the index lacks")))
+
+// maxHead is how many bytes a head in the store has at most.
+const maxHead = 1 << 20
+
+// RebuildIndex sets the places of all entries of a log from its tiles, each of which is compared with the tree of the
+// newest published head. It works from the newest entry to the first, so that a duplicate entry gets its first place.
+// After each tile it reports how many entries are left, which the index has too: if it is stopped, a node goes on with
+// them.
+func RebuildIndex(ctx context.Context, of Stores, told func(left uint64)) error {
+	head, err := publishedHead(ctx, of)
+	if err != nil {
+		return err
+	}
+	if err := takeID(ctx, of); err != nil {
+		return err
+	}
+	return rebuild(ctx, of, head, head.Size, told)
+}
+
+// publishedHead returns the newest head that is published. That is the newest state's, or, if that one is not published
+// yet, the head in the store that the lock names. A node that starts adds the entries after it.
+func publishedHead(ctx context.Context, of Stores) (head signer.Head, err error) {
+	text, err := of.Lock.Read(ctx)
+	if err != nil {
+		return head, fmt.Errorf("serve: the lock: %w", err)
+	}
+	newest, err := node.HeadIn(text)
+	if err != nil {
+		return head, err
+	}
+	published, err := of.Lock.Published(ctx)
+	if err != nil {
+		return head, fmt.Errorf("serve: the lock: %w", err)
+	}
+	if !published.Before(stores.Published{Size: newest.Size, Timestamp: newest.Timestamp}) {
+		return newest, nil
+	}
+	if published.Size == 0 {
+		return head, nil
+	}
+	name := node.HeadName(published)
+	content, err := of.Objects.Get(ctx, name, maxHead)
+	if err != nil {
+		return head, fmt.Errorf("serve: %s: %w", name, err)
+	}
+	// Its signature is not checked: the index only says where to look for an entry.
+	signed, _, _ := strings.Cut(string(content), "\n\n")
+	checkpoint, err := wagtenib.ReadCheckpoint(signed + "\n")
+	if err != nil || checkpoint.TreeSize != published.Size {
+		return head, fmt.Errorf("%w: %s", node.ErrDamaged, name)
+	}
+	return signer.Head{Size: published.Size, Timestamp: published.Timestamp, Root: checkpoint.Root}, nil
+}
+
+// rebuild sets the places of the entries below an index, the newest tile first.
+func rebuild(ctx context.Context, of Stores, head signer.Head, below uint64, told func(left uint64)) error {
+	read := tile.Stored(func(ctx context.Context, name string) ([]byte, error) {
+		return of.Objects.Get(ctx, name, stores.MaxObject)
+	})
+	for number := (below + tile.Width - 1) / tile.Width; number > 0; number-- {
+		left := (number - 1) * tile.Width
+		leaves, err := tile.LeavesOf(ctx, tile.Data(left, head.Size), head, read)
+		if err != nil {
+			return err
+		}
+		rows := make([]stores.Row, len(leaves), len(leaves)+1)
+		for i := range leaves {
+			rows[i] = stores.Row{Identity: node.Identity(&leaves[i]), Leaf: stores.Identity(leaves[i].Hash()),
+				Place: stores.Place{Index: left + uint64(i), Timestamp: leaves[i].Timestamp}}
+		}
+		if err := of.Index.Replace(ctx, append(rows, own(leftIdentity, stores.Place{Index: left}))); err != nil {
+			return fmt.Errorf("serve: the index: %w", err)
+		}
+		told(left)
+	}
+	return nil
+}
+
+// leftIn returns how many of the first entries an index lacks.
+func leftIn(ctx context.Context, index stores.Index) (uint64, error) {
+	found, err := index.Find(ctx, []stores.Identity{leftIdentity})
+	if err != nil {
+		return 0, fmt.Errorf("serve: the index: %w", err)
+	}
+	return found[leftIdentity].Index, nil
+}
+
+// completeAfter is the time after which a node goes on with an index if that failed.
+const completeAfter = 10 * time.Second
+
+// completeIndex goes on with an index that RebuildIndex left, until it has all entries or the context ends.
+func (l *Log) completeIndex(ctx context.Context) {
+	for {
+		err := l.completesIndex(ctx)
+		if err == nil || ctx.Err() != nil {
+			return
+		}
+		l.counts.failed(fmt.Errorf("the index is not complete: %w", err))
+		if l.config.Machine.Of.Wait(ctx, completeAfter, nil) != nil {
+			return
+		}
+	}
+}
+
+func (l *Log) completesIndex(ctx context.Context) error {
+	left, err := leftIn(ctx, l.config.Stores.Index)
+	if err != nil || left == 0 {
+		return err
+	}
+	now := l.node.Snapshot()
+	if now == nil || now.Head.Size < left {
+		return errors.New("no head is published yet")
+	}
+	return rebuild(ctx, l.config.Stores, now.Head.Head, left, func(uint64) {})
+}

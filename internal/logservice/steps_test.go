@@ -1,0 +1,299 @@
+package logservice_test
+
+import (
+	"context"
+	"crypto/sha256"
+	"errors"
+	"fmt"
+	"os"
+	"strings"
+	"sync"
+	"sync/atomic"
+	"testing"
+	"time"
+
+	"wagtenib/internal/logapi"
+	"wagtenib/internal/logservice"
+	"wagtenib/internal/node"
+	"wagtenib/internal/stores"
+)
+
+// identityOf is SHA-256 over the type of a certificate's entry and the certificate.
+func identityOf(entry logapi.Entry) stores.Identity {
+	return sha256.Sum256(append([]byte{0, 0}, entry.Certificate...))
+}
+
+// An index that has a place beyond the end of the log for a new entry gets the right one, so that the entry is found
+// when it comes again.
+func TestIndexAheadOfTheLog(t *testing.T) {
+	t.Parallel()
+	p, got := newPlace(t), &answers{}
+	config := p.config()
+	l := started(t, config)
+	got.submit(t, l, 0, 3)
+	must(t, config.Stores.Index.Add(limited(t), []stores.Row{{Identity: identityOf(entryOf(4)),
+		Leaf: stores.Identity{4}, Place: stores.Place{Index: 1000, Timestamp: 1}}}))
+	for range 3 {
+		place, err := l.Submit(limited(t), entryOf(4))
+		must(t, err)
+		got.add(entryOf(4), place)
+	}
+	if leaves := p.right(got); leaves != 4 {
+		t.Errorf("%d entries", leaves)
+	}
+}
+
+// unsure is a lock whose next swap is done, and whose outcome is then not known.
+type unsure struct {
+	stores.Register
+	next atomic.Bool
+}
+
+func (u *unsure) Swap(ctx context.Context, old, new string) error {
+	err := u.Register.Swap(ctx, old, new)
+	if err == nil && u.next.CompareAndSwap(true, false) {
+		return stores.ErrUnknown
+	}
+	return err
+}
+
+// A swap whose outcome is not known is made again, which shows that it was done. The node has not lost it.
+func TestSwapOfUnknownOutcomeIsMadeAgain(t *testing.T) {
+	t.Parallel()
+	p, got := newPlace(t), &answers{}
+	config := p.config()
+	lock := &unsure{Register: config.Stores.Lock}
+	config.Stores.Lock = lock
+	l := started(t, config)
+	got.submit(t, l, 0, 3)
+	lock.next.Store(true)
+	got.submit(t, l, 3, 4)
+	if f := l.Figures(); f.LostSwaps != 0 || f.Unknown != 1 {
+		t.Errorf("%d swaps are lost, and of %d the outcome was not known", f.LostSwaps, f.Unknown)
+	}
+	p.right(got)
+}
+
+// A step that was decided is not published if the store has a head that does not belong to the log's history: the lock
+// was rolled back before the step, and the log went on elsewhere. Such a head has more entries, or it is between two
+// states of which one follows the other.
+func TestStepBesideAnotherHistory(t *testing.T) {
+	t.Parallel()
+	for _, size := range []int{3, 10} {
+		p, got := newPlace(t), &answers{}
+		config := p.config()
+		// (the guard of a signer would refuse the head, too)
+		config.Signer = p.key
+		clock := &stopped{Clock: config.Machine.Of}
+		config.Machine.Of = clock
+		l := started(t, config)
+		got.submit(t, l, 0, 3)
+		head, err := l.Checkpoint(limited(t))
+		must(t, err)
+		other := head.Timestamp + 1
+		must(t, os.WriteFile(p.object(fmt.Sprintf("heads/%020d-%020d", size, other)), []byte("a head"), 0o644))
+		eventually(t, "the next timestamp is later", func() bool { return uint64(time.Now().UnixMilli()) > other })
+		// The list of the heads that the step before made is too old then.
+		clock.elapsed.Add(int64(time.Second))
+		_, err = l.Submit(limited(t), entryOf(3))
+		wants(t, err, node.ErrRolledBack)
+		if head, err := l.Checkpoint(limited(t)); err != nil || head.TreeSize != 3 {
+			t.Errorf("%v, %d entries", err, head.TreeSize)
+		}
+	}
+}
+
+// lost is an index that finds nothing while it is set. It counts what it does not answer.
+type lost struct {
+	stores.Index
+	is   atomic.Bool
+	lost atomic.Int64
+}
+
+var errLost = errors.New("the index does not answer")
+
+func (i *lost) Find(ctx context.Context, identities []stores.Identity) (map[stores.Identity]stores.Place, error) {
+	if i.is.Load() {
+		i.lost.Add(1)
+		return nil, errLost
+	}
+	return i.Index.Find(ctx, identities)
+}
+
+// The fault of an index is not over as long as the index does not answer, although a step without entries would not
+// ask it.
+func TestFaultOfTheIndexLasts(t *testing.T) {
+	t.Parallel()
+	p, got := newPlace(t), &answers{}
+	config := p.config()
+	index := &lost{Index: config.Stores.Index}
+	config.Stores.Index = index
+	l := started(t, config)
+	// Nothing is looked up before the first step, so the step asks the index.
+	index.is.Store(true)
+	_, err := l.Submit(limited(t), entryOf(0))
+	wants(t, err, errLost)
+	before := index.lost.Load()
+	eventually(t, "the index is asked again", func() bool {
+		if l.Figures().Fault == "" {
+			t.Fatal("the fault is over, and the index does not answer")
+		}
+		return index.lost.Load() > before+1
+	})
+	index.is.Store(false)
+	eventually(t, "it goes on", func() bool { return l.Figures().Fault == "" })
+	got.submit(t, l, 0, 1)
+	p.right(got)
+}
+
+// held is a store of objects, one call of which waits.
+type held struct {
+	stores.Objects
+	mu  sync.Mutex
+	get func(name string) error
+	put func(name string)
+}
+
+func (h *held) Get(ctx context.Context, name string, max int64) ([]byte, error) {
+	h.mu.Lock()
+	get := h.get
+	h.mu.Unlock()
+	if get != nil {
+		if err := get(name); err != nil {
+			return nil, err
+		}
+	}
+	return h.Objects.Get(ctx, name, max)
+}
+
+func (h *held) Put(ctx context.Context, name string, content []byte) error {
+	h.mu.Lock()
+	put := h.put
+	h.mu.Unlock()
+	if put != nil {
+		put(name)
+	}
+	return h.Objects.Put(ctx, name, content)
+}
+
+// readTexts is a lock that says when each text was read first.
+type readTexts struct {
+	stores.Register
+	mu   sync.Mutex
+	when map[string]time.Time
+	last string
+}
+
+func (r *readTexts) Read(ctx context.Context) (string, error) {
+	text, err := r.Register.Read(ctx)
+	r.mu.Lock()
+	defer r.mu.Unlock()
+	if _, seen := r.when[text]; !seen && err == nil {
+		r.when[text], r.last = time.Now(), text
+	}
+	return text, err
+}
+
+// another returns the configuration of another node of the log, on another machine.
+func (p *place) another(name string) logservice.Config {
+	config := p.config()
+	config.Machine.Files.LatestHead = p.path(name)
+	return config
+}
+
+// A node leaves a step to the node that made it for a while, also if neither has an address.
+func TestWaitsForTheNodeThatMadeAStep(t *testing.T) {
+	t.Parallel()
+	p, got := newPlace(t), &answers{}
+	config := p.config()
+	maker := &held{Objects: config.Stores.Objects}
+	config.Stores.Objects = maker
+	l := started(t, config)
+	got.submit(t, l, 0, 3)
+
+	other := p.another("other-latest-head")
+	texts := &readTexts{Register: other.Stores.Lock, when: map[string]time.Time{}}
+	helped := make(chan time.Duration, 1)
+	helper := &held{Objects: other.Stores.Objects, get: func(name string) error {
+		if strings.HasPrefix(name, "staging/") {
+			texts.mu.Lock()
+			since := time.Since(texts.when[texts.last])
+			texts.mu.Unlock()
+			select {
+			case helped <- since:
+			default:
+			}
+		}
+		return nil
+	}}
+	other.Stores.Objects, other.Stores.Lock = helper, texts
+	started(t, other)
+
+	letGo := make(chan struct{})
+	maker.mu.Lock()
+	maker.put = func(name string) {
+		if strings.HasPrefix(name, "heads/") {
+			<-letGo
+		}
+	}
+	maker.mu.Unlock()
+	submitted := make(chan error, 1)
+	go func() {
+		place, err := l.Submit(limited(t), entryOf(4))
+		if err == nil {
+			got.add(entryOf(4), place)
+		}
+		submitted <- err
+	}()
+	// The other node takes the step's staged batch 400 ms after it saw the step, at the earliest.
+	if since := <-helped; since < 400*time.Millisecond {
+		t.Errorf("it helps %v after it saw the step", since)
+	}
+	close(letGo)
+	must(t, <-submitted)
+	p.right(got)
+}
+
+// A node that looks at the step of another one, whose staged batch was deleted meanwhile since the other one went on,
+// looks again. It has no fault.
+func TestStagedBatchOfAnOlderStepIsGone(t *testing.T) {
+	t.Parallel()
+	p, got := newPlace(t), &answers{}
+	config := p.config()
+	maker := &held{Objects: config.Stores.Objects}
+	config.Stores.Objects = maker
+	l := started(t, config)
+	got.submit(t, l, 0, 3)
+
+	letGo, wentOn := make(chan struct{}), make(chan struct{})
+	other := p.another("other-latest-head")
+	once := sync.OnceFunc(func() {
+		close(letGo)
+		<-wentOn
+	})
+	var isOver atomic.Bool
+	other.Stores.Objects = &held{Objects: other.Stores.Objects, get: func(name string) error {
+		if strings.HasPrefix(name, "staging/") && !isOver.Load() {
+			once()
+			isOver.Store(true)
+			return stores.ErrAbsent
+		}
+		return nil
+	}}
+	second := started(t, other)
+	maker.mu.Lock()
+	maker.put = func(name string) {
+		if strings.HasPrefix(name, "heads/") {
+			<-letGo
+		}
+	}
+	maker.mu.Unlock()
+	got.submit(t, l, 4, 5)
+	got.submit(t, l, 5, 6)
+	close(wentOn)
+	got.submit(t, second, 6, 7)
+	if fault := second.Figures().LastFault; !isOver.Load() || fault != "" {
+		t.Errorf("the other node looked: %t, and had the fault %q", isOver.Load(), fault)
+	}
+	p.right(got)
+}

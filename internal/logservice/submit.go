@@ -1,0 +1,121 @@
+package logservice
+
+import (
+	"context"
+	"crypto/sha256"
+	"errors"
+	"fmt"
+
+	"wagtenib/internal/chains"
+	"wagtenib/internal/logapi"
+	"wagtenib/internal/node"
+	"wagtenib/internal/step"
+	"wagtenib/internal/tile"
+)
+
+// Submit is logapi.Log's. A submission that the log has already is answered with the first timestamp of its entry, without
+// waiting for a step. Others wait for one, unless another node makes the steps: then the error is logapi.ErrElsewhere if
+// the submission may be forwarded (logapi.IsForwarded).
+func (l *Log) Submit(ctx context.Context, entry logapi.Entry) (logapi.Place, error) {
+	submission, err := submissionOf(entry)
+	if err != nil {
+		return logapi.Place{}, err
+	}
+	if l.node.IsEnding() {
+		return logapi.Place{}, fault{logapi.ErrEnded, node.ErrEnded}
+	}
+	if err := l.node.Lasting(); err != nil {
+		return logapi.Place{}, named(err)
+	}
+	if err := l.issuers.put(ctx, entry.Issuers); err != nil {
+		return logapi.Place{}, l.why(ctx, err)
+	}
+	r := l.node.Request(submission)
+	if l.config.Address != "" && !logapi.IsForwarded(ctx) {
+		r.Movable()
+	}
+	for range maxKnown {
+		place, err := l.lookup(ctx, r)
+		if err != nil {
+			return logapi.Place{}, l.why(ctx, err)
+		}
+		if place != nil {
+			return l.placeOf(*place), nil
+		}
+		ticket, err := r.Enqueue()
+		if err != nil {
+			return logapi.Place{}, named(err)
+		}
+		answer, err := r.Wait(ctx, ticket)
+		switch {
+		case err != nil:
+			return logapi.Place{}, err
+		case answer.Err != nil:
+			return logapi.Place{}, named(answer.Err)
+		case !answer.Known:
+			return l.placeOf(answer.Place), nil
+		}
+	}
+	return logapi.Place{}, fault{logapi.ErrStore,
+		errors.New("serve: the index says again and again that the log has the entry, which is not there")}
+}
+
+// lookup looks a submission up. Only so many tiles are read at once, since each may have megabytes.
+func (l *Log) lookup(ctx context.Context, r *node.Request) (*node.Place, error) {
+	candidate, err := r.Find(ctx)
+	if err != nil || candidate == nil {
+		return nil, err
+	}
+	select {
+	case l.lookups <- struct{}{}:
+	case <-ctx.Done():
+		return nil, ctx.Err()
+	}
+	defer func() { <-l.lookups }()
+	return r.Claim(ctx, candidate)
+}
+
+// why returns the error of a request: the context's if that has ended, and otherwise one of the log.
+func (l *Log) why(ctx context.Context, err error) error {
+	if ctx.Err() != nil {
+		return fmt.Errorf("serve: %w", ctx.Err())
+	}
+	var damaged node.DamagedTile
+	if errors.As(err, &damaged) {
+		l.janitor.Note(damaged.Number, err)
+	}
+	return named(err)
+}
+
+// placeOf returns a place as package log has it.
+func (l *Log) placeOf(of node.Place) logapi.Place {
+	return logapi.Place{LeafIndex: of.Index, Timestamp: of.Timestamp, Extensions: tile.Extensions(of.Index),
+		Signature: of.Signature, LogID: l.running.logID}
+}
+
+// submissionOf returns an entry as the step takes it. The error is logapi.ErrTooLarge if it has too many bytes.
+func submissionOf(entry logapi.Entry) (step.Submission, error) {
+	var s step.Submission
+	switch entry.Type {
+	case chains.X509Entry:
+		s.LeafCertificate = entry.Certificate
+	case chains.PrecertEntry:
+		s.IssuerKeyHash, s.TBSCertificate, s.PreCertificate = entry.IssuerKeyHash[:], entry.TBSCertificate,
+			entry.Precertificate
+	default:
+		return s, fmt.Errorf("%w: an entry of type %d", node.ErrConfig, entry.Type)
+	}
+	if bytes := len(s.LeafCertificate) + len(s.PreCertificate) + len(s.TBSCertificate); bytes > MaxEntry {
+		return s, fmt.Errorf("%w: it has %d bytes, and may have %d", logapi.ErrTooLarge, bytes, MaxEntry)
+	}
+	isWhole := len(s.LeafCertificate) > 0 || len(s.PreCertificate) > 0 && len(s.TBSCertificate) > 0
+	if !isWhole || len(entry.Issuers) > chains.MaxCertificates {
+		return s, fmt.Errorf("%w: the entry is neither a certificate nor a precertificate, or its chain is too long",
+			node.ErrConfig)
+	}
+	for _, issuer := range entry.Issuers {
+		fingerprint := sha256.Sum256(issuer)
+		s.Chain = append(s.Chain, fingerprint[:])
+	}
+	return s, nil
+}
