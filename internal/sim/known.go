@@ -30,20 +30,22 @@ func (m *machine) begins() {
 	}
 }
 
-// finds is called while the lock is read. If the store has a later head than the text, a node that did not hear of the
-// lock for a while must see that the text is old.
-func (m *machine) finds(text string) {
-	k, listed, of := cells(text), m.w.listed(), &m.process.known
-	if k == nil || m.node == nil || m.w.now-of.heard <= lookBack {
-		return
+// finds says why a node that reads a text of the lock now must know that it is old, or nothing. If the store has a later
+// head than the text, a node that did not hear of the lock for a while must see that.
+func (m *machine) finds(text string) string {
+	k, listed := cells(text), m.w.listed()
+	if k == nil || m.node == nil || m.w.now-m.process.known.heard <= lookBack ||
+		!k.isBefore(listed.Size, listed.Timestamp) {
+		return ""
 	}
-	if k.isBefore(listed.Size, listed.Timestamp) {
-		of.old, of.why = text, "the store had a later head when it read that after a while"
-	}
+	return "the store had a later head when it read that after a while"
 }
 
-// read keeps the newest text that was read.
-func (of *known) read(text string) {
+// read keeps the newest text that was read, and one of which the node must know, for a reason, that it is old.
+func (of *known) read(text, why string) {
+	if why != "" {
+		of.old, of.why = text, why
+	}
 	if k := cells(text); k != nil && (of.newest == nil || of.newest.isBefore(k.size, k.timestamp)) {
 		of.newest = k
 	}

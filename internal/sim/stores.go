@@ -236,18 +236,20 @@ func (l lock) Create(ctx context.Context, text string) error {
 
 func (l lock) Read(ctx context.Context) (text string, err error) {
 	l.m.begins()
+	why := ""
 	err = l.m.call(ctx, "lock", "read", false, func() error {
 		if text = l.m.w.stores.text; text == "" {
 			return stores.ErrAbsent
 		}
-		l.m.finds(text)
+		why = l.m.finds(text)
 		return nil
 	})
+	// A reading that was done too late told the node nothing.
 	if err != nil {
 		return "", err
 	}
 	l.m.process.unread = ""
-	l.m.process.known.read(text)
+	l.m.process.known.read(text, why)
 	l.m.process.known.heard = l.m.w.now
 	return text, nil
 }
@@ -273,7 +275,7 @@ func (l lock) Swap(ctx context.Context, old, new string) error {
 	l.m.w.judge.stats.meet(by, old, new, err)
 	switch {
 	case err == nil:
-		by.known.read(new)
+		by.known.read(new, "")
 		by.known.heard = l.m.w.now
 	case errors.Is(err, stores.ErrLost):
 		by.known.old, by.known.why = old, "it saw that text replaced"

@@ -1,8 +1,8 @@
-// Package httpserver answers a log's calls over HTTP/1.1: those of RFC 6962, section 4, and of C2SP static-ct-api. It only
-// transports. Its answers come from a logapi.Log, and a chains.Checker decides which chains are accepted. Nothing in it
-// grows without a bound: there are bounds for connections, for the bytes of bodies and waiting submissions, each in all
-// and by address, for the bytes of objects in responses, and for the time of each request. The submissions and the
-// calls of an address that read tiles may have a rate.
+// Package httpserver answers a log's calls over HTTP/1.1: those of RFC 6962, section 4, and of C2SP static-ct-api. It
+// only transports. Its answers come from a logapi.Log, and a chains.Checker decides which chains are accepted. Nothing
+// in it grows without a bound: there are bounds for connections, for the bytes of bodies and waiting submissions, each
+// in all and by address, for the bytes of objects in responses, and for the time of each request. The submissions and
+// the calls of an address that read tiles may have a rate.
 package httpserver
 
 import (
