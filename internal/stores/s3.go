@@ -287,10 +287,6 @@ func (b *bucket) List(ctx context.Context, prefix, after string, most int) ([]st
 			found = append(found, object.Key)
 		}
 	}
-	// minio-go ends a list with its context, and says nothing.
-	if err := ctx.Err(); err != nil {
-		return nil, fmt.Errorf("stores: list %s: %w", prefix, err)
-	}
 	return found, nil
 }
 
