@@ -91,6 +91,18 @@ func openObjects(ctx context.Context, n node) (stores.Objects, stores.Current, e
 	return objects, nil, err
 }
 
+// checkStores returns an error if the objects are missing of a log that is not to be made, or if its index is one of an
+// earlier build.
+func checkStores(n node) error {
+	if !n.create {
+		// Another node that runs would write into a folder that is made again.
+		if err := stores.ObjectsThere(n.store); err != nil {
+			return err
+		}
+	}
+	return checkEarlierIndex(n)
+}
+
 // openNode opens a log, and begins to serve it.
 func openNode(ctx context.Context, n node) (of *opened, err error) {
 	if n.makesFolder {
@@ -116,13 +128,7 @@ func openNode(ctx context.Context, n node) (of *opened, err error) {
 			closeAll()
 		}
 	}()
-	if !n.create {
-		// Another node that runs would write into a folder that is made again.
-		if err := stores.ObjectsThere(n.store); err != nil {
-			return nil, err
-		}
-	}
-	if err := checkEarlierIndex(n); err != nil {
+	if err := checkStores(n); err != nil {
 		return nil, err
 	}
 	if s, err = openStores(ctx, n); err != nil {
