@@ -75,8 +75,8 @@ var all = []planted{
 	}},
 	{"a place is compared with no entry", []edit{
 		{"index.go",
-			"	return identity(leaf.Type, leaf.IssuerKeyHash, leaf.Certificate) == placed.Identity &&\n" +
-				"\t\tleaf.Timestamp == placed.Place.Timestamp, nil",
+			"	return identity(leaf.Type, leaf.IssuerKeyHash, leaf.Certificate) == of.identity && leaf.Timestamp == " +
+				"of.Timestamp, nil",
 			"	return leaf != nil, nil",
 		},
 	}},
@@ -324,7 +324,10 @@ var all = []planted{
 		},
 	}},
 	{"the index may lack the newest entry", []edit{
-		{"start.go", "	isKnown := len(places) > 0", "	isKnown := len(places) < 2"},
+		{"start.go",
+			"	isKnown = isKnown && at.Index == index && len(places) > 0\n",
+			"	isKnown = len(places) < 2 && at.Index <= index\n",
+		},
 	}},
 	{"the clock is believed", []edit{
 		{"loop.go",

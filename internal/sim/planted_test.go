@@ -61,6 +61,14 @@ func TestPlanted(t *testing.T) {
 	}
 }
 
+// TestPlantedFit: the text that a planted fault replaces is in its file, once.
+func TestPlantedFit(t *testing.T) {
+	copies := &copies{folder: t.TempDir(), replaced: map[string]string{}}
+	for at, p := range slices.Concat(all, remembered) {
+		copies.plant(t, at, p)
+	}
+}
+
 // copies are the copies of node and sim, each with one planted fault. They exist only in the overlay of one go command.
 type copies struct {
 	folder         string
