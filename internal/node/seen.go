@@ -159,14 +159,27 @@ func foreign(k *state, name string) error {
 	return fmt.Errorf("%w: it has %d entries at %d ms, and the store has %s", ErrRolledBack, k.Size, k.Timestamp, name)
 }
 
-// isLater says what a later head than a state's is: other nodes went on meanwhile, or the lock was rolled back.
-func (l *Loop) isLater(ctx context.Context, k *state, name string) error {
-	again, err := l.config.Stores.Lock.Read(ctx)
+// isMoved returns errMoves if the lock has another text than a state's by now. If that is a later one than the newest that
+// this node knows, the node keeps it, so that it never takes an older one after it.
+func (l *Loop) isMoved(ctx context.Context, k *state) error {
+	text, err := l.config.Stores.Lock.Read(ctx)
 	if err != nil {
 		return fmt.Errorf("node: the lock: %w", err)
 	}
-	if again != k.text {
-		return errMoves
+	if text == k.text {
+		return nil
+	}
+	now, err := l.read(text)
+	if before := l.seen.newest; err == nil && before != nil && follows(now.Size, now.Timestamp, before.head()) {
+		l.seen.newest = now
+	}
+	return errMoves
+}
+
+// isLater says what a later head than a state's is: other nodes went on meanwhile, or the lock was rolled back.
+func (l *Loop) isLater(ctx context.Context, k *state, name string) error {
+	if err := l.isMoved(ctx, k); err != nil {
+		return err
 	}
 	return foreign(k, name)
 }
@@ -214,12 +227,8 @@ func (l *Loop) looksBack(ctx context.Context, k *state) error {
 	if !k.published().Before(published) {
 		return nil
 	}
-	again, err := l.config.Stores.Lock.Read(ctx)
-	if err != nil {
-		return fmt.Errorf("node: the lock: %w", err)
-	}
-	if again != k.text {
-		return errMoves
+	if err := l.isMoved(ctx, k); err != nil {
+		return err
 	}
 	return fmt.Errorf("%w: it has %d entries at %d ms, and %d at %d ms are published", ErrRolledBack, k.Size,
 		k.Timestamp, published.Size, published.Timestamp)
