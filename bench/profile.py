@@ -26,7 +26,7 @@ PARTS = [
     ("lines cut off", r"script::serve|reading::|read_until|memchr"),
     ("JSON read", r"json|simdutf8|from_utf8|Value|btree|BTreeMap|read_line|json_lines::fields|Vec\+T\+Lodged"),
     ("settling and publishing", r"ct_house|ct_core|shared|ct_tree|indexmap|left_right|logbook"),
-    ("fronts and tickets", r"ct_parties|ct_gate|rtrb|ct_codec|atomic_table"),
+    ("fronts and tickets", r"ct_workers|ct_gate|rtrb|ct_codec|atomic_table"),
     ("replies written", r"ct_lines::writing|reply"),
 ]
 COUNT = re.compile(r"^\s*([\d,]+) \(\s*[\d.]+%\)\s+(.*)$")

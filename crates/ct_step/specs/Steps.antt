@@ -22,7 +22,7 @@ use Rattle.ct_step.specs.declared.believed.EdgeFault.TheVariants.{OtherWidths, O
 use Rattle.ct_step.specs.declared.growth.State.{State}
 use Rattle.ct_step.specs.declared.growth.GrowthFault.TheVariants.{ClockBack, Full, Refused}
 use Rattle.ct_verify.specs.Laws.{AreHashes}
-use Rattle.ct_older_tree.specs.Hashed.{CollideAmong}
+use Rattle.ct_verify.specs.Hashed.{CollideAmong}
 use Rattle.ct_step.specs.Bundle.{IsBundleOf}
 use Rattle.ct_step.specs.Entries.{tiled_leaves, texts_of, tree_leaves, hashes_of}
 use Rattle.ct_step.specs.Objects.{level_objects, data_objects, FitsInBundle}

@@ -16,7 +16,7 @@ returns-then-branch-clause-named c = rw (c.if-branch.true, c.deref.ensures.value
 pub returns-then-branch-clause-few : goal.returns-then-branch-clause-few
 returns-then-branch-clause-few c =
     let size : bundle_size (map object_parts c.in_ok-objects.objects.items) ≡ length c.args.bundle.now =
-      sized (map object_parts c.in_ok-objects.objects.items) c.args.bundle.now c.in_ok-objects.ensures in
+    sized (map object_parts c.in_ok-objects.objects.items) c.args.bundle.now c.in_ok-objects.ensures in
     search (rules, size)
 
 pub returns-clause-found : goal.returns-clause-found
