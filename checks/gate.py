@@ -6,7 +6,7 @@
 - all programs while some allocations are refused (tests/sweep.py);
 - a comparison of dist/ with a new build (checks/dist.py);
 - comparisons of the library in dist/ with models (tests/library/guard.py, step.py, witness.py, monitor.py, node.py, names.py, data_tiles.py, texts.py,
-  proofs.py), by the Python package, and of the Rust crate with some of these (tests/library/rust.py);
+  proofs.py), by the Python package, and the tests of the Rust crate (tests/library/rust.py);
 - calls of the library without memory (tests/library/refusals.py), with NULL and in many threads (tests/library/replays.py), and over large inputs
   (tests/library/cost.py);
 - a comparison of its build option with the proved code (tests/library/sha_instructions.py);
