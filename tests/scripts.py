@@ -124,7 +124,7 @@ def try_sessions(folder):
         options.add_argument(name, type=int, default=value)
     sessions = read_sessions()
     for session in sessions:
-        words = options.parse_args(session.words[1:])
+        words = options.parse_args(session.words)
         lines, fault = outcome(words.fronts, words.ring, words.open_at, words.close_at, session.given)
         told = (1, f"ctlog: {fault}\n") if fault else (0, "")
         output = re.sub(r'(?<={"ticket":)\d+', "_", session.output.decode()) if words.fronts > 1 else session.output.decode()
