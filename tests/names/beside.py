@@ -214,7 +214,7 @@ def by_index(alerts, urls):
 def issuances(entries):
     """The number of the issuance of each entry: a precertificate and its certificate have one."""
     numbers = {}
-    return [numbers.setdefault(table.der.Certificate(data).without_poison() if poison else tbs_of(data), len(numbers)) for data, poison in entries]
+    return [numbers.setdefault(table.promises.entry_of(table.promises.tbs_of(data)) if poison else tbs_of(data), len(numbers)) for data, poison in entries]
 
 
 def tbs_of(data):

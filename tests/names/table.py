@@ -12,10 +12,10 @@ import urllib.parse
 
 HERE = pathlib.Path(__file__).resolve().parent
 ROOT = HERE.parent.parent
-sys.path += [str(HERE), str(HERE.parent)]
+sys.path += [str(HERE), str(HERE.parent), str(HERE.parent / "tiles")]
 
-import der  # noqa: E402
 import merkle  # noqa: E402
+import promises  # noqa: E402
 from cryptography import x509  # noqa: E402
 from cryptography.hazmat.primitives import hashes, serialization  # noqa: E402
 from cryptography.hazmat.primitives.asymmetric import ec  # noqa: E402
@@ -144,7 +144,7 @@ class Log:
         now, self.entries, self.leaves = int(time.time() * 1000), [], []
         three = lambda data: len(data).to_bytes(3, "big") + data  # noqa: E731
         for i, (data, poison) in enumerate(certificates):
-            bare = der.Certificate(data).without_poison() if poison else data
+            bare = promises.entry_of(promises.tbs_of(data)) if poison else data
             self.entries.append((bare, poison))
             leaf = leaf_of(now - len(certificates) + i, bare, merkle.sha256(b"an issuer's key") if poison else None)
             chain = three(three(data))
