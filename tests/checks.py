@@ -108,29 +108,28 @@ def try_counted(repository):
 
 
 def try_programs(repository):
-    """After the proofs have passed, each script that the gate runs counts as its tests passed or failed, and the status says whether all passed. A comparison that
-    compared nothing counts as neither."""
-    scripts = {name: f"tests/{name}" for name in ("command_lines.py", "sessions.py", "sweep.py")} | {name: name for name in gate.OF_DIST} | {"demo": "examples/demo.sh"}
-    good = dict.fromkeys(scripts, "") | {"command_lines.py": "print('one: 7 command lines as due')", "sessions.py": "print('one: 9 sessions as due')", "demo": "exit 0"}
-    bad = dict.fromkeys(scripts, "import sys\nsys.exit('other bytes')") | {"sessions.py": "print('one: 6 sessions as due, 3 not')", "demo": "echo other bytes; exit 1"}
+    """After the proofs have passed, each script that the gate runs counts as passed or failed, and the status says whether all passed. A comparison that compared
+    nothing counts as neither."""
+    scripts = [line.split()[0] for line in gate.SCRIPTS]
 
-    def put(texts):
-        for name, script in scripts.items():
-            path = repository.folder / script
-            path.parent.mkdir(parents=True, exist_ok=True)
-            path.write_text(("#!/bin/sh\n" if name == "demo" else "") + texts[name] + "\n")
-            path.chmod(0o755)
+    def put(script, python, shell):
+        path = repository.folder / script
+        path.parent.mkdir(parents=True, exist_ok=True)
+        path.write_text(python if script.endswith(".py") else f"#!/bin/sh\n{shell}\n")
+        path.chmod(0o755)
 
-    others = len(gate.BROKEN_OFF) + len(gate.OF_DIST) + len(gate.DEMO)
-    for what, texts, passed, failed in (
-        ("all of it as due", good, 3 + 1 + 9 + others, 0),
-        ("all of it wrong", bad, 3 + 6, 1 + 3 + others),
-        ("a comparison of nothing", {**good, gate.OF_DIST[0]: "print('it: nothing was compared: there is no gcc')"}, 3 + 1 + 9 + others - 1, 0),
+    for what, python, shell, others, passed, failed in (
+        ("all of it as due", "", "exit 0", "", 3 + len(scripts), 0),
+        ("all of it wrong", "import sys\nsys.exit('other bytes')", "echo other bytes; exit 1", "", 3, len(scripts)),
+        ("a comparison of nothing", "", "exit 0", "print('it: nothing was compared: there is no gcc')", 3 + len(scripts) - 1, 0),
     ):
-        put(texts)
+        for script in scripts:
+            put(script, python, shell)
+        if others:
+            put(scripts[3], others, "")
         ended, said = repository.run("checks/gate.py", rt="echo 3 passed, 0 failed")
         hold(f"a gate with {what}", (ended, said.splitlines()[-1]), (min(failed, 1), f"{passed} passed, {failed} failed"))
-        hold(f"how often it says why with {what}", said.count("other bytes"), max(failed - 3, 0))
+        hold(f"how often it says why with {what}", said.count("other bytes"), failed)
     ended, said = repository.run("checks/gate.py", rt="echo 2 passed, 1 failed; exit 1")
     hold("a gate whose proofs fail", (ended, said.splitlines()[-1]), (1, "2 passed, 1 failed"))
 
