@@ -12984,7 +12984,7 @@ wagtenib_proved_compress:
 	movaps	%xmm0, 16(%rsp)
 	movaps	%xmm0, (%rsp)
 	movq	%rsp, %rdi
-	callq	"ct_monitor_calls::calls::begin"
+	callq	"ct_monitor::calls::begin"
 	movl	$8, %eax
 	cmpb	$0, (%rsp)
 	jne	.LBB65_23
@@ -13097,10 +13097,10 @@ wagtenib_proved_compress:
 	retq
 .Lfunc_end65:
 	.size	"libwagtenib::monitor::wagtenib_monitor_begin", .Lfunc_end65-"libwagtenib::monitor::wagtenib_monitor_begin"
-	.section	".text.unlikely.ct_monitor_calls::calls::begin","ax",@progbits
+	.section	".text.unlikely.ct_monitor::calls::begin","ax",@progbits
 	.p2align	4
-	.type	"ct_monitor_calls::calls::begin",@function
-"ct_monitor_calls::calls::begin":
+	.type	"ct_monitor::calls::begin",@function
+"ct_monitor::calls::begin":
 	pushq	%rbx
 	subq	$224, %rsp
 	movq	%rdi, %rbx
@@ -13124,7 +13124,7 @@ wagtenib_proved_compress:
 	movq	%rax, 200(%rsp)
 	leaq	16(%rsp), %rdi
 	leaq	48(%rsp), %rsi
-	callq	"ct_monitor_calls::writing::write_state"
+	callq	"ct_monitor::writing::write_state"
 	cmpq	$0, 184(%rsp)
 	je	.LBB66_2
 	leaq	15(%rsp), %rdi
@@ -13145,11 +13145,11 @@ wagtenib_proved_compress:
 	popq	%rbx
 	retq
 .Lfunc_end66:
-	.size	"ct_monitor_calls::calls::begin", .Lfunc_end66-"ct_monitor_calls::calls::begin"
-	.section	".text.unlikely.ct_monitor_calls::writing::write_state","ax",@progbits
+	.size	"ct_monitor::calls::begin", .Lfunc_end66-"ct_monitor::calls::begin"
+	.section	".text.unlikely.ct_monitor::writing::write_state","ax",@progbits
 	.p2align	4
-	.type	"ct_monitor_calls::writing::write_state",@function
-"ct_monitor_calls::writing::write_state":
+	.type	"ct_monitor::writing::write_state",@function
+"ct_monitor::writing::write_state":
 	pushq	%r15
 	pushq	%r14
 	pushq	%rbx
@@ -13186,7 +13186,7 @@ wagtenib_proved_compress:
 	movq	%rax, 64(%rsp)
 	movq	%rsp, %rdi
 	leaq	64(%rsp), %rsi
-	callq	"ct_monitor_calls::writing::push_head"
+	callq	"ct_monitor::writing::push_head"
 	testb	%al, %al
 	jne	.LBB67_5
 	leaq	72(%rsp), %rax
@@ -13200,18 +13200,18 @@ wagtenib_proved_compress:
 	movq	%rcx, 64(%rsp)
 	movq	%rsp, %rdi
 	leaq	64(%rsp), %rsi
-	callq	"ct_monitor_calls::writing::push_head"
+	callq	"ct_monitor::writing::push_head"
 	testb	%al, %al
 	jne	.LBB67_5
 	leaq	112(%r14), %rsi
 	movq	%rsp, %rdi
-	callq	"ct_monitor_calls::writing::push_subtrees"
+	callq	"ct_monitor::writing::push_subtrees"
 	testb	%al, %al
 	jne	.LBB67_5
 	addq	$144, %r14
 	movq	%rsp, %rdi
 	movq	%r14, %rsi
-	callq	"ct_monitor_calls::writing::push_subtrees"
+	callq	"ct_monitor::writing::push_subtrees"
 	testb	%al, %al
 	je	.LBB67_9
 .LBB67_5:
@@ -13290,7 +13290,7 @@ wagtenib_proved_compress:
 	movq	32(%rsp), %rdi
 	jmp	.LBB67_7
 .Lfunc_end67:
-	.size	"ct_monitor_calls::writing::write_state", .Lfunc_end67-"ct_monitor_calls::writing::write_state"
+	.size	"ct_monitor::writing::write_state", .Lfunc_end67-"ct_monitor::writing::write_state"
 	.section	".text.unlikely.std_alloc::vec::Vec::grow_amortized::<#eb427d0bad48da03>","ax",@progbits
 	.p2align	4
 	.type	"std_alloc::vec::Vec::grow_amortized::<#eb427d0bad48da03>",@function
@@ -13350,10 +13350,10 @@ wagtenib_proved_compress:
 	retq
 .Lfunc_end68:
 	.size	"std_alloc::vec::Vec::grow_amortized::<#eb427d0bad48da03>", .Lfunc_end68-"std_alloc::vec::Vec::grow_amortized::<#eb427d0bad48da03>"
-	.section	".text.ct_monitor_calls::writing::push_head","ax",@progbits
+	.section	".text.ct_monitor::writing::push_head","ax",@progbits
 	.p2align	4
-	.type	"ct_monitor_calls::writing::push_head",@function
-"ct_monitor_calls::writing::push_head":
+	.type	"ct_monitor::writing::push_head",@function
+"ct_monitor::writing::push_head":
 	pushq	%r14
 	pushq	%rbx
 	subq	$56, %rsp
@@ -13495,11 +13495,11 @@ wagtenib_proved_compress:
 	movq	8(%rbx), %rax
 	jmp	.LBB69_4
 .Lfunc_end69:
-	.size	"ct_monitor_calls::writing::push_head", .Lfunc_end69-"ct_monitor_calls::writing::push_head"
-	.section	".text.ct_monitor_calls::writing::push_subtrees","ax",@progbits
+	.size	"ct_monitor::writing::push_head", .Lfunc_end69-"ct_monitor::writing::push_head"
+	.section	".text.ct_monitor::writing::push_subtrees","ax",@progbits
 	.p2align	4
-	.type	"ct_monitor_calls::writing::push_subtrees",@function
-"ct_monitor_calls::writing::push_subtrees":
+	.type	"ct_monitor::writing::push_subtrees",@function
+"ct_monitor::writing::push_subtrees":
 	pushq	%r15
 	pushq	%r14
 	pushq	%r13
@@ -13642,7 +13642,7 @@ wagtenib_proved_compress:
 	movq	%r13, %rdx
 	jmp	.LBB70_9
 .Lfunc_end70:
-	.size	"ct_monitor_calls::writing::push_subtrees", .Lfunc_end70-"ct_monitor_calls::writing::push_subtrees"
+	.size	"ct_monitor::writing::push_subtrees", .Lfunc_end70-"ct_monitor::writing::push_subtrees"
 	.section	.rodata.cst16,"aM",@progbits,16
 	.p2align	4, 0x0
 .LCPI71_0:
@@ -13655,10 +13655,10 @@ wagtenib_proved_compress:
 	.long	2600822924
 	.long	528734635
 	.long	1541459225
-	.section	".text.ct_monitor_calls::fitting::root_of::<#0f46d2847b2ce1ce>","ax",@progbits
+	.section	".text.ct_monitor::fitting::root_of::<#0f46d2847b2ce1ce>","ax",@progbits
 	.p2align	4
-	.type	"ct_monitor_calls::fitting::root_of::<#0f46d2847b2ce1ce>",@function
-"ct_monitor_calls::fitting::root_of::<#0f46d2847b2ce1ce>":
+	.type	"ct_monitor::fitting::root_of::<#0f46d2847b2ce1ce>",@function
+"ct_monitor::fitting::root_of::<#0f46d2847b2ce1ce>":
 	pushq	%r15
 	pushq	%r14
 	pushq	%rbx
@@ -13755,7 +13755,7 @@ wagtenib_proved_compress:
 	popq	%r15
 	retq
 .Lfunc_end71:
-	.size	"ct_monitor_calls::fitting::root_of::<#0f46d2847b2ce1ce>", .Lfunc_end71-"ct_monitor_calls::fitting::root_of::<#0f46d2847b2ce1ce>"
+	.size	"ct_monitor::fitting::root_of::<#0f46d2847b2ce1ce>", .Lfunc_end71-"ct_monitor::fitting::root_of::<#0f46d2847b2ce1ce>"
 	.section	".text.ct_names::name_lists::list_of","ax",@progbits
 	.p2align	4
 	.type	"ct_names::name_lists::list_of",@function
@@ -30965,10 +30965,10 @@ wagtenib_proved_compress:
 	retq
 .Lfunc_end137:
 	.size	"libwagtenib::head::write_state", .Lfunc_end137-"libwagtenib::head::write_state"
-	.section	".text.ct_monitor_calls::reading::read_state","ax",@progbits
+	.section	".text.ct_monitor::reading::read_state","ax",@progbits
 	.p2align	4
-	.type	"ct_monitor_calls::reading::read_state",@function
-"ct_monitor_calls::reading::read_state":
+	.type	"ct_monitor::reading::read_state",@function
+"ct_monitor::reading::read_state":
 	pushq	%rbp
 	pushq	%r15
 	pushq	%r14
@@ -31413,7 +31413,7 @@ wagtenib_proved_compress:
 	movq	%rax, 400(%rsp)
 	movq	%rax, 408(%rsp)
 	leaq	240(%rsp), %rdi
-	callq	"ct_monitor_calls::fitting::fits_together"
+	callq	"ct_monitor::fitting::fits_together"
 	leaq	576(%rsp), %rdi
 	testb	%al, %al
 	je	.LBB138_67
@@ -31517,11 +31517,11 @@ wagtenib_proved_compress:
 	callq	rattle_dealloc@PLT
 	jmp	.LBB138_58
 .Lfunc_end138:
-	.size	"ct_monitor_calls::reading::read_state", .Lfunc_end138-"ct_monitor_calls::reading::read_state"
-	.section	".text.ct_monitor_calls::fitting::fits_together","ax",@progbits
+	.size	"ct_monitor::reading::read_state", .Lfunc_end138-"ct_monitor::reading::read_state"
+	.section	".text.ct_monitor::fitting::fits_together","ax",@progbits
 	.p2align	4
-	.type	"ct_monitor_calls::fitting::fits_together",@function
-"ct_monitor_calls::fitting::fits_together":
+	.type	"ct_monitor::fitting::fits_together",@function
+"ct_monitor::fitting::fits_together":
 	movq	112(%rdi), %rax
 	movq	128(%rdi), %rdx
 	movq	%rax, %rcx
@@ -31581,7 +31581,7 @@ wagtenib_proved_compress:
 	movq	%rsp, %rax
 	movq	%rdi, %r14
 	movq	%rax, %rdi
-	callq	"ct_monitor_calls::fitting::root_of::<#0f46d2847b2ce1ce>"
+	callq	"ct_monitor::fitting::root_of::<#0f46d2847b2ce1ce>"
 	cmpq	112(%r14), %rbx
 	jne	.LBB139_5
 	movdqa	32(%rsp), %xmm1
@@ -31640,17 +31640,17 @@ wagtenib_proved_compress:
 	movq	152(%rdi), %rdx
 	movq	160(%rdi), %rcx
 	movq	%rax, %rdi
-	callq	"ct_monitor_calls::fitting::are_same"
+	callq	"ct_monitor::fitting::are_same"
 	addq	$72, %rsp
 	popq	%rbx
 	popq	%r14
 	retq
 .Lfunc_end139:
-	.size	"ct_monitor_calls::fitting::fits_together", .Lfunc_end139-"ct_monitor_calls::fitting::fits_together"
-	.section	".text.ct_monitor_calls::fitting::are_same","ax",@progbits
+	.size	"ct_monitor::fitting::fits_together", .Lfunc_end139-"ct_monitor::fitting::fits_together"
+	.section	".text.ct_monitor::fitting::are_same","ax",@progbits
 	.p2align	4
-	.type	"ct_monitor_calls::fitting::are_same",@function
-"ct_monitor_calls::fitting::are_same":
+	.type	"ct_monitor::fitting::are_same",@function
+"ct_monitor::fitting::are_same":
 	cmpq	%rcx, %rsi
 	jne	.LBB140_1
 	pushq	%r15
@@ -31777,7 +31777,7 @@ wagtenib_proved_compress:
 	popq	%r15
 	retq
 .Lfunc_end140:
-	.size	"ct_monitor_calls::fitting::are_same", .Lfunc_end140-"ct_monitor_calls::fitting::are_same"
+	.size	"ct_monitor::fitting::are_same", .Lfunc_end140-"ct_monitor::fitting::are_same"
 	.section	".text.ct_monitor::peaks::Peaks::copied::<#731e1d2bba769a9a>","ax",@progbits
 	.p2align	4
 	.type	"ct_monitor::peaks::Peaks::copied::<#731e1d2bba769a9a>",@function
@@ -32680,10 +32680,10 @@ wagtenib_proved_compress:
 	jmp	.LBB143_47
 .Lfunc_end143:
 	.size	"ct_monitor::watcher::Watcher::settle::<#601b4fb999c8f8fe>", .Lfunc_end143-"ct_monitor::watcher::Watcher::settle::<#601b4fb999c8f8fe>"
-	.section	".text.ct_monitor_calls::calls::answer_after","ax",@progbits
+	.section	".text.ct_monitor::calls::answer_after","ax",@progbits
 	.p2align	4
-	.type	"ct_monitor_calls::calls::answer_after",@function
-"ct_monitor_calls::calls::answer_after":
+	.type	"ct_monitor::calls::answer_after",@function
+"ct_monitor::calls::answer_after":
 	pushq	%rbp
 	pushq	%r15
 	pushq	%r14
@@ -32714,7 +32714,7 @@ wagtenib_proved_compress:
 	movaps	%xmm0, 192(%rsp)
 	movaps	%xmm0, 208(%rsp)
 	movq	%r8, %rdi
-	callq	"ct_monitor_calls::fitting::fits_together"
+	callq	"ct_monitor::fitting::fits_together"
 	testb	%al, %al
 	jne	.LBB144_18
 	leaq	225(%rsp), %rax
@@ -32750,7 +32750,7 @@ wagtenib_proved_compress:
 	leaq	336(%rsp), %rdi
 	movq	%r15, %rsi
 	movq	%r14, %rdx
-	callq	"ct_monitor_calls::reading::read_state"
+	callq	"ct_monitor::reading::read_state"
 	cmpb	$0, 336(%rsp)
 	je	.LBB144_2
 .LBB144_13:
@@ -32809,7 +32809,7 @@ wagtenib_proved_compress:
 	leaq	112(%rsp), %rdi
 	leaq	224(%rsp), %rsi
 	movq	%r12, %rdx
-	callq	"ct_monitor_calls::calls::answer_of"
+	callq	"ct_monitor::calls::answer_of"
 	cmpb	$0, 112(%rsp)
 	je	.LBB144_19
 	movb	$1, (%rbx)
@@ -32848,7 +32848,7 @@ wagtenib_proved_compress:
 	movq	520(%rsp), %r12
 	leaq	528(%rsp), %rdi
 	leaq	280(%rsp), %rsi
-	callq	"ct_monitor_calls::calls::answer_of"
+	callq	"ct_monitor::calls::answer_of"
 	cmpb	$0, 528(%rsp)
 	je	.LBB144_4
 	testq	%r13, %r13
@@ -32891,11 +32891,11 @@ wagtenib_proved_compress:
 	xorl	%eax, %eax
 	jmp	.LBB144_15
 .Lfunc_end144:
-	.size	"ct_monitor_calls::calls::answer_after", .Lfunc_end144-"ct_monitor_calls::calls::answer_after"
-	.section	".text.unlikely.ct_monitor_calls::calls::answer_of","ax",@progbits
+	.size	"ct_monitor::calls::answer_after", .Lfunc_end144-"ct_monitor::calls::answer_after"
+	.section	".text.unlikely.ct_monitor::calls::answer_of","ax",@progbits
 	.p2align	4
-	.type	"ct_monitor_calls::calls::answer_of",@function
-"ct_monitor_calls::calls::answer_of":
+	.type	"ct_monitor::calls::answer_of",@function
+"ct_monitor::calls::answer_of":
 	pushq	%r15
 	pushq	%r14
 	pushq	%rbx
@@ -32916,7 +32916,7 @@ wagtenib_proved_compress:
 	movaps	%xmm0, 16(%rsp)
 	movq	%rsp, %rdi
 	movq	%rdx, %rsi
-	callq	"ct_monitor_calls::writing::write_state"
+	callq	"ct_monitor::writing::write_state"
 	cmpb	$0, (%rsp)
 	je	.LBB145_1
 	xorps	%xmm0, %xmm0
@@ -32965,7 +32965,7 @@ wagtenib_proved_compress:
 	popq	%r15
 	retq
 .Lfunc_end145:
-	.size	"ct_monitor_calls::calls::answer_of", .Lfunc_end145-"ct_monitor_calls::calls::answer_of"
+	.size	"ct_monitor::calls::answer_of", .Lfunc_end145-"ct_monitor::calls::answer_of"
 	.section	.text.wagtenib_batch_name,"ax",@progbits
 	.globl	wagtenib_batch_name
 	.p2align	4
@@ -38931,7 +38931,7 @@ wagtenib_monitor_start:
 	movq	%rbx, %rdx
 	movaps	%xmm2, 112(%rsp)
 	movaps	%xmm3, 16(%rsp)
-	callq	"ct_monitor_calls::fitting::root_of::<#0f46d2847b2ce1ce>"
+	callq	"ct_monitor::fitting::root_of::<#0f46d2847b2ce1ce>"
 	movdqa	144(%rsp), %xmm0
 	pcmpeqb	16(%rsp), %xmm0
 	movdqa	128(%rsp), %xmm1
@@ -39086,7 +39086,7 @@ wagtenib_monitor_start:
 	movq	%rbx, 336(%rsp)
 	leaq	64(%rsp), %rdi
 	leaq	168(%rsp), %rsi
-	callq	"ct_monitor_calls::writing::write_state"
+	callq	"ct_monitor::writing::write_state"
 	cmpb	$0, 64(%rsp)
 	je	.LBB178_25
 	testq	%rbx, %rbx
@@ -47665,7 +47665,7 @@ wagtenib_monitor_entries:
 	leaq	1040(%rsp), %rdi
 	movq	%rsi, 16(%rsp)
 	movq	64(%rsp), %rdx
-	callq	"ct_monitor_calls::reading::read_state"
+	callq	"ct_monitor::reading::read_state"
 	cmpb	$0, 1040(%rsp)
 	je	.LBB197_11
 .LBB197_10:
@@ -48058,7 +48058,7 @@ wagtenib_monitor_entries:
 	leaq	752(%rsp), %r8
 	movq	16(%rsp), %rsi
 	movq	64(%rsp), %rdx
-	callq	"ct_monitor_calls::calls::answer_after"
+	callq	"ct_monitor::calls::answer_after"
 	cmpb	$0, 464(%rsp)
 	je	.LBB197_78
 .LBB197_74:
@@ -48600,7 +48600,7 @@ wagtenib_monitor_head:
 	leaq	800(%rsp), %rdi
 	movq	%r13, %rsi
 	movq	%r15, %rdx
-	callq	"ct_monitor_calls::reading::read_state"
+	callq	"ct_monitor::reading::read_state"
 	cmpb	$0, 800(%rsp)
 	je	.LBB198_1
 .LBB198_44:
@@ -48893,7 +48893,7 @@ wagtenib_monitor_head:
 	leaq	624(%rsp), %r8
 	movq	%r13, %rsi
 	movq	%r15, %rdx
-	callq	"ct_monitor_calls::calls::answer_after"
+	callq	"ct_monitor::calls::answer_after"
 	cmpq	$0, 760(%rsp)
 	je	.LBB198_32
 	movq	744(%rsp), %rdi
@@ -49205,7 +49205,7 @@ wagtenib_monitor_proof:
 	movaps	%xmm0, 192(%rsp)
 	movaps	%xmm0, 208(%rsp)
 	leaq	288(%rsp), %rdi
-	callq	"ct_monitor_calls::reading::read_state"
+	callq	"ct_monitor::reading::read_state"
 	cmpb	$0, 288(%rsp)
 	je	.LBB199_1
 .LBB199_29:
@@ -49335,7 +49335,7 @@ wagtenib_monitor_proof:
 	leaq	304(%rsp), %rdx
 	leaq	112(%rsp), %rdi
 	leaq	224(%rsp), %rsi
-	callq	"ct_monitor_calls::calls::answer_of"
+	callq	"ct_monitor::calls::answer_of"
 	cmpb	$0, 112(%rsp)
 	je	.LBB199_17
 	cmpq	$0, 24(%rsp)

@@ -11495,7 +11495,7 @@ wagtenib_proved_compress:
 	mov	x21, x2
 	mov	x22, x1
 	stp	q0, q0, [sp]
-	bl	"ct_monitor_calls::calls::begin"
+	bl	"ct_monitor::calls::begin"
 	ldrb	w8, [sp]
 	cbz	w8, .LBB65_3
 	mov	w0, #8
@@ -11587,10 +11587,10 @@ wagtenib_proved_compress:
 	ret
 .Lfunc_end65:
 	.size	"libwagtenib::monitor::wagtenib_monitor_begin", .Lfunc_end65-"libwagtenib::monitor::wagtenib_monitor_begin"
-	.section	".text.unlikely.ct_monitor_calls::calls::begin","ax",@progbits
+	.section	".text.unlikely.ct_monitor::calls::begin","ax",@progbits
 	.p2align	2
-	.type	"ct_monitor_calls::calls::begin",@function
-"ct_monitor_calls::calls::begin":
+	.type	"ct_monitor::calls::begin",@function
+"ct_monitor::calls::begin":
 	sub	sp, sp, #240
 	movi	v0.2d, #0000000000000000
 	stp	x29, x30, [sp, #208]
@@ -11612,7 +11612,7 @@ wagtenib_proved_compress:
 	str	xzr, [sp, #56]
 	stp	xzr, x8, [sp, #112]
 	stp	xzr, x8, [sp, #144]
-	bl	"ct_monitor_calls::writing::write_state"
+	bl	"ct_monitor::writing::write_state"
 	ldr	x8, [sp, #136]
 	cbz	x8, .LBB66_2
 	add	x0, x29, #31
@@ -11634,11 +11634,11 @@ wagtenib_proved_compress:
 	add	sp, sp, #240
 	ret
 .Lfunc_end66:
-	.size	"ct_monitor_calls::calls::begin", .Lfunc_end66-"ct_monitor_calls::calls::begin"
-	.section	".text.unlikely.ct_monitor_calls::writing::write_state","ax",@progbits
+	.size	"ct_monitor::calls::begin", .Lfunc_end66-"ct_monitor::calls::begin"
+	.section	".text.unlikely.ct_monitor::writing::write_state","ax",@progbits
 	.p2align	2
-	.type	"ct_monitor_calls::writing::write_state",@function
-"ct_monitor_calls::writing::write_state":
+	.type	"ct_monitor::writing::write_state",@function
+"ct_monitor::writing::write_state":
 	sub	sp, sp, #224
 	movi	v0.2d, #0000000000000000
 	stp	x29, x30, [sp, #176]
@@ -11676,7 +11676,7 @@ wagtenib_proved_compress:
 	stur	q1, [x29, #-56]
 	stur	q2, [x29, #-40]
 	stur	x8, [x29, #-80]
-	bl	"ct_monitor_calls::writing::push_head"
+	bl	"ct_monitor::writing::push_head"
 	and	w8, w0, #0xff
 	tbnz	w8, #0, .LBB67_5
 	ldp	q0, q1, [x20, #64]
@@ -11688,17 +11688,17 @@ wagtenib_proved_compress:
 	stur	q1, [x21, #24]
 	stur	q2, [x21, #40]
 	stur	x8, [x29, #-80]
-	bl	"ct_monitor_calls::writing::push_head"
+	bl	"ct_monitor::writing::push_head"
 	and	w8, w0, #0xff
 	tbnz	w8, #0, .LBB67_5
 	sub	x0, x29, #24
 	add	x1, x20, #112
-	bl	"ct_monitor_calls::writing::push_subtrees"
+	bl	"ct_monitor::writing::push_subtrees"
 	and	w8, w0, #0xff
 	tbnz	w8, #0, .LBB67_5
 	sub	x0, x29, #24
 	add	x1, x20, #144
-	bl	"ct_monitor_calls::writing::push_subtrees"
+	bl	"ct_monitor::writing::push_subtrees"
 	and	w8, w0, #0xff
 	tbz	w8, #0, .LBB67_9
 .LBB67_5:
@@ -11767,7 +11767,7 @@ wagtenib_proved_compress:
 	ldr	x0, [sp, #64]
 	b	.LBB67_7
 .Lfunc_end67:
-	.size	"ct_monitor_calls::writing::write_state", .Lfunc_end67-"ct_monitor_calls::writing::write_state"
+	.size	"ct_monitor::writing::write_state", .Lfunc_end67-"ct_monitor::writing::write_state"
 	.section	".text.unlikely.std_alloc::vec::Vec::grow_amortized::<#eb427d0bad48da03>","ax",@progbits
 	.p2align	2
 	.type	"std_alloc::vec::Vec::grow_amortized::<#eb427d0bad48da03>",@function
@@ -11821,10 +11821,10 @@ wagtenib_proved_compress:
 	ret
 .Lfunc_end68:
 	.size	"std_alloc::vec::Vec::grow_amortized::<#eb427d0bad48da03>", .Lfunc_end68-"std_alloc::vec::Vec::grow_amortized::<#eb427d0bad48da03>"
-	.section	".text.ct_monitor_calls::writing::push_head","ax",@progbits
+	.section	".text.ct_monitor::writing::push_head","ax",@progbits
 	.p2align	2
-	.type	"ct_monitor_calls::writing::push_head",@function
-"ct_monitor_calls::writing::push_head":
+	.type	"ct_monitor::writing::push_head",@function
+"ct_monitor::writing::push_head":
 	sub	sp, sp, #80
 	ldrb	w8, [x1]
 	stp	x29, x30, [sp, #48]
@@ -11954,11 +11954,11 @@ wagtenib_proved_compress:
 	mov	x0, x20
 	b	.LBB69_8
 .Lfunc_end69:
-	.size	"ct_monitor_calls::writing::push_head", .Lfunc_end69-"ct_monitor_calls::writing::push_head"
-	.section	".text.ct_monitor_calls::writing::push_subtrees","ax",@progbits
+	.size	"ct_monitor::writing::push_head", .Lfunc_end69-"ct_monitor::writing::push_head"
+	.section	".text.ct_monitor::writing::push_subtrees","ax",@progbits
 	.p2align	2
-	.type	"ct_monitor_calls::writing::push_subtrees",@function
-"ct_monitor_calls::writing::push_subtrees":
+	.type	"ct_monitor::writing::push_subtrees",@function
+"ct_monitor::writing::push_subtrees":
 	stp	x29, x30, [sp, #-64]!
 	stp	x24, x23, [sp, #16]
 	mov	x23, x0
@@ -12074,7 +12074,7 @@ wagtenib_proved_compress:
 	ldp	x29, x30, [sp], #64
 	ret
 .Lfunc_end70:
-	.size	"ct_monitor_calls::writing::push_subtrees", .Lfunc_end70-"ct_monitor_calls::writing::push_subtrees"
+	.size	"ct_monitor::writing::push_subtrees", .Lfunc_end70-"ct_monitor::writing::push_subtrees"
 	.section	.rodata.cst16,"aM",@progbits,16
 	.p2align	4, 0x0
 .LCPI71_0:
@@ -12087,10 +12087,10 @@ wagtenib_proved_compress:
 	.word	2600822924
 	.word	528734635
 	.word	1541459225
-	.section	".text.ct_monitor_calls::fitting::root_of::<#0f46d2847b2ce1ce>","ax",@progbits
+	.section	".text.ct_monitor::fitting::root_of::<#0f46d2847b2ce1ce>","ax",@progbits
 	.p2align	2
-	.type	"ct_monitor_calls::fitting::root_of::<#0f46d2847b2ce1ce>",@function
-"ct_monitor_calls::fitting::root_of::<#0f46d2847b2ce1ce>":
+	.type	"ct_monitor::fitting::root_of::<#0f46d2847b2ce1ce>",@function
+"ct_monitor::fitting::root_of::<#0f46d2847b2ce1ce>":
 	sub	sp, sp, #224
 	stp	x20, x19, [sp, #208]
 	mov	x19, x0
@@ -12163,7 +12163,7 @@ wagtenib_proved_compress:
 	add	sp, sp, #224
 	ret
 .Lfunc_end71:
-	.size	"ct_monitor_calls::fitting::root_of::<#0f46d2847b2ce1ce>", .Lfunc_end71-"ct_monitor_calls::fitting::root_of::<#0f46d2847b2ce1ce>"
+	.size	"ct_monitor::fitting::root_of::<#0f46d2847b2ce1ce>", .Lfunc_end71-"ct_monitor::fitting::root_of::<#0f46d2847b2ce1ce>"
 	.section	".text.ct_names::name_lists::list_of","ax",@progbits
 	.p2align	2
 	.type	"ct_names::name_lists::list_of",@function
@@ -27147,10 +27147,10 @@ wagtenib_proved_compress:
 	ret
 .Lfunc_end137:
 	.size	"libwagtenib::head::write_state", .Lfunc_end137-"libwagtenib::head::write_state"
-	.section	".text.ct_monitor_calls::reading::read_state","ax",@progbits
+	.section	".text.ct_monitor::reading::read_state","ax",@progbits
 	.p2align	2
-	.type	"ct_monitor_calls::reading::read_state",@function
-"ct_monitor_calls::reading::read_state":
+	.type	"ct_monitor::reading::read_state",@function
+"ct_monitor::reading::read_state":
 	stp	x29, x30, [sp, #-96]!
 	stp	x28, x27, [sp, #16]
 	mov	x29, sp
@@ -27450,7 +27450,7 @@ wagtenib_proved_compress:
 	str	x21, [sp, #792]
 	str	x8, [sp, #800]
 	str	x8, [sp, #808]
-	bl	"ct_monitor_calls::fitting::fits_together"
+	bl	"ct_monitor::fitting::fits_together"
 	tbz	w0, #0, .LBB138_55
 	ldp	q0, q1, [sp, #768]
 	mov	w8, #1
@@ -27512,7 +27512,7 @@ wagtenib_proved_compress:
 	bl	rattle_dealloc
 	b	.LBB138_38
 .Lfunc_end138:
-	.size	"ct_monitor_calls::reading::read_state", .Lfunc_end138-"ct_monitor_calls::reading::read_state"
+	.size	"ct_monitor::reading::read_state", .Lfunc_end138-"ct_monitor::reading::read_state"
 	.section	.rodata.cst16,"aM",@progbits,16
 	.p2align	4, 0x0
 .LCPI139_0:
@@ -27532,10 +27532,10 @@ wagtenib_proved_compress:
 	.byte	32
 	.byte	64
 	.byte	128
-	.section	".text.ct_monitor_calls::fitting::fits_together","ax",@progbits
+	.section	".text.ct_monitor::fitting::fits_together","ax",@progbits
 	.p2align	2
-	.type	"ct_monitor_calls::fitting::fits_together",@function
-"ct_monitor_calls::fitting::fits_together":
+	.type	"ct_monitor::fitting::fits_together",@function
+"ct_monitor::fitting::fits_together":
 	ldr	x8, [x0, #112]
 	ldr	x2, [x0, #128]
 	fmov	d0, x8
@@ -27566,7 +27566,7 @@ wagtenib_proved_compress:
 	mov	x20, x0
 	add	x0, sp, #32
 	stp	q2, q1, [sp]
-	bl	"ct_monitor_calls::fitting::root_of::<#0f46d2847b2ce1ce>"
+	bl	"ct_monitor::fitting::root_of::<#0f46d2847b2ce1ce>"
 	ldr	x8, [x20, #112]
 	cmp	x19, x8
 	b.ne	.LBB139_20
@@ -27642,7 +27642,7 @@ wagtenib_proved_compress:
 	ldp	x8, x1, [x0, #120]
 	ldp	x2, x3, [x0, #152]
 	mov	x0, x8
-	bl	"ct_monitor_calls::fitting::are_same"
+	bl	"ct_monitor::fitting::are_same"
 	ldp	x20, x19, [sp, #80]
 	ldp	x29, x30, [sp, #64]
 	add	sp, sp, #96
@@ -27655,7 +27655,7 @@ wagtenib_proved_compress:
 	mov	w0, w8
 	ret
 .Lfunc_end139:
-	.size	"ct_monitor_calls::fitting::fits_together", .Lfunc_end139-"ct_monitor_calls::fitting::fits_together"
+	.size	"ct_monitor::fitting::fits_together", .Lfunc_end139-"ct_monitor::fitting::fits_together"
 	.section	.rodata.cst16,"aM",@progbits,16
 	.p2align	4, 0x0
 .LCPI140_0:
@@ -27675,10 +27675,10 @@ wagtenib_proved_compress:
 	.byte	32
 	.byte	64
 	.byte	128
-	.section	".text.ct_monitor_calls::fitting::are_same","ax",@progbits
+	.section	".text.ct_monitor::fitting::are_same","ax",@progbits
 	.p2align	2
-	.type	"ct_monitor_calls::fitting::are_same",@function
-"ct_monitor_calls::fitting::are_same":
+	.type	"ct_monitor::fitting::are_same",@function
+"ct_monitor::fitting::are_same":
 	cmp	x1, x3
 	b.ne	.LBB140_13
 	stp	x29, x30, [sp, #-48]!
@@ -27828,7 +27828,7 @@ wagtenib_proved_compress:
 	ldp	x29, x30, [sp], #48
 	ret
 .Lfunc_end140:
-	.size	"ct_monitor_calls::fitting::are_same", .Lfunc_end140-"ct_monitor_calls::fitting::are_same"
+	.size	"ct_monitor::fitting::are_same", .Lfunc_end140-"ct_monitor::fitting::are_same"
 	.section	".text.ct_monitor::peaks::Peaks::copied::<#731e1d2bba769a9a>","ax",@progbits
 	.p2align	2
 	.type	"ct_monitor::peaks::Peaks::copied::<#731e1d2bba769a9a>",@function
@@ -28638,10 +28638,10 @@ wagtenib_proved_compress:
 	b	.LBB143_47
 .Lfunc_end143:
 	.size	"ct_monitor::watcher::Watcher::settle::<#601b4fb999c8f8fe>", .Lfunc_end143-"ct_monitor::watcher::Watcher::settle::<#601b4fb999c8f8fe>"
-	.section	".text.ct_monitor_calls::calls::answer_after","ax",@progbits
+	.section	".text.ct_monitor::calls::answer_after","ax",@progbits
 	.p2align	2
-	.type	"ct_monitor_calls::calls::answer_after",@function
-"ct_monitor_calls::calls::answer_after":
+	.type	"ct_monitor::calls::answer_after",@function
+"ct_monitor::calls::answer_after":
 	stp	x29, x30, [sp, #-80]!
 	str	x28, [sp, #16]
 	mov	x29, sp
@@ -28670,7 +28670,7 @@ wagtenib_proved_compress:
 	stp	q1, q1, [sp, #32]
 	stp	q1, q1, [sp, #64]
 	str	q1, [sp, #96]
-	bl	"ct_monitor_calls::fitting::fits_together"
+	bl	"ct_monitor::fitting::fits_together"
 	tbnz	w0, #0, .LBB144_9
 	orr	x8, x24, #0x1
 	sub	x9, x29, #56
@@ -28696,7 +28696,7 @@ wagtenib_proved_compress:
 	stp	q0, q0, [sp, #336]
 	stp	q0, q0, [sp, #368]
 	str	q0, [sp, #288]
-	bl	"ct_monitor_calls::reading::read_state"
+	bl	"ct_monitor::reading::read_state"
 	ldurb	w8, [x29, #-256]
 	cbz	w8, .LBB144_3
 .LBB144_2:
@@ -28740,7 +28740,7 @@ wagtenib_proved_compress:
 	mov	x0, sp
 	add	x1, sp, #120
 	mov	x2, x22
-	bl	"ct_monitor_calls::calls::answer_of"
+	bl	"ct_monitor::calls::answer_of"
 	ldrb	w8, [sp]
 	cbz	w8, .LBB144_11
 	movi	v0.2d, #0000000000000000
@@ -28779,7 +28779,7 @@ wagtenib_proved_compress:
 	sub	x1, x29, #56
 	add	x2, x8, #16
 	add	x24, sp, #288
-	bl	"ct_monitor_calls::calls::answer_of"
+	bl	"ct_monitor::calls::answer_of"
 	ldrb	w8, [sp, #288]
 	cbz	w8, .LBB144_17
 	cbz	x23, .LBB144_15
@@ -28814,11 +28814,11 @@ wagtenib_proved_compress:
 	str	q3, [sp, #208]
 	b	.LBB144_6
 .Lfunc_end144:
-	.size	"ct_monitor_calls::calls::answer_after", .Lfunc_end144-"ct_monitor_calls::calls::answer_after"
-	.section	".text.unlikely.ct_monitor_calls::calls::answer_of","ax",@progbits
+	.size	"ct_monitor::calls::answer_after", .Lfunc_end144-"ct_monitor::calls::answer_after"
+	.section	".text.unlikely.ct_monitor::calls::answer_of","ax",@progbits
 	.p2align	2
-	.type	"ct_monitor_calls::calls::answer_of",@function
-"ct_monitor_calls::calls::answer_of":
+	.type	"ct_monitor::calls::answer_of",@function
+"ct_monitor::calls::answer_of":
 	sub	sp, sp, #144
 	movi	v3.2d, #0000000000000000
 	ldur	q0, [x1, #1]
@@ -28838,7 +28838,7 @@ wagtenib_proved_compress:
 	stur	x8, [sp, #79]
 	stp	q3, q3, [sp]
 	stp	q0, q1, [sp, #32]
-	bl	"ct_monitor_calls::writing::write_state"
+	bl	"ct_monitor::writing::write_state"
 	ldrb	w8, [sp]
 	cbz	w8, .LBB145_2
 	movi	v0.2d, #0000000000000000
@@ -28886,7 +28886,7 @@ wagtenib_proved_compress:
 	add	sp, sp, #144
 	ret
 .Lfunc_end145:
-	.size	"ct_monitor_calls::calls::answer_of", .Lfunc_end145-"ct_monitor_calls::calls::answer_of"
+	.size	"ct_monitor::calls::answer_of", .Lfunc_end145-"ct_monitor::calls::answer_of"
 	.section	.text.wagtenib_batch_name,"ax",@progbits
 	.globl	wagtenib_batch_name
 	.p2align	2
@@ -34121,7 +34121,7 @@ wagtenib_monitor_start:
 	mov	x24, x3
 	stp	q0, q0, [x29, #-64]
 	stp	q2, q1, [sp, #16]
-	bl	"ct_monitor_calls::fitting::root_of::<#0f46d2847b2ce1ce>"
+	bl	"ct_monitor::fitting::root_of::<#0f46d2847b2ce1ce>"
 	ldp	q0, q1, [x29, #-64]
 	adrp	x8, .LCPI178_0
 	ldr	q2, [sp, #32]
@@ -34220,7 +34220,7 @@ wagtenib_monitor_start:
 	stp	x21, x19, [sp, #200]
 	stp	x19, x27, [sp, #216]
 	str	x19, [sp, #248]
-	bl	"ct_monitor_calls::writing::write_state"
+	bl	"ct_monitor::writing::write_state"
 	ldrb	w8, [sp, #48]
 	cbz	w8, .LBB178_20
 	cbz	x19, .LBB178_13
@@ -41252,7 +41252,7 @@ wagtenib_monitor_entries:
 	str	q0, [sp, #384]
 	str	wzr, [sp, #280]
 	strh	wzr, [sp, #284]
-	bl	"ct_monitor_calls::reading::read_state"
+	bl	"ct_monitor::reading::read_state"
 	ldrb	w8, [sp, #480]
 	cbz	w8, .LBB197_15
 .LBB197_10:
@@ -41905,7 +41905,7 @@ wagtenib_monitor_entries:
 	add	x3, sp, #672
 	add	x4, sp, #736
 	add	x1, x8, x26
-	bl	"ct_monitor_calls::calls::answer_after"
+	bl	"ct_monitor::calls::answer_after"
 	ldrb	w8, [sp, #288]
 	cbz	w8, .LBB197_124
 .LBB197_120:
@@ -42137,7 +42137,7 @@ wagtenib_monitor_head:
 	str	q1, [sp, #16]
 	str	q0, [sp, #176]
 	stur	xzr, [x9, #47]
-	bl	"ct_monitor_calls::reading::read_state"
+	bl	"ct_monitor::reading::read_state"
 	ldrb	w8, [sp, #208]
 	cbz	w8, .LBB198_2
 .LBB198_1:
@@ -42407,7 +42407,7 @@ wagtenib_monitor_head:
 	stur	q1, [x11, #17]
 	stur	q2, [x11, #33]
 	str	x8, [sp, #448]
-	bl	"ct_monitor_calls::calls::answer_after"
+	bl	"ct_monitor::calls::answer_after"
 	ldr	x8, [sp, #600]
 	cbz	x8, .LBB198_40
 	ldr	x0, [sp, #584]
@@ -42672,7 +42672,7 @@ wagtenib_monitor_proof:
 	stp	q0, q0, [sp, #272]
 	stp	q0, q0, [sp, #304]
 	str	q0, [sp, #128]
-	bl	"ct_monitor_calls::reading::read_state"
+	bl	"ct_monitor::reading::read_state"
 	ldrb	w8, [sp, #144]
 	cbz	w8, .LBB199_2
 .LBB199_1:
@@ -42786,7 +42786,7 @@ wagtenib_monitor_proof:
 	stur	q1, [x24, #218]
 	stur	q2, [x24, #234]
 	stur	x8, [x29, #-184]
-	bl	"ct_monitor_calls::calls::answer_of"
+	bl	"ct_monitor::calls::answer_of"
 	ldrb	w8, [sp, #32]
 	cbz	w8, .LBB199_25
 	ldr	x8, [sp, #24]
