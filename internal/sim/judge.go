@@ -257,11 +257,17 @@ func cells(text string) *cell {
 	return c
 }
 
-// raises judges how far the lock says that the log is published: the head is in the store.
+// raises judges how far the lock says that the log is published: the head is in the store, and the checkpoint is that
+// head or a later one.
 func (j *judge) raises(p stores.Published) {
 	name := fmt.Sprintf("heads/%020d-%020d", p.Size, p.Timestamp)
 	if _, ok := j.w.stores.objects[name]; !ok && !j.w.excuses.missing {
 		j.breaks("a published size has a head", "%s is published and not in the store", name)
+	}
+	checkpoint := stores.Published{Size: j.checkpoint.Size, Timestamp: j.checkpoint.Timestamp}
+	if j.w.plan.Public && !j.w.excuses.missing && checkpoint.Before(p) {
+		j.breaks("a published head is at the checkpoint", "%s is published, and the checkpoint is of %d entries at %d ms",
+			name, checkpoint.Size, checkpoint.Timestamp)
 	}
 }
 
