@@ -164,8 +164,20 @@ func NewPlan(seed int64) Plan {
 	if seed%queuesEach == queuesEach/2 {
 		plan.queues()
 	}
+	if seed%unheardEach == unheardEach/2 {
+		plan.startsUnheard()
+	}
+	if seed%unreadEach == unreadEach/4 {
+		plan.startsUnread(seed)
+	}
 	return plan
 }
+
+// unheardEach and unreadEach are how many histories there are for each one of startsUnheard and of startsUnread.
+const (
+	unheardEach = 3
+	unreadEach  = 74
+)
 
 // queues has steps take few entries, and has the same entries submitted twice at once, in two orders. So the second
 // submission of an entry is looked up before its step, and waits until several steps later.
@@ -179,6 +191,31 @@ func (p *Plan) queues() {
 			up.Numbers, down.Numbers = append(up.Numbers, first+n), append(down.Numbers, first+entries-1-n)
 		}
 		p.Clients = append(p.Clients, up, down)
+	}
+}
+
+// startsUnheard has each witness fail once after all stores are rolled back, so that none says what it saw when a node
+// starts.
+func (p *Plan) startsUnheard() {
+	for _, f := range p.Faults {
+		if f.Kind == AllRolledBack {
+			for n := range p.Witnesses.Count {
+				p.Faults = append(p.Faults, Fault{At: f.At + 1, On: fmt.Sprintf("witness%d: add", n+1), Kind: CallFails})
+			}
+			return
+		}
+	}
+}
+
+// startsUnread has the index lose its newest places, and has the only node start again. The first tile cannot be read
+// by which that node would see the loss.
+func (p *Plan) startsUnread(seed int64) {
+	p.Machines, p.Answers = 1, 0
+	at := 45 + int(seed%61)
+	p.Faults = []Fault{{At: at, On: "lock: read", Kind: IndexLost, Count: 2 + int(seed%3)},
+		{At: at, On: "lock: read", Kind: KilledBefore}, {At: at + 1, On: "objects: get tile", Kind: CallFails}}
+	for i := range p.Clients {
+		p.Clients[i].Machine = 0
 	}
 }
 
