@@ -206,3 +206,21 @@ func TestLockFallsWhileHeadWaits(t *testing.T) {
 		}
 	}
 }
+
+// TestEntryComesWhileItIsLookedUp has the same entries submitted to two nodes at once. With these seeds, the index
+// answers one request late, and the other node's step with that entry is published meanwhile. The request was looked up
+// under the head before that step. So the node must ask the index again, and not log the entry a second time.
+func TestEntryComesWhileItIsLookedUp(t *testing.T) {
+	for _, seed := range []int64{458, 521, 619, 698} {
+		plan := sim.Plan{Seed: seed, Machines: 2}
+		for round := range 4 {
+			for machine := range 2 {
+				plan.Clients = append(plan.Clients, sim.Client{Begins: time.Duration(1+round) * time.Second,
+					Machine: machine, Numbers: numbers(10*round, 5), Burst: true})
+			}
+		}
+		if result := sim.Run(plan, proved, false); result.Violation != nil {
+			t.Errorf("%v\n%s", result.Violation, sim.Explain(plan, proved))
+		}
+	}
+}

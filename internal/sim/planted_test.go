@@ -41,7 +41,7 @@ func TestPlanted(t *testing.T) {
 		t.Fatalf("SIM_ONLY: %v", err)
 	}
 	copies := &copies{folder: t.TempDir(), replaced: map[string]string{}}
-	for at, p := range slices.Concat(all, remembered) {
+	for at, p := range slices.Concat(all, remembered, mistakes) {
 		if only.MatchString(p.name) {
 			copies.plant(t, at, p)
 		}
@@ -64,7 +64,7 @@ func TestPlanted(t *testing.T) {
 // TestPlantedFit: the text that a planted fault replaces is in its file, once.
 func TestPlantedFit(t *testing.T) {
 	copies := &copies{folder: t.TempDir(), replaced: map[string]string{}}
-	for at, p := range slices.Concat(all, remembered) {
+	for at, p := range slices.Concat(all, remembered, mistakes) {
 		copies.plant(t, at, p)
 	}
 }
