@@ -266,7 +266,13 @@ func (l *Loop) learn(ctx context.Context) (*state, error) {
 		}
 	}
 	if l.config.Machine.Clock.Elapsed()-l.seen.heard > maxUnheard {
+		// A later text must not be forgotten if it cannot be looked back, and must be if it is refused: the lock may come
+		// back from there.
+		l.seen.newest = k
 		if err := l.looksBack(ctx, k); err != nil {
+			if errors.Is(err, ErrRolledBack) {
+				l.seen.newest = before
+			}
 			return nil, err
 		}
 	}

@@ -137,6 +137,9 @@ type Plan struct {
 	Answers int
 	// MaxBatch is how many entries a step takes at most, and 0 is the usual number.
 	MaxBatch int
+	// Haste says that readers ask often, and at the same time, and that half of the look-ups in the index are answered
+	// late.
+	Haste bool
 }
 
 func (p Plan) String() string {
@@ -163,6 +166,9 @@ func NewPlan(seed int64) Plan {
 	plan := newPlan(seed)
 	if seed%queuesEach == queuesEach/2 {
 		plan.queues()
+	}
+	if seed%hastensEach == hastensEach/2 {
+		plan.hastens(seed)
 	}
 	if seed%unheardEach == unheardEach/2 {
 		plan.startsUnheard()
@@ -191,6 +197,31 @@ func (p *Plan) queues() {
 			up.Numbers, down.Numbers = append(up.Numbers, first+n), append(down.Numbers, first+entries-1-n)
 		}
 		p.Clients = append(p.Clients, up, down)
+	}
+}
+
+// hastensEach is how many histories there are for each one of hastens.
+const hastensEach = 19
+
+// hastens has the same entries submitted to all nodes at once, and readers in haste. So an entry may be published by
+// another node while it is looked up, and a reader may get a head while another one gets a later one. In a third of
+// these histories each machine is away some times, when it has to return what it knows.
+func (p *Plan) hastens(seed int64) {
+	p.Haste = true
+	for round := range 4 {
+		for machine := range p.Machines {
+			c := Client{Begins: time.Duration(1+round) * time.Second, Machine: machine, Burst: true}
+			for n := range 5 {
+				c.Numbers = append(c.Numbers, 5000+10*round+n)
+			}
+			p.Clients = append(p.Clients, c)
+			if seed%3 > 0 {
+				continue
+			}
+			p.Faults = append(p.Faults, Fault{At: 1, Of: machine + 1, On: "lock: published", Kind: Away,
+				After: c.Begins + time.Duration(100+(seed*7+int64(machine)*131+int64(round)*37)%400)*time.Millisecond,
+				Long:  300 * time.Millisecond})
+		}
 	}
 }
 

@@ -207,20 +207,48 @@ func TestLockFallsWhileHeadWaits(t *testing.T) {
 	}
 }
 
-// TestEntryComesWhileItIsLookedUp has the same entries submitted to two nodes at once. With these seeds, the index
-// answers one request late, and the other node's step with that entry is published meanwhile. The request was looked up
-// under the head before that step. So the node must ask the index again, and not log the entry a second time.
-func TestEntryComesWhileItIsLookedUp(t *testing.T) {
-	for _, seed := range []int64{458, 521, 619, 698} {
-		plan := sim.Plan{Seed: seed, Machines: 2}
-		for round := range 4 {
-			for machine := range 2 {
-				plan.Clients = append(plan.Clients, sim.Client{Begins: time.Duration(1+round) * time.Second,
-					Machine: machine, Numbers: numbers(10*round, 5), Burst: true})
-			}
+// TestLaterTextIsKept has a node read a text of the lock after it stood still, and then fail to look back, since it is
+// away. Then the lock is rolled back to the text before. The node must not make a step from that, since it saw a later
+// one.
+func TestLaterTextIsKept(t *testing.T) {
+	plan := sim.Plan{
+		Seed: 6716, Machines: 3, Public: true, Haste: true,
+		Witnesses: sim.Witnesses{Count: 3, Quorums: witness.Quorums{Publish: 3, Start: 2, Faults: 1}},
+		Faults: []sim.Fault{
+			{At: 10, Kind: sim.Paused, Long: 30 * time.Millisecond},
+			{At: 40, Kind: sim.Away, Long: 4 * time.Second},
+			{At: 56, On: "memory: save", Kind: sim.KilledBefore},
+			{At: 23, Kind: sim.CallFails},
+			{At: 75, Kind: sim.Paused, Long: 4 * time.Second},
+			{At: 163, Kind: sim.LockRolledBack, Count: 8},
+		},
+		Clients: []sim.Client{
+			{Begins: 38 * time.Millisecond, Numbers: numbers(1000, 8)},
+			{Begins: 1851 * time.Millisecond, Numbers: numbers(1100, 3), Burst: true},
+			{Begins: 118 * time.Millisecond, Machine: 1, Numbers: numbers(2000, 8)},
+			{Begins: 2015 * time.Millisecond, Machine: 1, Numbers: numbers(2100, 8), Burst: true},
+			{Begins: 185 * time.Millisecond, Machine: 2, Numbers: numbers(3000, 8)},
+			{Begins: 1572 * time.Millisecond, Machine: 2, Numbers: numbers(3100, 9), Burst: true},
+			{Begins: 2803 * time.Millisecond, Numbers: []int{0, 1, 2, 3, 1}},
+			{Begins: 5016 * time.Millisecond, Numbers: numbers(4, 3)},
+			{Begins: 5193 * time.Millisecond, Numbers: []int{7, 7, 8, 9}},
+		},
+	}
+	for round := range 4 {
+		begins := time.Duration(1+round) * time.Second
+		for machine := range 3 {
+			away := 100 + (6716*7+131*machine+37*round)%400
+			plan.Faults = append(plan.Faults, sim.Fault{At: 1, Of: machine + 1, On: "lock: published", Kind: sim.Away,
+				After: begins + time.Duration(away)*time.Millisecond, Long: 300 * time.Millisecond})
+			plan.Clients = append(plan.Clients, sim.Client{Begins: begins, Machine: machine,
+				Numbers: numbers(5000+10*round, 5), Burst: true})
 		}
-		if result := sim.Run(plan, proved, false); result.Violation != nil {
-			t.Errorf("%v\n%s", result.Violation, sim.Explain(plan, proved))
-		}
+	}
+	result := sim.Run(plan, proved, false)
+	if result.Violation != nil {
+		t.Errorf("%v\n%s", result.Violation, sim.Explain(plan, proved))
+	}
+	if result.Counts[sim.LockRolledBack] != 1 {
+		t.Error("the lock was not rolled back")
 	}
 }

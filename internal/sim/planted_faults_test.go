@@ -452,8 +452,6 @@ var missed = map[string]string{
 		"ask for objects that a store lost",
 	"a state counts as published before the lock says so": "a node with a fault makes another step, and publishes its " +
 		"head",
-	"a request is looked up under a head that is looked at after the index": "none: the index seldom answers that " +
-		"late, and TestEntryComesWhileItIsLookedUp finds it",
 	"an older head that a reader read replaces a later one": "the head is compared with what the lock says is " +
 		"published, and the simulated readers ask a node one after the other",
 	"another content under a head's name counts as put": "mostly it is the same head with other cosignatures, and a " +

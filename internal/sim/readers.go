@@ -15,18 +15,26 @@ type reading struct {
 	of *process
 	// shown is the head that the node showed last, and newest the one that it returned last as the newest.
 	shown, newest signer.Head
-	// isAsked says that the node is asked for the newest head now.
-	isAsked bool
+	// asked is how many readers ask the node for the newest head now.
+	asked int
 }
 
-// askedEach is how many looks at a machine there are for each time that it is asked for the newest head.
-const askedEach = 6
+// Mostly there are askedEach looks at a machine for each time that it is asked for the newest head, by one reader at a
+// time. If readers are in haste, it is asked at each look, by up to maxAsked at a time.
+const (
+	askedEach = 6
+	maxAsked  = 3
+)
 
 // reader reads the head that each machine shows, now and then, and asks some of them for the newest one.
 func (w *world) reader() {
 	last := make([]*reading, len(w.machines))
+	each, most, looks := askedEach, 1, 400
+	if w.plan.Haste {
+		each, most, looks = 1, maxAsked, 40
+	}
 	for {
-		w.wait(time.Duration(20+w.random.Intn(400))*time.Millisecond, nil)
+		w.wait(time.Duration(20+w.random.Intn(looks))*time.Millisecond, nil)
 		for i, m := range w.machines {
 			if last[i] == nil || m.process != last[i].of {
 				last[i] = &reading{of: m.process}
@@ -34,7 +42,7 @@ func (w *world) reader() {
 			if m.node == nil {
 				continue
 			}
-			if !last[i].isAsked && w.random.Intn(askedEach) == 0 {
+			if last[i].asked < most && w.random.Intn(each) == 0 {
 				w.asksNewest(m, last[i])
 			}
 			if now := m.node.Snapshot(); now != nil {
@@ -60,22 +68,25 @@ func (w *world) looksAt(m *machine, now node.Snapshot, last *reading) {
 }
 
 // asksNewest asks a machine for the newest head, as who reads the checkpoint over HTTP does, and judges the answer. The
-// answer may be older than what is published only if something went wrong meanwhile.
+// answer may not be older than one that the machine gave before it was asked, and older than what is published only if
+// something went wrong meanwhile.
 func (w *world) asksNewest(m *machine, last *reading) {
-	n := m.node
-	last.isAsked = true
+	n, before := m.node, last.newest
+	last.asked++
 	w.spawn(m.process, func() {
 		ctx, cancel := within(w.background(), requestWithin)
 		defer cancel()
 		published, counts, isAway := w.stores.published, w.judge.counts, m.away > w.now
 		head, err := n.Newest(ctx)
-		last.isAsked = false
+		last.asked--
 		if err != nil {
 			return
 		}
 		w.isWhole(m, head.Head)
-		w.judge.read(m, head.Head, string(head.Note), last.newest)
-		last.newest = head.Head
+		w.judge.read(m, head.Head, string(head.Note), before)
+		if head.Timestamp > last.newest.Timestamp {
+			last.newest = head.Head
+		}
 		isCalm := counts == w.judge.counts && !isAway && !w.excuses.loss
 		if isCalm && (stores.Published{Size: head.Size, Timestamp: head.Timestamp}).Before(published) {
 			w.judge.breaks("a reader gets the newest head", "%s returns the head of %d entries at %d ms, and that of %d at "+

@@ -357,12 +357,27 @@ func (i index) find(ctx context.Context, what string, in map[stores.Identity]sto
 				found[key] = place
 			}
 		}
-		return nil
+		return i.dawdle(ctx)
 	})
 	if err != nil {
 		return nil, err
 	}
 	return found, nil
+}
+
+// lateAnswers is how late the index answers if the plan says so.
+const lateAnswers = 300 * time.Millisecond
+
+// dawdle has half of the answers come late, if the plan says so. By then the index may have more.
+func (i index) dawdle(ctx context.Context) error {
+	w := i.m.w
+	if !w.plan.Haste || w.events.calm || w.random.Intn(2) == 0 {
+		return nil
+	}
+	if err := w.sleep(ctx.(*simulated), lateAnswers); err != nil {
+		return unknown(err)
+	}
+	return nil
 }
 
 func (i index) Add(ctx context.Context, rows []stores.Row) error {
