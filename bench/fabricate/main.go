@@ -16,8 +16,13 @@ import (
 	"math/bits"
 	"os"
 	"path/filepath"
+	"slices"
 	"strconv"
 	"sync"
+
+	"github.com/syndtr/goleveldb/leveldb"
+	"github.com/syndtr/goleveldb/leveldb/filter"
+	"github.com/syndtr/goleveldb/leveldb/opt"
 
 	"wagtenib/internal/stores"
 )
@@ -29,6 +34,11 @@ const (
 	certificate = 60
 	// workers is how many goroutines make tiles.
 	workers = 2
+	// newest is how many of the last entries the index gets as a node adds them. Those before them it gets in the order of
+	// their keys, which LevelDB does not merge, and so takes several times as fast.
+	newest = 1_000_000
+	// indexBits is how many bits hold an entry's index while rows are put in order.
+	indexBits = 27
 )
 
 type hash = [32]byte
@@ -51,7 +61,9 @@ func entry(index, timestamp uint64) []byte {
 }
 
 // leafHash is MTH of the one leaf (RFC 6962, section 2.1): of MerkleTreeLeaf, which has version and type before the entry.
-func leafHash(entry []byte) hash { return sha256.Sum256(append([]byte{0, 0, 0}, entry...)) }
+func leafHash(entry []byte) hash {
+	return sha256.Sum256(append(make([]byte, 3, 128), entry...))
+}
 
 // identity is what the index knows an entry by: the hash of the entry's type and certificate.
 func identity(index uint64) hash {
@@ -121,7 +133,7 @@ type tree struct {
 
 // leaves writes the data tile and the hash tile of so many entries from a multiple of width on, and gives the hashes.
 func (t *tree) leaves(tile, wide int) (data []byte, hashes []hash) {
-	hashes = make([]hash, wide)
+	hashes, data = make([]hash, wide), make([]byte, 0, wide*(certificate+25))
 	for at := range hashes {
 		e := entry(uint64(width*tile+at), t.timestamp)
 		hashes[at] = leafHash(e)
@@ -202,12 +214,63 @@ func tiles(objects string, entries int, timestamp uint64) {
 	}
 }
 
+// ordered adds the rows of one table to LevelDB in the order of their keys. A row's key is a letter and a hash.
+func ordered(to *leveldb.DB, table byte, of func(uint64) hash, entries, timestamp uint64) error {
+	// Each has the first bits of the hash, followed by the index. LevelDB orders the few that have the same first bits.
+	rows := make([]uint64, entries)
+	for i := range entries {
+		h := of(i)
+		rows[i] = binary.BigEndian.Uint64(h[:])>>indexBits<<indexBits | i
+	}
+	slices.Sort(rows)
+	var batch leveldb.Batch
+	for at, row := range rows {
+		i := row & (1<<indexBits - 1)
+		h := of(i)
+		value := binary.AppendUvarint(binary.AppendUvarint(make([]byte, 0, 16), i), timestamp)
+		batch.Put(append([]byte{table}, h[:]...), value)
+		if batch.Len() == stores.MaxRows || at == len(rows)-1 {
+			if err := to.Write(&batch, nil); err != nil {
+				return err
+			}
+			batch.Reset()
+		}
+	}
+	return nil
+}
+
+// older adds the first entries to an index that does not exist yet, without syncing them.
+func older(folder string, entries, timestamp uint64) error {
+	to, err := leveldb.OpenFile(folder, &opt.Options{WriteBuffer: 2 << 20, CompactionTableSize: 2 << 20,
+		CompactionTotalSize: 256 << 20, CompactionL0Trigger: 8, WriteL0SlowdownTrigger: 64, WriteL0PauseTrigger: 128,
+		Filter: filter.NewBloomFilter(10), Compression: opt.NoCompression, DisableSeeksCompaction: true, NoSync: true})
+	if err != nil {
+		return err
+	}
+	// (identities before leaves, as the letters are ordered)
+	if err := ordered(to, 'i', identity, entries, timestamp); err != nil {
+		return err
+	}
+	leaf := func(i uint64) hash { return leafHash(entry(i, timestamp)) }
+	if err := ordered(to, 'l', leaf, entries, timestamp); err != nil {
+		return err
+	}
+	return to.Close()
+}
+
 // index adds entries to the index in a folder.
 func index(folder string, entries, timestamp uint64) {
+	first := entries - min(entries, newest)
+	if first > 1<<indexBits {
+		stop(fmt.Errorf("%d entries are more than can be put in order", entries))
+	}
+	if first > 0 {
+		stop(older(folder, first, timestamp))
+	}
 	to, err := stores.OpenLevelDB(context.Background(), folder)
 	stop(err)
 	rows := make([]stores.Row, 0, stores.MaxRows)
-	for i := range entries {
+	for i := first; i < entries; i++ {
 		rows = append(rows, stores.Row{Identity: identity(i), Leaf: leafHash(entry(i, timestamp)),
 			Place: stores.Place{Index: i, Timestamp: timestamp}})
 		if len(rows) == stores.MaxRows || i == entries-1 {
