@@ -1,0 +1,107 @@
+#!/usr/bin/env python3
+"""Says where the processor time of an entry goes, by part: of ctserve, of its signer and of bench/ideal, by turns, with perf (Debian's linux-perf).
+
+    parts.py [--turns 2] [--seconds 8] [--clients 64]
+
+In each turn ctload submits to one of the two logs, on a folder, while perf records where its processes are, some 500 times a second of processor time, with the
+calls that led there. A record counts for the first part that fits one of these calls, from the innermost call on. What the kernel does counts for the part
+of the program that called it. The table has, for each process, the microseconds of an entry (the means of the turns) and the ratio of the sums. `make service` builds ctserve and ctload.
+"""
+import argparse
+import collections
+import os
+import pathlib
+import re
+import subprocess
+import tempfile
+
+from served import HERE, OUT, Log, below, load, machine, run, size_of
+from speed import Ideal
+
+# The parts, by the names of functions of any of the calls, from the innermost on; the first that fits counts.
+PARTS = [(name, re.compile(pattern)) for name, pattern in (
+    ("SHA-256 of the proved code", r"^(?!crypto|internal).*(Sha256|sha2::|sha256_)"),
+    ("the proved code otherwise", r"^(ct_\w+|shared|std|core|alloc|libwagtenib|sha2)::|wagtenib_|^rattle"),
+    ("SHA-256 of Go", r"sha256"),
+    ("ECDSA: chains checked and signatures made", r"^crypto/(ecdsa|elliptic)|nistec|/ecdsa|bigmod|drbg|^crypto/internal/fips140/(hmac|sha512)|^crypto/rand"),
+    ("garbage collection and allocation", r"^runtime\.(gc|bgsweep|bgscavenge|sweep|scan|mallocgc|greyobject|markroot|newobject|makeslice|growslice|wbBufFlush|\(\*(mspan|mheap|mcache|mcentral|gcWork|sweepLocked))"),
+    ("the index: LevelDB, or a file", r"goleveldb|^main\.\(\*places\)|internal/stores\.\(\*inLevelDB"),
+    ("lines between ctserve and the signer", r"internal/(signer|jsonline|pipe|lines)"),
+    ("files: objects, lock and guard's state", r"^os\.|internal/stores|^syscall\.(Fsync|Rename|Open|Unlink)|^main\.\(\*(tree|object)"),
+    ("limits, metrics and clocks", r"prometheus|internal/(httpserver|limits|metrics)"),
+    ("X.509 and the rules of chains", r"^crypto/x509|cryptobyte|^encoding/asn1|internal/(chains|chain)|^math/big"),
+    ("JSON and base64", r"^encoding/(json|base64)"),
+    ("HTTP and connections", r"^net/http|^net\.|^bufio|^net/textproto|^internal/poll"),
+    ("waking and choosing goroutines", r"^runtime\.(schedule|findRunnable|mcall|park_m|futex|notewakeup|startm|wakep|mstart|netpoll|gosched|goready|ready|systemstack|chan|select|usleep|osyield|sysmon|stealWork|lock|unlock|semrelease|semacquire)"),
+)]  # fmt: skip
+KERNEL, REST = "kernel, no caller seen", "all else"
+FRAME = re.compile(r"^\s+[0-9a-f]+ (.*) \((.*)\)$")
+
+
+def part_of(frames):
+    """The part of a record: the names of its calls, from the innermost on, each with whether it is the kernel's."""
+    own = [name for name, is_kernel in frames if not is_kernel]
+    for name in own:
+        for part, pattern in PARTS:
+            if pattern.search(name):
+                return part
+    return REST if own else KERNEL
+
+
+def records(text):
+    """The process and the calls of each record of perf script."""
+    for one in text.split("\n\n"):
+        head, *lines = one.strip("\n").split("\n")
+        if found := re.match(r"\s*.*?\s(\d+)/\d+", head):
+            calls = [re.sub(r"\+0x[0-9a-f]+$", "", match[1]) + "\0" + match[2] for match in map(FRAME.match, lines) if match]
+            yield int(found[1]), [(name, "kernel" in where or where.startswith("[")) for name, _, where in (call.partition("\0") for call in calls)]
+
+
+def recorded(log, words, folder):
+    """The microseconds of an entry by process and part, in one turn."""
+    ids, data = below(*log.ids()), folder / "perf.data"
+    had = size_of(log)
+    perf = subprocess.Popen(["perf", "record", "-q", "-e", "cpu-clock", "-F", "499", "-g", "-o", data, "-p", ",".join(map(str, ids))], stderr=subprocess.DEVNULL)
+    load(log, words.clients, "--for", f"{words.seconds}s", "--ready", min(3000, 100 * words.clients) * words.seconds)
+    perf.terminate()
+    perf.wait()
+    entries = size_of(log) - had
+    found = collections.defaultdict(collections.Counter)
+    for process, frames in records(run("perf", "script", "-i", data, "-F", "pid,tid,comm,ip,sym,dso")):
+        found["signer" if process != log.ids()[0] else "log"][part_of(frames)] += 1e6 / 499 / entries
+    return found
+
+
+def main():
+    parser = argparse.ArgumentParser(description=__doc__, formatter_class=argparse.RawDescriptionHelpFormatter)
+    parser.add_argument("--turns", type=int, default=2)
+    parser.add_argument("--seconds", type=int, default=8)
+    parser.add_argument("--clients", type=int, default=64)
+    words, logs = parser.parse_args(), {}
+    with tempfile.TemporaryDirectory(dir=os.environ.get("TMPDIR")) as work:
+        work, sums = pathlib.Path(work), collections.defaultdict(collections.Counter)
+        program = work / "program"
+        run(HERE.parent / "deps" / "go", "-C", HERE.parent, "build", "-o", program, "./bench/ideal")
+        try:
+            logs["ctserve"], logs["ideal"] = Log(work / "ctserve", OUT), Ideal(work / "ideal", program)
+            print(f"{words.turns} turns of {words.seconds} s with {words.clients} clients on {machine()}; a load of {os.getloadavg()[0]:.1f} before\n", flush=True)
+            for log in logs.values():
+                load(log, words.clients, "--for", "1s")
+            for number in range(words.turns):
+                for name, log in list(logs.items())[:: 1 if number % 2 == 0 else -1]:
+                    for process, parts in recorded(log, words, work).items():
+                        for part, took in parts.items():
+                            sums[name if process == "log" else process][part] += took / words.turns
+        finally:
+            for log in logs.values():
+                log.end()
+    columns = "ctserve", "signer", "ideal"
+    print("| Part, µs of an entry | `ctserve` | its signer | ideal |\n|---|---|---|---|")
+    for part in [*(name for name, _ in PARTS), KERNEL, REST]:
+        print(f"| {part} | {' | '.join(f'{sums[column][part]:.0f}' for column in columns)} |")
+    whole = [sum(sums[column].values()) for column in columns]
+    print(f"| sum | {' | '.join(f'{one:.0f}' for one in whole)} |\n\n`ctserve` with its signer over ideal: {(whole[0] + whole[1]) / max(whole[2], 1e-9):.2f}")
+
+
+if __name__ == "__main__":
+    main()
