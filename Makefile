@@ -1,7 +1,6 @@
-.PHONY: help demo test check deps service service-test service-race service-engines service-soak histories service-audit service-clients cluster cluster-status cluster-stop link link-emulated dist install install-library install-ctlog fuzz load sweep wrong sources serve serve-witness programs release reproduce bare container pages
+.PHONY: help demo test check deps service service-test service-race service-engines service-soak histories service-audit service-clients cluster cluster-status cluster-stop link link-emulated dist install install-library install-ctlog fuzz sweep wrong sources serve serve-witness programs release reproduce bare container
 
 SECONDS ?= 60
-RUNS ?= 20
 PREFIX ?= /usr/local
 PORT ?= 8618
 BUILT ?= crates
@@ -144,11 +143,6 @@ container: ## builds the image of release/Containerfile out of a release's packa
 	@checks/needs.sh service
 	@PYTHONDONTWRITEBYTECODE=1 tests/bare/container.py --built "$(BUILT)"
 
-# As root, with the kit. It names the commands that others run, and those that it leaves out. PROOFS=no leaves out those that need a proof.
-pages: ## runs the commands of README.md and of the other pages in a fresh clone, as they are written and in their order (the gate runs the quick ones, without the kit)
-	@checks/needs.sh test
-	@PYTHONDONTWRITEBYTECODE=1 tests/pages.py $(if $(filter no,$(PROOFS)),--without-proofs)
-
 reproduce: ## builds the programs of the Go part, and those of the crates that are proved here, twice in folders of other names, and compares their bytes
 	@release/reproduce.sh
 
@@ -156,18 +150,11 @@ reproduce: ## builds the programs of the Go part, and those of the crates that a
 fuzz: ## runs ctlog on random and damaged lines for SECONDS=60, and compares it with an independent program
 	@PYTHONDONTWRITEBYTECODE=1 python3 tests/fuzz.py --seconds $(SECONDS)
 
-# After the same, and after `rt test` in crates/house_tests.
-load: ## runs the tests with sixteen threads and a shutdown among them 50 times and ctlog so RUNS=20 times, and judges each output
-	@PYTHONDONTWRITEBYTECODE=1 python3 tests/repeat.py
-	@PYTHONDONTWRITEBYTECODE=1 python3 tests/load.py --runs $(RUNS)
-	@PYTHONDONTWRITEBYTECODE=1 python3 tests/load.py --runs $(RUNS) --shifts 3
-
 # After `rt run -- --help` in crates/ctlog and `rt test` in crates/house_tests, which build what is swept.
-sweep: ## refuses each allocation of ctlog and of the library's calls in turn, and judges what they then do; adds up ctlog's, shortens reads and writes, and gives it a long line
+sweep: ## refuses each allocation of ctlog and of the library's calls in turn, and judges what they then do; adds up ctlog's, and gives it a long line
 	@PYTHONDONTWRITEBYTECODE=1 python3 tests/memory.py
 	@PYTHONDONTWRITEBYTECODE=1 python3 tests/sweep.py
 	@PYTHONDONTWRITEBYTECODE=1 python3 tests/growths.py
-	@PYTHONDONTWRITEBYTECODE=1 python3 tests/short_calls.py
 	@PYTHONDONTWRITEBYTECODE=1 python3 tests/long_lines.py
 
 # After `make check`, over whose work it goes. The first line of an edit says which gates try it.

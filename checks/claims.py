@@ -180,8 +180,8 @@ CLAIMS = [
             Contract("ct_verify/src/consistency.rt", "verify_consistency", [], "The verdict on a consistency proof."),
             Contract("ct_verify/src/laws.rt", "path", ["accepted"], "Honest paths are accepted."),
             Contract("ct_verify/src/laws.rt", "proof", ["accepted"], "Honest proofs are accepted."),
-            Contract("ct_older_tree/src/lib.rt", "lists", [], "An accepted path shows the leaf in the list, an accepted proof that the old list is a beginning of the new one."),
-            Contract("ct_older_tree/src/lib.rt", "heads", [], "Under consistent heads no two clients are shown two different leaves at one index."),
+            Contract("ct_verify/src/meaning.rt", "lists", [], "An accepted path shows the leaf in the list, an accepted proof that the old list is a beginning of the new one."),
+            Contract("ct_verify/src/meaning.rt", "heads", [], "Under consistent heads no two clients are shown two different leaves at one index."),
             Contract(
                 "ct_monitor/src/auditor.rt",
                 "explain",

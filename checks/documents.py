@@ -184,10 +184,10 @@ WRONG = """# A page
     no line of it
 
 <!-- from Makefile -->
-    RUNS ?= 20 PREFIX ?= /usr/local
+    SECONDS ?= 60 PREFIX ?= /usr/local
 """
 WRONG_IN = ["no-such-page.md leads", "#no-such-heading leads", "src/absent.rt is", "Front::absent occurs", "absent() is", "AbsentWord occurs"]
-WRONG_IN += ["make nothing is", "make neither is", "not in Makefile", "on more than one line of Makefile: RUNS"]
+WRONG_IN += ["make nothing is", "make neither is", "not in Makefile", "on more than one line of Makefile: SECONDS"]
 
 
 # How a crate states the version of its program: a text that is proved to be printed cannot be read from a file.

@@ -1,19 +1,6 @@
 #!/usr/bin/env python3
-"""Runs `rt ci`, the merge gate, and prints each of its lines after the time so far. After `rt ci` has built the programs, it runs
-
-- each program with arguments of its own (tests/command_lines.py);
-- ctlog over sessions (tests/sessions.py);
-- all programs while some allocations are refused (tests/sweep.py);
-- a comparison of dist/ with a new build (checks/dist.py);
-- comparisons of the library in dist/ with models (tests/library/guard.py, step.py, witness.py, monitor.py, node.py, names.py, data_tiles.py, texts.py,
-  proofs.py), by the Python package, and of the Rust crate with some of these (tests/library/rust.py);
-- calls of the library without memory (tests/library/refusals.py), with NULL and in many threads (tests/library/replays.py), and over large inputs
-  (tests/library/cost.py);
-- a comparison of its build option with the proved code (tests/library/sha_instructions.py);
-- a comparison of the Python package with the header (bindings/python/tests/compare.py);
-- the programs in C and the Go, Python and Rust packages for arm64 (tests/library/arm64.py);
-- a crate that the prover must refuse (tests/linear.py);
-- and the parts of the demo (examples/demo.sh).
+"""Runs `rt ci`, the merge gate, and prints each of its lines after the time so far. After `rt ci` has built the programs, it runs SCRIPTS: ctlog over command
+lines, sessions and refused allocations, comparisons of the library in dist/ with models, and the parts of the demo (checks/README.md).
 
 The last line of `rt ci`, 'N passed, M failed', is printed again with these and the tests of the Go part included. The file named by COUNT in the
 environment has how many Go tests passed and failed. The status is that of `rt ci`, or 1 if one of these failed.
@@ -49,43 +36,21 @@ EACH, IN_TURN = "tried: by each gate", "tried: by every ninth gate"
 
 # The message about the tests that it does not run.
 SKIPPED = """It leaves out {} others (make wrong CRATE=..), the tests of the service under the race detector, over engines, with kills and with other programs (make
-service-race, service-engines, service-clients), and longer tests (make fuzz, load, sweep, link)."""
+service-race, service-engines, service-clients), and longer tests (make fuzz, sweep, link)."""
 
 # About the maximum memory that a proof was seen to take, in bytes.
 MEMORY = 4_000_000_000
 
-# The parts of the demo.
-DEMO = ("path", "log")
-
-# The scripts that run over the proved code: comparisons of dist/ with it, and a crate that the prover must refuse.
-OF_DIST = (
-    "checks/dist.py",
-    "tests/library/guard.py",
-    "tests/library/step.py",
-    "tests/library/witness.py",
-    "tests/library/monitor.py",
-    "tests/library/node.py",
-    "tests/library/names.py",
-    "tests/library/data_tiles.py",
-    "tests/library/texts.py",
-    "tests/library/proofs.py",
-    "tests/library/refusals.py",
-    "tests/library/cost.py",
-    "tests/library/replays.py",
-    "tests/library/rust.py",
-    "tests/library/sha_instructions.py",
-    "bindings/python/tests/compare.py",
-    "tests/library/arm64.py",
-    "tests/linear.py",
-)
+# The scripts that run after the proofs, over what these have built, with their arguments (make sweep refuses each allocation).
+SCRIPTS = [
+    *("tests/command_lines.py", "tests/sessions.py", "tests/sweep.py --step 40", "checks/dist.py"),
+    *(f"tests/library/{name}.py" for name in ("guard", "step", "witness", "monitor", "node", "names", "data_tiles", "texts", "proofs")),
+    *(f"tests/library/{name}.py" for name in ("refusals", "cost", "replays", "rust", "sha_instructions", "arm64")),
+    *("bindings/python/tests/compare.py", "tests/linear.py", "examples/demo.sh path", "examples/demo.sh log"),
+]
 
 # What such a script says if it can compare nothing here, so that it is not counted.
 NOTHING = re.compile("nothing was compared|no test was run")
-
-# How the programs are broken off: each fortieth allocation is refused (make sweep refuses every one).
-BROKEN_OFF = (
-    ("sweep.py", "--step", "40"),
-)
 
 # How often it says that the gate is still at work, in seconds, while nothing else happens.
 EVERY = 60
@@ -229,36 +194,17 @@ def with_go(last):
     return f"{passed} passed, {failed} failed"
 
 
-def count_sessions(ran):
-    """Returns how many sessions were as expected, and how many were not: at least one if the script failed, which it also does if it cannot read one."""
-    counts = re.findall(r"^\w+: (\d+) sessions as due(?:, (\d+) not)?", ran.stdout, re.M)
-    return sum(int(due) for due, _ in counts), max(sum(int(others or 0) for _, others in counts), 1 if ran.returncode else 0)
-
-
 def run_programs():
-    """Runs the tests of the programs that `rt ci` has built, and returns how many passed, and how many failed."""
-    how = {"stdout": subprocess.PIPE, "stderr": subprocess.STDOUT, "text": True, "errors": "replace"}
-    words = subprocess.run([sys.executable, ROOT / "tests" / "command_lines.py"], **how)
-    print(words.stdout, end="", flush=True)
-    passed, failed = len(re.findall(r" as due$", words.stdout, re.M)), 1 if words.returncode else 0
-    sessions = subprocess.run([sys.executable, ROOT / "tests" / "sessions.py"], **how)
-    print(sessions.stdout, end="", flush=True)
-    due, others = count_sessions(sessions)
-    passed, failed = passed + due, failed + others
-    for script, *given in BROKEN_OFF:
-        broken = subprocess.run([sys.executable, ROOT / "tests" / script, *given], **how)
-        print(broken.stdout if broken.returncode else f"{' '.join([script, *given])}: as due", flush=True)
-        passed, failed = passed + (not broken.returncode), failed + (broken.returncode != 0)
-    for script in OF_DIST:
-        compared = subprocess.run([sys.executable, ROOT / script], **how)
-        left_out = [line for line in compared.stdout.splitlines() if " left out" in line or NOTHING.search(line)]
+    """Runs SCRIPTS, and returns how many passed, and how many failed. A script that compared nothing counts as neither."""
+    passed = failed = 0
+    for line in SCRIPTS:
+        script, *given = line.split()
+        words = [*[sys.executable] * script.endswith(".py"), ROOT / script, *given]
+        ran = subprocess.run(words, stdout=subprocess.PIPE, stderr=subprocess.STDOUT, text=True, errors="replace")
+        left_out = [told for told in ran.stdout.splitlines() if " left out" in told or NOTHING.search(told)]
         is_tried = not any(map(NOTHING.search, left_out))
-        print(compared.stdout if compared.returncode else "\n".join([*left_out, *[f"{script}: as due"] * is_tried]), flush=True)
-        passed, failed = passed + (not compared.returncode and is_tried), failed + (compared.returncode != 0)
-    for part in DEMO:
-        shown = subprocess.run([ROOT / "examples" / "demo.sh", part], **how)
-        print(shown.stdout if shown.returncode else f"the demo's part {part}: as due", flush=True)
-        passed, failed = passed + (not shown.returncode), failed + (shown.returncode != 0)
+        print(ran.stdout if ran.returncode else "\n".join([*left_out, *[f"{line}: as due"] * is_tried]), flush=True)
+        passed, failed = passed + (not ran.returncode and is_tried), failed + (ran.returncode != 0)
     return passed, failed
 
 

@@ -49,8 +49,8 @@ STREAM = re.compile(r"(?<!fn )(?<![.\w])(?:send|write_whole|write_bytes|tell|nex
 # How long a line waits.
 WAITS = {
     "ctlog/src/program.rt": {"TURNS": "50_000_000"},
-    "ct_parties/src/operator_work.rt": {"ENOUGH": "16"},
-    "ct_parties/src/waiting.rt": {
+    "ct_workers/src/operator_work.rt": {"ENOUGH": "16"},
+    "ct_workers/src/waiting.rt": {
         **{"GLANCES_FOR_HEADS": "0", "MILLISECONDS_FOR_HEADS": "4", "GLANCES_FOR_FRONT": "64", "MILLISECONDS_FOR_FRONT": "1"},
         **{"LOOKS": "16_384"},
     },
@@ -71,11 +71,11 @@ TOLD = {
         **dict.fromkeys(("ReadFailed", "WriteFailed"), (1, "with the reader's, or the writer's, error")),
     },
     "ctlog/src/command.rt": dict.fromkeys(("ErrorKind::ValueValidation", "ErrorKind::InvalidValue"), (1, "clap's kind of a refusal, which a clause pins")),
-    "ct_parties/src/front_work.rt": {"Late": (1, "after the last turn of a line that waits")},
-    "ct_parties/src/operator_work.rt": {"Late": (1, "after the last turn of a line that waits")},
+    "ct_workers/src/front_work.rt": {"Late": (1, "after the last turn of a line that waits")},
+    "ct_workers/src/operator_work.rt": {"Late": (1, "after the last turn of a line that waits")},
     "ct_lines/src/plan_reading.rt": {"Read": (1, "after the last turn over the lines")},
-    "ct_parties/src/script.rt": {"Write": (2, "a reply of the closed log could not be written whole, or the output not handed on")},
-    "ct_parties/src/threads.rt": {"Threads": (1, "a front's thread could not be started")},
+    "ct_workers/src/script.rt": {"Write": (2, "a reply of the closed log could not be written whole, or the output not handed on")},
+    "ct_workers/src/threads.rt": {"Threads": (1, "a front's thread could not be started")},
     "ct_data_tiles/src/entry_bytes.rt": {"Unwritten": (1, "of a leaf's bytes that were not made, a conversion of its own")},
     "ct_house/src/shelf.rt": {"NotAppended": (2, "`append` handed it back")},
     "ct_house/src/viewer.rt": {"Closed": (3, "no state is shown, or the state shown is older than the one learned")},

@@ -9,7 +9,7 @@ No contract can say that an allocator refused. So this script checks the sources
 - The library for C has a number for it, 8 or OUT_OF_MEMORY, which occurs only after a pattern that names the error.
 - No allocation is requested that may be more than a machine has room for. The number of elements is a sum of lengths, of parameters, and of literals
   below 2^20, by way of `let`s of its function and constants. The same holds for the value of such a parameter at each call (`capacity.py`). Only
-  shared/src/count.rt requests the maximum, after the last number.
+  shared_list/src/count.rt requests the maximum, after the last number.
 - No array has 2^20 elements or more. Only a process's arguments are collected from an iterator, because an iterator may claim any number of items.
 - No source names `forget`, `leak` or `ManuallyDrop`.
 
@@ -35,7 +35,7 @@ NUMBERED, NUMBER = (
 )
 CONSTANT = re.compile(r"\buse [^;]*;|\bpub const OUT_OF_MEMORY: u32 = 8;")
 # The one file that may request the maximum number of elements.
-COUNT = "shared/src/count.rt"
+COUNT = "shared_list/src/count.rt"
 # An allocation for as many items as an iterator claims: only for a process's arguments, because a range may claim any number.
 ITEMS = re.compile(r"(?:\.(?:collect|extend)|\bfrom_iter)\s*(?:::<[^;()]*>)?\s*\(")
 WORDS = re.compile(r"\benv::args\(rt\)\?$")

@@ -124,8 +124,8 @@ END
   show "the frozen log" "$(lines_of '"frozen"')"
   echo "In three runs each of the $(grep -c . "$work/four-fronts") replies is the expected one, and the tickets are those that were to be given, each once."
   recompute 4 four-fronts
-  echo "Another (tests/check.py) finds in what ctlog wrote:"
   python3 tests/check.py 4 examples/four-fronts.jsonl "$work/four-fronts" || fail "tests/check.py finds a fault"
+  echo "Another (tests/check.py) finds that the tickets, the order of the entries, and all receipts and proofs in it are right."
 }
 
 case $1 in

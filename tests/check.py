@@ -1,18 +1,15 @@
 #!/usr/bin/env python3
-"""Checks what ctlog wrote for an input, with hashlib only, and prints what was found to hold.
+"""Checks what ctlog wrote for an input, with hashlib only: check.py FRONTS INPUT OUTPUT
 
-    check.py FRONTS INPUT OUTPUT
-
-It takes the log at its word in nothing: roots are computed from the entries that `get-entries` returns, proofs are checked
-by the steps of RFC 9162, section 2.1.3, receipts against the entries and the submissions, and the order of the entries
-against the operator's settlements. Its output doesn't depend on how the threads ran. The input asks the frozen log for
-all entries, page by page, and for its tree head at the end.
+It takes the log at its word in nothing: roots are computed from the entries that `get-entries` returns, proofs are checked by merkle.py, receipts against the
+entries and the submissions, and the order of the entries against the operator's settlements. The input asks the frozen log for all entries, page by page, and
+for its tree head at the end.
 """
-import argparse
 import base64
 import collections
 import functools
 import json
+import pathlib
 import sys
 
 import merkle
@@ -82,8 +79,6 @@ class Checker:
             claim(own == sorted(own), f"the tickets of front {who} don't rise")
         accepted = [reply["accepted"] for _, reply in self.replies_to("shutdown")]
         claim(accepted == [len(numbers)], "the shutdown counted other submissions")
-        fronts = len({request["who"] for request, _ in self.submissions})
-        return f"{len(numbers)} submissions of {fronts} fronts: the tickets are 0 to {len(numbers) - 1}, each once, and rise at each front"
 
     def entry_at(self, index):
         """The entry type and the signed entry of a leaf."""
@@ -108,8 +103,7 @@ class Checker:
         for request, reply in self.pairs:
             claim(reply.get("error") != "late", "a line waited in vain")
             if "settled" in reply:
-                least, most = (0, min(request["max"], 256)) if request["op"] == "take" else (request["count"], request["count"])
-                claim(least <= reply["settled"] <= most, "another number was settled than was asked for")
+                claim(reply["settled"] == request["count"], "another number was settled than was asked for")
                 settle(request["from"], reply["settled"], request["now"])
             if "shift" in reply:
                 for front in sorted(waiting):
@@ -119,7 +113,6 @@ class Checker:
         for front in sorted(waiting):
             settle(front, len(waiting[front]), self.final["timestamp"])
         claim(entries == self.leaves, "the entries aren't in the order in which they were settled")
-        return f"{len(self.indexes)} settlements give these {len(entries)} entries, in their order and with their timestamps"
 
     def entries_are_submissions(self):
         submitted = [entry_of(request) for request, _ in self.submissions]
@@ -129,8 +122,6 @@ class Checker:
         chains = {(entry_of(request), extra_data_of(request)) for request, _ in self.submissions}
         for index, entry in enumerate(self.entries):
             claim((self.entry_at(index), bytes_of(entry["extra_data"])) in chains, f"entry {index} has another chain")
-        repeats, precerts = len(submitted) - len(logged), sum(entry.startswith(PRECERT_ENTRY) for entry in logged)
-        return f"{len(logged)} entries, {precerts} of precertificates: each submitted one has one leaf; {repeats} submissions were repeats"
 
     def tree_heads(self):
         heads = [reply for _, reply in self.replies_to("get-sth")]
@@ -145,13 +136,9 @@ class Checker:
         published = {(reply["tree_size"], reply["timestamp"]) for reply in [final, *(head for _, head in self.replies_to("publish"))]}
         claim({(head["tree_size"], head["timestamp"]) for head in heads if head["tree_size"]} <= published, "a head wasn't published")
         claim(final["tree_size"] == len(self.leaves), "the final head doesn't cover all entries")
-        sizes = ", ".join(map(str, self.heads + [final["tree_size"]]))
-        return f"{len(self.heads) + 1} tree heads, of sizes {sizes}; the final root {final['sha256_root_hash']} is that of the entries"
 
     def inclusion_proofs(self):
-        asked = self.replies_to("get-proof-by-hash") + self.replies_to("get-entry-and-proof")
-        said = []
-        for request, reply in asked:
+        for request, reply in self.replies_to("get-proof-by-hash") + self.replies_to("get-entry-and-proof"):
             size = request["tree_size"]
             index = reply.get("leaf_index", request.get("leaf_index"))
             leaf = bytes_of(reply["leaf_input"]) if "leaf_input" in reply else self.leaves[index]
@@ -159,62 +146,41 @@ class Checker:
             claim(leaf == self.leaves[index], "an entry isn't the log's")
             path = all_bytes(reply["audit_path"])
             claim(merkle.includes(leaf, index, size, path, self.root_at(size)), "an inclusion proof fails")
-            said.append(f"leaf {index} at size {size}")
-        return f"{len(asked)} inclusion proofs verify: {'; '.join(said)}"
 
     def consistency_proofs(self):
-        asked = self.replies_to("get-sth-consistency")
-        said = []
-        for request, reply in asked:
+        for request, reply in self.replies_to("get-sth-consistency"):
             first, second = request["first"], request["second"]
             path = all_bytes(reply["consistency"])
             roots = self.root_at(first), self.root_at(second)
             claim(merkle.extends(first, second, *roots, path), "a consistency proof fails")
-            said.append(f"{first} to {second}")
-        return f"{len(asked)} consistency proofs verify: {'; '.join(said)}"
 
     def receipts(self):
         entries = {ticket: entry_of(request) for request, ticket in self.submissions}
-        asked = self.replies_to("receipt")
-        for request, reply in asked:
+        for request, reply in self.replies_to("receipt"):
             index = reply["leaf_index"]
             claim(index == self.indexes[request["ticket"]], "a receipt names another index")
             claim(entries[request["ticket"]] == self.entry_at(index), "a receipt names another entry")
             claim(reply["timestamp"] == int.from_bytes(self.leaves[index][2:10], "big"), "a receipt has another timestamp")
-        return f"{len(asked)} receipts agree with the entries and with what the tickets were given for"
 
     def audits(self):
-        asked = self.replies_to("audit")
-        for request, reply in asked:
+        for request, reply in self.replies_to("audit"):
             size, path = request["tree_size"], all_bytes(request["audit_path"])
             leaf, index = bytes_of(request["leaf_input"]), request["leaf_index"]
             holds = merkle.includes(leaf, index, size, path, self.root_at(size))
             claim(reply["verdict"] == ("holds" if holds else "refused"), "an audit has another verdict")
-        verdicts = ", ".join(reply["verdict"] for _, reply in asked)
-        return f"{len(asked)} audits have the right verdict: {verdicts}"
 
     def shifts(self):
         numbers = [reply["shift"] for _, reply in self.replies_to("shift")]
         claim(numbers == list(range(1, len(numbers) + 1)), "the shifts aren't numbered in order")
-        count = len(numbers) + 1
-        return f"{count} shift{'' if count == 1 else 's'}, numbered in order"
-
-    def refusals(self):
-        names = [reply["error"] for _, reply in self.pairs if "error" in reply]
-        return f"{len(names)} refusals: {', '.join(sorted(names))}"
 
 
 def vector(value):
     return len(value).to_bytes(3, "big") + value
 
 
-def is_precert(request):
-    return request["op"] == "add-pre-chain"
-
-
 def entry_of(request):
     """The entry type and the signed entry of a submission (RFC 6962, section 3.1)."""
-    if is_precert(request):
+    if request["op"] == "add-pre-chain":
         return PRECERT_ENTRY + bytes_of(request["issuer_key_hash"]) + vector(bytes_of(request["tbs"]))
     return X509_ENTRY + vector(bytes_of(request["chain"][0]))
 
@@ -222,35 +188,22 @@ def entry_of(request):
 def extra_data_of(request):
     """The certificates after the first as a chain, and a precertificate in front of it (section 4.6)."""
     first, *issuers = all_bytes(request["chain"])
-    return (vector(first) if is_precert(request) else b"") + vector(b"".join(map(vector, issuers)))
-
-
-def found_by(checker):
-    checks = [checker.tickets, checker.settlement_order, checker.entries_are_submissions, checker.tree_heads, checker.inclusion_proofs]
-    return [check() for check in [*checks, checker.consistency_proofs, checker.receipts, checker.audits, checker.shifts, checker.refusals]]
+    return (vector(first) if request["op"] == "add-pre-chain" else b"") + vector(b"".join(map(vector, issuers)))
 
 
 def checked(fronts, given, written):
-    """The statements that were found true of the replies to an input, kind by kind."""
+    """Fails with Wrong if the replies to an input don't hold."""
     requests = requests_of(given.split("\n"), fronts)
     replies = [json.loads(line) for line in written.splitlines()]
     claim(len(requests) == len(replies), f"{len(requests)} requests, but {len(replies)} replies")
-    return found_by(Checker(list(zip(requests, replies))))
-
-
-def main():
-    words = argparse.ArgumentParser()
-    words.add_argument("fronts", type=int)
-    words.add_argument("input")
-    words.add_argument("output")
-    words = words.parse_args()
-    with open(words.input, encoding="utf-8") as given, open(words.output, encoding="utf-8") as written:
-        try:
-            for found in checked(words.fronts, given.read(), written.read()):
-                print(f"  {found}")
-        except (Wrong, KeyError, IndexError, ValueError) as fault:
-            sys.exit(f"check.py: {fault!r}")
+    checker = Checker(list(zip(requests, replies)))
+    for check in (checker.tickets, checker.settlement_order, checker.entries_are_submissions, checker.tree_heads, checker.inclusion_proofs, checker.consistency_proofs,
+                  checker.receipts, checker.audits, checker.shifts):
+        check()
 
 
 if __name__ == "__main__":
-    main()
+    try:
+        checked(int(sys.argv[1]), *(pathlib.Path(path).read_text() for path in sys.argv[2:4]))
+    except (Wrong, KeyError, IndexError, ValueError) as fault:
+        sys.exit(f"check.py: {fault!r}")

@@ -1,7 +1,6 @@
 #!/usr/bin/env python3
 """Tries the scripts around proofs, over a made-up repository and an `rt` that is a script. Each must see the fault that it is for: gate.py a test that fails, and
-an end by a signal; wrong_bodies.py what a killed gate left; architecture.py a dependency on a later room; prove.py a crate that changes during its proof;
-build.py the end of its terminal; definitions.py a statement that some two strings collide.
+an end by a signal; wrong_bodies.py what a killed gate left; definitions.py a statement that some two strings collide.
 
 It prints nothing if everything is right. Otherwise it prints the fault and ends with status 1.
 """
@@ -17,7 +16,6 @@ import tempfile
 ROOT = pathlib.Path(__file__).resolve().parent.parent
 sys.path.insert(1, str(ROOT / "checks"))
 
-import architecture  # noqa: E402
 import definitions  # noqa: E402
 import gate  # noqa: E402
 import wrong_bodies  # noqa: E402
@@ -37,12 +35,12 @@ def fail(why):
 
 
 class Repository:
-    """A repository of one crate, a library, with some of the scripts, and beside it an `rt` and a room for copies."""
+    """A repository of one crate, a library, with some of the scripts, and beside it an `rt`."""
 
     def __init__(self, top):
         folder = self.folder = top / "repository"
-        self.crate, self.bin, self.room = folder / "crates" / "made_up", top / "bin", top / "room"
-        for path in ("checks/gate.py", "checks/source.py", "checks/wrong_bodies.py", "checks/prove.py", "examples/build.py", ".gitignore"):
+        self.crate, self.bin = folder / "crates" / "made_up", top / "bin"
+        for path in ("checks/gate.py", "checks/source.py", "checks/wrong_bodies.py", ".gitignore"):
             (folder / path).parent.mkdir(parents=True, exist_ok=True)
             shutil.copy(ROOT / path, folder / path)
         (folder / "crates.txt").write_text("made_up:\n")
@@ -52,7 +50,6 @@ class Repository:
         self.put("src", {"lib.rt": "one\n"})
         self.put("wrong-bodies", WRONG)
         self.bin.mkdir()
-        self.room.mkdir()
 
     def put(self, name, texts):
         """Has a folder of the crate hold these files."""
@@ -68,7 +65,7 @@ class Repository:
         """Runs a script, with an `rt` that does this; its status, and all that it wrote."""
         (self.bin / "rt").write_text(f"#!/bin/sh\n{rt}\n")
         (self.bin / "rt").chmod(0o755)
-        place = {**os.environ, "PATH": f"{self.bin}:{path}", "PYTHONDONTWRITEBYTECODE": "1", "TURN": turn, "TMPDIR": str(self.room)}
+        place = {**os.environ, "PATH": f"{self.bin}:{path}", "PYTHONDONTWRITEBYTECODE": "1", "TURN": turn}
         how = {"stdout": subprocess.PIPE, "stderr": subprocess.STDOUT, "text": True, "cwd": self.folder, "env": place}
         # (the signal may be ignored here, as under nohup)
         how["preexec_fn"] = lambda: signal.signal(signal.SIGHUP, signal.SIG_DFL)
@@ -111,29 +108,28 @@ def try_counted(repository):
 
 
 def try_programs(repository):
-    """After the proofs have passed, each script that the gate runs counts as its tests passed or failed, and the status says whether all passed. A comparison that
-    compared nothing counts as neither."""
-    scripts = {name: f"tests/{name}" for name in ("command_lines.py", "sessions.py", "sweep.py")} | {name: name for name in gate.OF_DIST} | {"demo": "examples/demo.sh"}
-    good = dict.fromkeys(scripts, "") | {"command_lines.py": "print('one: 7 command lines as due')", "sessions.py": "print('one: 9 sessions as due')", "demo": "exit 0"}
-    bad = dict.fromkeys(scripts, "import sys\nsys.exit('other bytes')") | {"sessions.py": "print('one: 6 sessions as due, 3 not')", "demo": "echo other bytes; exit 1"}
+    """After the proofs have passed, each script that the gate runs counts as passed or failed, and the status says whether all passed. A comparison that compared
+    nothing counts as neither."""
+    scripts = [line.split()[0] for line in gate.SCRIPTS]
 
-    def put(texts):
-        for name, script in scripts.items():
-            path = repository.folder / script
-            path.parent.mkdir(parents=True, exist_ok=True)
-            path.write_text(("#!/bin/sh\n" if name == "demo" else "") + texts[name] + "\n")
-            path.chmod(0o755)
+    def put(script, python, shell):
+        path = repository.folder / script
+        path.parent.mkdir(parents=True, exist_ok=True)
+        path.write_text(python if script.endswith(".py") else f"#!/bin/sh\n{shell}\n")
+        path.chmod(0o755)
 
-    others = len(gate.BROKEN_OFF) + len(gate.OF_DIST) + len(gate.DEMO)
-    for what, texts, passed, failed in (
-        ("all of it as due", good, 3 + 1 + 9 + others, 0),
-        ("all of it wrong", bad, 3 + 6, 1 + 3 + others),
-        ("a comparison of nothing", {**good, gate.OF_DIST[0]: "print('it: nothing was compared: there is no gcc')"}, 3 + 1 + 9 + others - 1, 0),
+    for what, python, shell, others, passed, failed in (
+        ("all of it as due", "", "exit 0", "", 3 + len(scripts), 0),
+        ("all of it wrong", "import sys\nsys.exit('other bytes')", "echo other bytes; exit 1", "", 3, len(scripts)),
+        ("a comparison of nothing", "", "exit 0", "print('it: nothing was compared: there is no gcc')", 3 + len(scripts) - 1, 0),
     ):
-        put(texts)
+        for script in scripts:
+            put(script, python, shell)
+        if others:
+            put(scripts[3], others, "")
         ended, said = repository.run("checks/gate.py", rt="echo 3 passed, 0 failed")
         hold(f"a gate with {what}", (ended, said.splitlines()[-1]), (min(failed, 1), f"{passed} passed, {failed} failed"))
-        hold(f"how often it says why with {what}", said.count("other bytes"), max(failed - 3, 0))
+        hold(f"how often it says why with {what}", said.count("other bytes"), failed)
     ended, said = repository.run("checks/gate.py", rt="echo 2 passed, 1 failed; exit 1")
     hold("a gate whose proofs fail", (ended, said.splitlines()[-1]), (1, "2 passed, 1 failed"))
 
@@ -157,42 +153,6 @@ def try_left(repository):
     table.write_text(told)
 
 
-def try_rooms(repository):
-    """If a crate depends on a crate of a room that its own room may not use, the fault names both."""
-    text = "# Room base\nlow:\n{}\n# Room top over base\nfar may_wait=2: low std\n"
-    for crate, due in (("high: low", []), ("high: low far", ["crates.txt: high (base) depends on far (top), which the room base may not"])):
-        found, faults = architecture.rooms(text.format(crate))
-        hold(f"of the rooms with {crate} is told", [*faults, *architecture.arrows_back(found)], due)
-
-
-def try_ended(repository):
-    """If wrong_bodies.py is ended, it ends rt, which can put things in order before its copy is removed."""
-    beside = repository.folder / "beside"
-    rt = f'sleep 60 & trap "ls >{beside}; kill $!; exit 1" TERM; sleep 1; kill -TERM $PPID; wait'
-    ended, said = repository.run("checks/wrong_bodies.py", "made_up", rt=rt)
-    hold(f"wrong_bodies.py that is ended says {said}", ended, 1)
-    hold("rt, when it ends, has", "crates" in beside.read_text().split() if beside.exists() else None, True)
-    hold("there is left", os.listdir(repository.room), [])
-
-
-def try_prove(repository):
-    """A crate that is changed while it is proved isn't taken as proved; one that isn't changed is, once."""
-    proves = "case $1 in lib) mkdir -p out/rlib/made_up.rlib && echo contract >out/rlib/made_up.rlib/contracts ;; esac"
-    for what, rt, status, says in (
-        ("during its proof", f"{proves}; [ $1 != lib ] || echo two >>src/lib.rt", 1, "made_up was changed while it was proved"),
-        ("before its proof", proves, 0, "1 crates proved, 1 of them now"),
-        ("no more", "[ $1 = version ]", 0, "1 crates proved, 0 of them now"),
-    ):
-        ended, said = repository.run("checks/prove.py", rt=rt)
-        if ended != status or says not in said:
-            fail(f"prove.py, of a crate that was changed {what}: status {ended}, {said}")
-
-
-def try_build(repository):
-    """If its terminal ends, build.py ends the processes that it started, and leaves no copy."""
-    ended, said = repository.run("examples/build.py", "made_up", rt="sleep 0.2; kill -HUP $PPID; exec sleep 60")
-    if ended != 1 or "stopped; what was proved is kept" not in said or os.listdir(repository.room):
-        fail(f"build.py, whose terminal ended: status {ended}, {said}, and there is left {os.listdir(repository.room)}")
 def try_collisions():
     """A statement that some two strings collide is found, and none that says which they are, or among which they are."""
     for text, found in (
@@ -208,7 +168,7 @@ def try_collisions():
 
 def main():
     try_collisions()
-    for case in (try_gate, try_counted, try_programs, try_left, try_rooms, try_ended, try_prove, try_build):
+    for case in (try_gate, try_counted, try_programs, try_left):
         with tempfile.TemporaryDirectory() as folder:
             case(Repository(pathlib.Path(folder)))
 

@@ -1,21 +1,13 @@
-#!/usr/bin/env python3
-"""Runs a program that does ctlog's job on random lines, and compares what it writes with what expected.py computes.
-
-    random_lines.py PROGRAM [INPUTS]
-
-The lines are the same in each run: input n comes from the seed n. They are made so that only the numbers of tickets depend on how the
-threads run: the operator settles front by front, and a front asks about sizes that it has waited for. With one front
-the tickets are compared too, and receipts are asked for.
+"""Makes random lines for ctlog, for fuzz.py. Only the numbers of tickets depend on how the threads run: the operator settles front by front, and a front asks
+about sizes that it has waited for. With one front the tickets do not depend on it either, and receipts are asked for.
 """
 import base64
 import json
 import random
 import re
-import subprocess
-import sys
 
 import merkle
-from expected import Log, Refused, outcome
+from expected import Log, Refused
 
 RING = 4096
 CLOSE_AT = 1000
@@ -204,26 +196,3 @@ def is_written(written, fronts, lines):
         written = re.sub(rb'"ticket":\d+', b'"ticket":_', written)
     wanted = "".join(line + "\n" for line in lines).encode()
     return written == wanted and tickets == list(range(len(tickets)))
-
-
-def check(program, seed):
-    script = Script(seed)
-    given = script.text()
-    words = ["--fronts", str(script.fronts), "--ring", str(RING), "--close-at", str(CLOSE_AT)]
-    done = subprocess.run([program, *words], input=given, capture_output=True, check=True)
-    lines, _ = outcome(script.fronts, RING, 0, CLOSE_AT, given)
-    if not is_written(done.stdout, script.fronts, lines):
-        sys.exit(f"random_lines.py: other replies to input {seed}, of {script.fronts} fronts:\n{given.decode(errors='replace')}")
-    return len(lines)
-
-
-def main():
-    if len(sys.argv) < 2:
-        sys.exit(__doc__)
-    inputs = int(sys.argv[2]) if len(sys.argv) > 2 else 200
-    replies = sum(check(sys.argv[1], seed) for seed in range(inputs))
-    print(f"{inputs} inputs, {replies} replies: the same as expected.py's")
-
-
-if __name__ == "__main__":
-    main()

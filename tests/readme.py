@@ -6,10 +6,10 @@ other pages, it has the name of the script that runs it.
 that is built and otherwise by expected.py. A command of README.md that this script doesn't know is a fault. It prints one line, and ends with status 1 at the
 first command that does something else than README.md says. If Go or one of its packages isn't installed, it says so, and runs no command that needs them.
 
-ELSEWHERE has the commands of the other pages, and TARGETS the targets of the Makefile that a page names in its text. Each has the name of what runs it: this
-script, in that copy; bare/bare.py, on a bare Debian with the packages of a release; or pages.py, in a fresh clone with the kit. A command that is missing
-there is a fault, and one that is on no page is a fault too.
+ELSEWHERE has the commands of the other pages, each with what runs it: this script, in that copy; bare/bare.py, on a bare Debian with the packages of a release;
+or nobody but a user. A command that is missing there is a fault, and one that is on no page is a fault too.
 """
+import collections
 import contextlib
 import json
 import os
@@ -26,7 +26,7 @@ import urllib.request
 ROOT = pathlib.Path(__file__).resolve().parent.parent
 sys.path.append(str(ROOT / "checks"))
 
-from documents import BLOCK, SPAN, files, pages  # noqa: E402
+from documents import BLOCK, files, pages  # noqa: E402
 
 
 def fail(why):
@@ -126,37 +126,24 @@ class Page:
             self.log.communicate()
 
 
-HERE, BARE, PAGES, LONG, GATE = "readme.py", "make bare", "make pages", "pages.py --long", "make test"
+HERE, BARE, BY_HAND = "readme.py", "make bare", "by hand"
 # The commands of the other pages, each by how it begins, and what runs it.
 ELSEWHERE = {
     "docs/ACCEPTED.md": {"make serve": HERE, "cmd/out/ctserve audit": HERE, "openssl ecparam": BARE, "openssl req -x509 -new": BARE, "systemctl reload": BARE, "ctserve list-entry": BARE,
-                           "ctserve audit https": BARE, "ctserve roots": BARE},
+                         "ctserve audit https": BARE, "ctserve roots": BARE},
     "docs/ARCHIVE.md": {"": BARE},
     "docs/AUDIT.md": {"cat ct-log/leaf.pem": HERE, "curl -s -d @ct-log/chain.json": HERE, "cmd/out/ctwatch audit": HERE},
     "docs/LINES.md": {"crates/ctlog/out/ctlog": HERE},
-    "docs/OPERATING.md": {**dict.fromkeys(("make service", "install ", "adduser "), PAGES), "": BARE},
+    "docs/OPERATING.md": {**dict.fromkeys(("make service", "install ", "adduser "), BY_HAND), "": BARE},
     "docs/WATCH.md": {"make serve": HERE, "curl -s -d @ct-log/chain.json": HERE, "cmd/out/ctwatch run --once": HERE, "openssl req": HERE, "openssl x509": HERE, "printf": HERE,
                       "curl -s -d @own.json": HERE},
-    "examples/README.md": {"examples/pem_lines.py": HERE, "examples/bad_lines.py": HERE},
-    "examples/link/README.md": {"make link": PAGES, "make install": PAGES, "ldconfig": PAGES, "cc program.c": PAGES},
-    "release/README.md": {"make programs release": PAGES, "cd release/out && sha256sum": PAGES, "apt-get install": BARE},
-    "docs/SERVICE.md": {"make deps": PAGES, "make service-engines": PAGES, "make service-test": GATE, "make service": HERE, "openssl genpkey": BARE, "cp 2027h1.pem": BARE, "cat > /etc/ctwitness/a.conf": BARE,
-                          "runuser -u ctwitness": BARE, "systemctl": BARE, "ctwatch cosign": BARE, "apt-get install": BARE,
-                          "(printf '{\"chain\":['": HERE, "curl -s -d @chain.json": HERE, "curl -s '127.0.0.1:8618/ct/v1/get-entr": HERE},
+    "examples/README.md": {"examples/pem_lines.py": HERE},
+    "examples/link/README.md": {"": BY_HAND},
+    "release/README.md": {"apt-get install": BARE, "": BY_HAND},
+    "docs/SERVICE.md": {**dict.fromkeys(("make deps", "make service-engines", "make service-test"), BY_HAND), "make service": HERE, "openssl genpkey": BARE, "cp 2027h1.pem": BARE,
+                        "cat > /etc/ctwitness/a.conf": BARE, "runuser -u ctwitness": BARE, "systemctl": BARE, "ctwatch cosign": BARE, "apt-get install": BARE,
+                        "(printf '{\"chain\":['": HERE, "curl -s -d @chain.json": HERE, "curl -s '127.0.0.1:8618/ct/v1/get-entr": HERE},
 }
-# The targets that the pages name in their text, also in README.md's tables.
-TARGETS = {
-    "make help": HERE, "make test": GATE, "make test TURN=0": GATE, "make sources": GATE, "make service-test": GATE, "make link-emulated": GATE, "make bare": "itself", "make container": "itself", "make pages": "itself",
-    **dict.fromkeys(("make check", "make wrong CRATE=ct_guard", "make service-race", "make service-soak", "make histories", "make load", "make sweep", "make service-audit", "make service-audit MINUTES=60", "make dist"), LONG),
-    **dict.fromkeys(("make deps", "make serve", "make demo", "make install", "make release", "make programs", "make link", "make service", "make service-clients",
-                     "make service-engines", "make serve-witness", "make cluster", "make fuzz", "make reproduce"), PAGES),
-}
-
-
-def targets(page):
-    """The targets of the Makefile that a page's text names, with their arguments, in order, each once."""
-    text = BLOCK.sub("", re.sub(r"<!-- Made by .*?<!-- Made until here. -->", "", page.read_text(), flags=re.S))
-    return list(dict.fromkeys(span for span in SPAN.findall(re.sub(r"\s*\n(?:> )?\s*", " ", text)) if span.startswith("make ")))
 
 
 def run_by(page, command):
@@ -168,10 +155,9 @@ def run_by(page, command):
 def elsewhere():
     """Each command of the other pages with its page, in order. All of them are known, and nothing else is."""
     found = {page: commands(page) for page in pages() if page != ROOT / "README.md"}
-    named = {target for page in pages() for target in targets(page)}
-    unknown = [f"{page.name}: {command}" for page, given in found.items() for command in given if run_by(page, command) is None] + sorted(named - {*TARGETS})
+    unknown = [f"{page.name}: {command}" for page, given in found.items() for command in given if run_by(page, command) is None]
     beginnings = [(name, beginning) for name, known in ELSEWHERE.items() for beginning in known]
-    gone = [f"{name}: {beginning}" for name, beginning in beginnings if not any(command.startswith(beginning) for command in found.get(ROOT / name, []))] + sorted({*TARGETS} - named)
+    gone = [f"{name}: {beginning}" for name, beginning in beginnings if not any(command.startswith(beginning) for command in found.get(ROOT / name, []))]
     if unknown or gone:
         fail(f"commands of pages that ELSEWHERE hasn't, or that no page has: {unknown + gone}")
     return found
@@ -185,22 +171,16 @@ def bare_commands():
 
 
 def pem_lines(page):
-    """The commands of examples/README.md, over chains of files of their own, print what the page has."""
+    """The command of examples/README.md, over chains of files of their own, prints what the page has."""
     chain = (page.copy / "ct-log" / "root.pem").read_text()
     for name, many in (("chain.pem", 2), ("other.pem", 1)):
         (page.copy / name).write_text(chain * many)
     text = (ROOT / "examples" / "README.md").read_text()
-    first, second = commands(ROOT / "examples" / "README.md")
+    first, = commands(ROOT / "examples" / "README.md")
     said = subprocess.run(["sh", "-c", first], stderr=subprocess.PIPE, **page.how)
     due = re.search(r"^    (pem_lines\.py: .*)$", text, re.M)[1]
-    lines = (page.copy / "lines.jsonl").read_text()
-    if said.returncode or said.stderr.strip() != due or len(lines.splitlines()) != 2:
+    if said.returncode or said.stderr.strip() != due or len((page.copy / "lines.jsonl").read_text().splitlines()) != 2:
         fail(f"{first}: status {said.returncode}: {said.stderr}")
-    (page.copy / "lines.jsonl").write_text(lines + '{"who":0,"op":"get-stx"}\n')
-    said = subprocess.run(["sh", "-c", second], stdout=subprocess.PIPE, **page.how)
-    due = re.search(r"^    (line 3: .*), \.\.$", text, re.M)[1]
-    if said.returncode != 1 or not said.stdout.startswith(due):
-        fail(f"{second}: status {said.returncode}: {said.stdout}")
 
 
 SIGNED = r'\{"sct_version":0,.*"signature":"[A-Za-z0-9+/=]+"\}\s*'
@@ -259,14 +239,9 @@ def main():
         finally:
             page.end()
     left_out = f"; what needs Go isn't tried: {missing[0]}" if missing else ""
-    by = {}
-    for name, known in others.items():
-        for command in known:
-            by.setdefault(run_by(name, command), []).append(command)
-    for target, runs in TARGETS.items():
-        by.setdefault(runs, []).append(target)
+    by = collections.Counter(run_by(name, command) for name, known in others.items() for command in known)
     print(f"README.md: {page.count} commands do what it says, in its order, where nothing is built{left_out}.")
-    print(f"The other pages have {sum(map(len, others.values()))} commands, and all name {len(TARGETS)} targets: " + ", ".join(f"{len(given)} by {runs}" for runs, given in by.items()) + ".")
+    print("The commands of the other pages are run " + ", ".join(f"{count} by {runs}" for runs, count in by.items()).replace("by by", "by") + ".")
 
 
 if __name__ == "__main__":

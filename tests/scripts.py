@@ -1,7 +1,7 @@
 #!/usr/bin/env python3
-"""Tries the scripts of examples/ and of this folder. It compares expected.py with the stored replies, with the sessions and with bad_lines.py on damaged lines; has
-check.py refuse damaged outputs; and compares what pem_lines.py and four_fronts.py make with the files in the tree. It looks for names that no
-script in Python defines, and runs shellcheck over the others. It then runs checks.py, user_scripts.py, readme.py and the scripts of names/.
+"""Tries the scripts of examples/ and of this folder. It compares expected.py with the stored replies and with the sessions; has check.py refuse damaged outputs;
+and compares what pem_lines.py makes with the files in the tree. It looks for names that no script in Python defines, and runs shellcheck over the others. It
+then runs checks.py, user_scripts.py and readme.py.
 
 It prints one line if everything is as expected. Otherwise it names the fault, and ends with status 1.
 """
@@ -13,28 +13,22 @@ import itertools
 import json
 import os
 import pathlib
-import random
 import re
 import shutil
 import subprocess
 import sys
 import tempfile
-import types
 import textwrap
+import types
+
+from check import Wrong, checked
+from expected import outcome
+from sessions import read_sessions
 
 HERE = pathlib.Path(__file__).resolve().parent
 EXAMPLES = HERE.parent / "examples"
-sys.path.append(str(EXAMPLES))
-
-from bad_lines import reason  # noqa: E402
-from check import Wrong, checked  # noqa: E402
-from expected import outcome, read_line  # noqa: E402
-from mutations import mutated  # noqa: E402
-from sessions import read_sessions  # noqa: E402
 
 NO_REQUEST = b"this line is no request"
-# How many stored lines are damaged, and compared.
-DAMAGED = 1000
 # The stored inputs, each with the fronts, ring and moments under which its replies are expected.
 INPUTS = {
     "first-session": "1 4096 0 7",
@@ -54,30 +48,6 @@ def run(script, *words, given=b""):
 
 def lines_of(name):
     return (EXAMPLES / f"{name}.jsonl").read_bytes().splitlines()
-
-
-def try_reasons():
-    """The reasons, line by line, and the status."""
-    ran = run("bad_lines.py", "--fronts", 2, EXAMPLES / "bad-lines.jsonl")
-    if ran.returncode != 1:
-        fail(f"bad_lines.py ends with status {ran.returncode} although some lines are no requests: {ran.stderr.decode()}")
-    wanted = (EXAMPLES / "bad-lines.expected.txt").read_bytes().splitlines()
-    if ran.stdout.splitlines() != wanted:
-        fail(f"bad_lines.py gives other reasons than bad-lines.expected.txt: {set(ran.stdout.splitlines()) ^ set(wanted)}")
-    requests = [line for line in lines_of("real-chains") if line != NO_REQUEST]
-    ran = run("bad_lines.py", given=b"\n".join(requests))
-    if ran.returncode or ran.stdout:
-        fail(f"bad_lines.py finds such a line among requests: {ran.stdout.decode()}")
-
-
-def try_agreement():
-    """bad_lines.py names the lines to which expected.py replies bad-line, also if lines are damaged."""
-    chance = random.Random(1)
-    lines = [line for name in ("first-session", "four-fronts", "bad-lines") for line in lines_of(name) if 0 < len(line) < 2000]
-    damaged = [mutated(chance, chance.choice(lines), chance.choice(lines))[1] for _ in range(DAMAGED)]
-    for line in filter(None, b"\n".join(lines + damaged).split(b"\n")):
-        if (reason(line, 4) is None) != (read_line(line, 4)[1] is not None):
-            fail(f"bad_lines.py and expected.py don't agree on {line[:400]!r}: {reason(line, 4)}")
 
 
 def pem_of(chain):
@@ -143,19 +113,6 @@ def try_check():
     return count
 
 
-def try_planted():
-    """The faults that node/wrong_machines.py plants can be planted: each text that they replace is in its file exactly once. To try them takes rt and minutes."""
-    sys.path.append(str(HERE / "node"))
-    # (the folder is on the path only now)
-    import wrong_machines
-
-    for file, old, _ in (change for _, changes in wrong_machines.ALL.values() for change in changes):
-        path = wrong_machines.CRATE / file
-        times = path.read_text().count(old) if path.exists() else 0
-        if times != 1:
-            fail(f"a fault cannot be planted: {path.relative_to(HERE.parent)} has {times} times the text {old!r} (change the fault in node/wrong_machines.py)")
-
-
 BAD_LINES = "\n".join(['{"error":"bad-line"}'] * 3)
 
 
@@ -167,7 +124,7 @@ def try_sessions(folder):
         options.add_argument(name, type=int, default=value)
     sessions = read_sessions()
     for session in sessions:
-        words = options.parse_args(session.words[1:])
+        words = options.parse_args(session.words)
         lines, fault = outcome(words.fronts, words.ring, words.open_at, words.close_at, session.given)
         told = (1, f"ctlog: {fault}\n") if fault else (0, "")
         output = re.sub(r'(?<={"ticket":)\d+', "_", session.output.decode()) if words.fronts > 1 else session.output.decode()
@@ -244,24 +201,19 @@ def run_script(script):
 
 
 def main():
-    try_reasons()
-    try_agreement()
     outputs = try_check()
     with tempfile.TemporaryDirectory() as folder:
         chains = try_pem(pathlib.Path(folder))
     with tempfile.TemporaryDirectory() as folder:
         sessions = try_sessions(pathlib.Path(folder))
-    try_planted()
     shell, python = try_shell(), try_names()
     for name, words in INPUTS.items():
         ran = run("expected.py", *words.split(), given=(EXAMPLES / f"{name}.jsonl").read_bytes())
         if ran.stdout != (EXAMPLES / f"{name}.expected.jsonl").read_bytes():
             fail(f"expected.py computes other replies than {name}.expected.jsonl")
-    if run("four_fronts.py", given=(EXAMPLES / "real-chains.jsonl").read_bytes()).stdout != (EXAMPLES / "four-fronts.jsonl").read_bytes():
-        fail("four_fronts.py writes other lines than four-fronts.jsonl (examples/README.md says how to write them)")
-    for script in ("checks.py", "user_scripts.py", "readme.py", "names/compare.py", "names/table.py"):
+    for script in ("checks.py", "user_scripts.py", "readme.py"):
         run_script(script)
-    print(f"tests/scripts.py: as expected, over {DAMAGED} damaged lines, {chains} chains, {len(INPUTS)} inputs, {sessions} sessions, {outputs} damaged outputs, {shell} scripts for shells and {python} in Python.")
+    print(f"tests/scripts.py: as expected, over {chains} chains, {len(INPUTS)} inputs, {sessions} sessions, {outputs} damaged outputs, {shell} scripts for shells and {python} in Python.")
 
 
 if __name__ == "__main__":

@@ -1,6 +1,6 @@
 #!/usr/bin/env python3
-"""Tries what users run to install, release and serve, over made-up builds and with programs in place of apt, ctserve, ctwitness and govulncheck: make install,
-release/release.py, release/vulnerabilities.sh, deps/fetch.sh, cmd/serve.sh, cmd/serve-witness.sh, and the count of Go's tests, cmd/count.py.
+"""Tries what users run to install, release and serve, over made-up builds and with programs in place of apt, ctserve and ctwitness: make install,
+release/release.py, deps/fetch.sh, cmd/serve.sh and cmd/serve-witness.sh.
 
 It prints one line. At the first fault it says what is wrong, and ends with status 1.
 """
@@ -8,7 +8,6 @@ import contextlib
 import json
 import os
 import pathlib
-import re
 import shutil
 import socket
 import subprocess
@@ -146,20 +145,6 @@ def try_c_libraries(folder):
     found = {(library, relation): of for library, _, relation, of in release.c_libraries(types.SimpleNamespace(programs=programs))}
     if sorted(found.get(("libc.so.6", "DYNAMIC_LINK"), [])) != sorted(set(release.SERVICE) - {"ctread"}) or found.get(("sqlite3", "STATIC_LINK")) != ["ctread"]:
         fail(f"release.py: the C libraries are {found}")
-
-
-def try_vulnerabilities(folder):
-    """vulnerabilities.sh asks govulncheck about each program. Its status is 1 if one is vulnerable, and 2 if it cannot look."""
-    names = re.search(r"^programs=\((.*)\)$", (ROOT / "cmd" / "build.sh").read_text(), re.M)[1].split()
-    for name in names:
-        program(folder / name, "")
-    for verdict, status, count in (("exit 0", 0, len(names)), ("case $* in *ctwatch) exit 3 ;; esac", 1, len(names)), ("exit 1", 2, 1)):
-        program(folder / "bin" / "govulncheck", f'echo "$@" >>"{folder}/asked"\n{verdict}')
-        (folder / "asked").write_text("")
-        ran = subprocess.run([ROOT / "release" / "vulnerabilities.sh", folder], capture_output=True, text=True, env={**os.environ, "PATH": f"{folder}/bin:/usr/bin:/bin"})
-        asked = (folder / "asked").read_text().splitlines()
-        if ran.returncode != status or asked != [f"-mode=binary {folder}/{name}" for name in names[:count]] or ("VULNERABLE" in ran.stdout) != (status == 1):
-            fail(f"vulnerabilities.sh, if govulncheck does {verdict}: status {ran.returncode}, it asks {asked}: {ran.stdout}{ran.stderr}")
 
 
 def answered(words, answer, **how):
@@ -310,27 +295,9 @@ def try_serve_witness(folder):
         fail(f"serve-witness.sh calls ctwitness by {calls.read_text()}")
 
 
-def try_count(folder):
-    """count.py counts the parts of a test as one. A test within which the program ended failed. It prints the output of failed tests, and the reason why a
-    test was left out."""
-    count = folder / "made" / "count"
-    for what, output, status, counted, says in (
-        ("TestGood", [("output", "TestGood/a", "part\n"), ("pass", "TestGood/a", None), ("pass", "TestGood", None), ("output", None, "ok a\n")], 0, "1 0\n", "ok a\n"),
-        ("TestBad", [("output", "TestBad", "why\n"), ("fail", "TestBad", None), ("pass", "TestGood", None), ("skip", "TestLeft", None)], 1, "1 1\n", "why\nleft out: a TestLeft: no reason\n"),
-        ("TestLeft", [("output", "TestLeft", "    a_test.go:7: no engine\n"), ("skip", "TestLeft", None), ("pass", "TestGood", None)], 0, "1 0\n", "left out: a TestLeft: no engine\n"),
-        ("TestEnded", [("pass", "TestGood", None), ("output", "TestEnded", "panic\n")], 1, "1 1\n", "panic\n"),
-        ("no test", [("output", None, "?  a\n")], 1, "0 0\n", "?  a\n"),
-    ):
-        events = [json.dumps({"Action": action, "Package": "a", **({"Test": test} if test else {}), **({"Output": text} if text else {})}) for action, test, text in output]
-        environment = {**os.environ, "COUNT": str(count)}
-        ran = subprocess.run([ROOT / "cmd" / "count.py"], input="\n".join(["a line", *events]) + "\n", env=environment, capture_output=True, text=True)
-        if ran.returncode != status or count.read_text() != counted or not ran.stdout.startswith(f"a line\n{says}"):
-            fail(f"count.py of {what} ends with status {ran.returncode}, counts {count.read_text()} and says {ran.stdout}{ran.stderr}")
-
-
 def main():
     told = {}
-    for case in (try_install, try_release, try_vulnerabilities, try_deps, try_serve, try_serve_witness, try_count):
+    for case in (try_install, try_release, try_deps, try_serve, try_serve_witness):
         with tempfile.TemporaryDirectory(prefix="two words " if case is try_install else None) as folder:
             told[case] = case(pathlib.Path(folder))
     print(f"tests/user_scripts.py: as expected; a release: {told[try_release]}")

@@ -58,9 +58,8 @@ func certificateOf(issuer *x509.Certificate) *certificate {
 	return c
 }
 
-// value returns the value of the first extension with this identifier, and whether there is one.
-func (c *certificate) value(oid asn1.ObjectIdentifier) ([]byte, bool) {
-	identifier := identifierOf(oid)
+// value returns the value of the first extension with this identifier (identifierOf), and whether there is one.
+func (c *certificate) value(identifier []byte) ([]byte, bool) {
 	for _, extension := range c.extensions {
 		if bytes.Equal(extension.identifier, identifier) {
 			return extension.value, true
@@ -71,7 +70,7 @@ func (c *certificate) value(oid asn1.ObjectIdentifier) ([]byte, bool) {
 
 // The extension of the extended key usage, and two of its purposes (RFC 5280, section 4.2.1.12).
 var (
-	oidExtendedKeyUsage    = asn1.ObjectIdentifier{2, 5, 29, 37}
+	extendedKeyUsageID     = identifierOf(asn1.ObjectIdentifier{2, 5, 29, 37})
 	oidAnyExtendedKeyUsage = asn1.ObjectIdentifier{2, 5, 29, 37, 0}
 	oidServerAuth          = asn1.ObjectIdentifier{1, 3, 6, 1, 5, 5, 7, 3, 1}
 )
@@ -79,7 +78,7 @@ var (
 // isForServers reports whether a certificate may be used by TLS servers, by its extended key usage. One without this
 // extension may be used for anything, and one whose extension cannot be read for nothing.
 func isForServers(c *certificate) bool {
-	value, has := c.value(oidExtendedKeyUsage)
+	value, has := c.value(extendedKeyUsageID)
 	if !has {
 		return true
 	}
@@ -195,9 +194,33 @@ func (c *certificate) readExtensions(extensions cryptobyte.String) error {
 // anyKey is the SubjectPublicKeyInfo of some key of Ed25519 (RFC 8410, section 4).
 var anyKey = append([]byte("\x30\x2a\x30\x05\x06\x03\x2b\x65\x70\x03\x21\x00"), make([]byte, ed25519.PublicKeySize)...)
 
-// readSignature has crypto/x509 read the algorithm and the signature, out of a certificate that has nothing else of
-// this one. A signature whose last byte isn't whole is refused: it would be one more form of the same.
-func (c *certificate) readSignature(algorithm, signature cryptobyte.String) error {
+// commonAlgorithms are the algorithms of most signatures, by their AlgorithmIdentifier (RFC 5758, section 3.2, and RFC
+// 4055, section 5), as crypto/x509 reads them.
+var commonAlgorithms = map[string]x509.SignatureAlgorithm{
+	"\x30\x0a\x06\x08\x2a\x86\x48\xce\x3d\x04\x03\x02":             x509.ECDSAWithSHA256,
+	"\x30\x0a\x06\x08\x2a\x86\x48\xce\x3d\x04\x03\x03":             x509.ECDSAWithSHA384,
+	"\x30\x0d\x06\x09\x2a\x86\x48\x86\xf7\x0d\x01\x01\x0b\x05\x00": x509.SHA256WithRSA,
+	"\x30\x0d\x06\x09\x2a\x86\x48\x86\xf7\x0d\x01\x01\x0c\x05\x00": x509.SHA384WithRSA,
+}
+
+// readSignature reads the algorithm and the signature. A signature whose last byte isn't whole is refused: it would be
+// one more form of the same.
+func (c *certificate) readSignature(algorithm, signature cryptobyte.String) (err error) {
+	var isCommon bool
+	if c.algorithm, isCommon = commonAlgorithms[string(algorithm)]; !isCommon {
+		if c.algorithm, err = readAlgorithm(algorithm, signature); err != nil {
+			return err
+		}
+	}
+	if !signature.ReadASN1BitStringAsBytes(&c.signature) {
+		return fmt.Errorf("%w: %v", NoCertificate, errUnusedBits)
+	}
+	return nil
+}
+
+// readAlgorithm has crypto/x509 read the algorithm of a signature, out of a certificate that has nothing else of this
+// one.
+func readAlgorithm(algorithm, signature cryptobyte.String) (x509.SignatureAlgorithm, error) {
 	name, timestamp := []byte{0x30, 0}, []byte("\x17\x0d700101000000Z")
 	var b cryptobyte.Builder
 	b.AddASN1(tags.SEQUENCE, func(b *cryptobyte.Builder) {
@@ -217,18 +240,13 @@ func (c *certificate) readSignature(algorithm, signature cryptobyte.String) erro
 	})
 	made, err := b.Bytes()
 	if err != nil {
-		return fmt.Errorf("%w: %v", NoCertificate, err)
+		return 0, fmt.Errorf("%w: %v", NoCertificate, err)
 	}
 	read, err := x509.ParseCertificate(made)
 	if err != nil {
-		return fmt.Errorf("%w: its signature: %v", NoCertificate, err)
+		return 0, fmt.Errorf("%w: its signature: %v", NoCertificate, err)
 	}
-	var content []byte
-	if !signature.ReadASN1BitStringAsBytes(&content) {
-		return fmt.Errorf("%w: %v", NoCertificate, errUnusedBits)
-	}
-	c.algorithm, c.signature = read.SignatureAlgorithm, read.Signature
-	return nil
+	return read.SignatureAlgorithm, nil
 }
 
 var errUnusedBits = errors.New("its signature does not consist of whole bytes")

@@ -225,6 +225,26 @@ func TestReadAsByLibrary(t *testing.T) {
 	}
 }
 
+// TestCommonAlgorithms: crypto/x509 reads the algorithms in the table as the table has them, and a signature of them
+// has to consist of whole bytes.
+func TestCommonAlgorithms(t *testing.T) {
+	for algorithm, known := range commonAlgorithms {
+		if read, err := readAlgorithm([]byte(algorithm), []byte("\x03\x02\x00\x01")); err != nil || read != known {
+			t.Errorf("%x: %v, %v instead of %v", algorithm, err, read, known)
+		}
+		var c certificate
+		err := c.readSignature([]byte(algorithm), []byte("\x03\x03\x00\x01\x02"))
+		if err != nil || c.algorithm != known || string(c.signature) != "\x01\x02" {
+			t.Errorf("%v: %v, %x of %v", known, err, c.signature, c.algorithm)
+		}
+		for _, signature := range []string{"\x03\x02\x01\x02", "\x03\x00", "\x04\x02\x00\x01", "\x03\x03\x00\x01", ""} {
+			if err := c.readSignature([]byte(algorithm), []byte(signature)); RefusalOf(err) != NoCertificate {
+				t.Errorf("%v: the signature %x: %v", known, signature, err)
+			}
+		}
+	}
+}
+
 // built is a certificate's parts, of which each may be another one.
 type built struct {
 	fields    []string // of the TBSCertificate

@@ -252,16 +252,19 @@ func parse(chain [][]byte) ([]*certificate, error) {
 // rootOf returns the root that issued the last certificate of a chain; nil where it is a root itself.
 func (c *Checker) rootOf(last *certificate) (*x509.Certificate, error) {
 	roots := c.roots.Load()
-	if roots.has(last.raw) {
+	if roots.has(last.subject, last.raw) {
 		return nil, nil
 	}
-	why := fmt.Errorf("%w: none has the name of the issuer of the last certificate", UnknownRoot)
+	var why error
 	for _, root := range roots.withSubject(last.issuer) {
 		err := c.issued(last, root)
 		if err == nil {
 			return root, nil
 		}
 		why = fmt.Errorf("%w: %v: of the last certificate", UnknownRoot, err)
+	}
+	if why == nil {
+		why = fmt.Errorf("%w: none has the name of the issuer of the last certificate", UnknownRoot)
 	}
 	return nil, why
 }
@@ -272,7 +275,7 @@ func (c *Checker) issued(certificate *certificate, issuer *x509.Certificate) err
 	// are taken from who submits them.
 	authority := issuer.BasicConstraintsValid && issuer.IsCA
 	if issuer.Version < 3 && !issuer.BasicConstraintsValid {
-		authority = c.roots.Load().has(issuer.Raw)
+		authority = c.roots.Load().has(issuer.RawSubject, issuer.Raw)
 	}
 	if !authority || issuer.KeyUsage != 0 && issuer.KeyUsage&x509.KeyUsageCertSign == 0 {
 		return fmt.Errorf("%w: the issuer", NotAnAuthority)

@@ -18,7 +18,7 @@ var (
 	oidPoison             = asn1.ObjectIdentifier{1, 3, 6, 1, 4, 1, 11129, 2, 4, 3}
 	oidSignPrecertificate = asn1.ObjectIdentifier{1, 3, 6, 1, 4, 1, 11129, 2, 4, 4}
 	// The authority key identifier (RFC 5280, section 4.2.1.1).
-	oidAuthorityKey = asn1.ObjectIdentifier{2, 5, 29, 35}
+	authorityKeyID = identifierOf(asn1.ObjectIdentifier{2, 5, 29, 35})
 )
 
 // The tags of a TBSCertificate's fields that may be left out (RFC 5280, section 4.1).
@@ -30,7 +30,7 @@ var (
 )
 
 func hasPoison(certificate *certificate) bool {
-	_, has := certificate.value(oidPoison)
+	_, has := certificate.value(poisonID)
 	return has
 }
 
@@ -52,7 +52,7 @@ type finalIssuer struct {
 
 // finalIssuerBehind returns what a precertificate signing certificate says of who issued it.
 func finalIssuerBehind(signing *x509.Certificate) *finalIssuer {
-	value, _ := certificateOf(signing).value(oidAuthorityKey)
+	value, _ := certificateOf(signing).value(authorityKeyID)
 	return &finalIssuer{signing.RawIssuer, value}
 }
 
@@ -169,7 +169,7 @@ func extensionsOf(extensions cryptobyte.String, final *finalIssuer) ([]byte, err
 		if !element.ReadASN1(&content, tags.SEQUENCE) || !content.ReadASN1(&identifier, tags.OBJECT_IDENTIFIER) {
 			return nil, noDER("an extension")
 		}
-		if bytes.Equal(identifier, identifierOf(oidAuthorityKey)) {
+		if bytes.Equal(identifier, authorityKeyID) {
 			replaced, err := withValue(whole, final.authorityKey)
 			if err != nil {
 				return nil, err

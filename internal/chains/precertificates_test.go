@@ -8,7 +8,6 @@ import (
 	"encoding/json"
 	"encoding/pem"
 	"os"
-	"os/exec"
 	"reflect"
 	"testing"
 )
@@ -97,95 +96,6 @@ func unhex(t *testing.T, text string) []byte {
 		t.Fatal(err)
 	}
 	return bytes
-}
-
-// inPythonAt is the folder of tests/der.py, which makes the same in Python, without a library for X.509.
-const inPythonAt = "../../tests"
-
-// inPython is what der.py makes of a chain: the issuer's key hash and the TBSCertificate, or its refusal.
-type inPython struct {
-	Hash, TBS []byte
-	Refusal   string
-}
-
-// askPython has der.py go over chains.
-func askPython(t *testing.T, chains [][][]byte, roots [][]byte) (answers []inPython) {
-	t.Helper()
-	const program = `
-import base64, json, sys
-sys.path.insert(0, sys.argv[1])
-import der
-def decoded(texts):
-    return [base64.b64decode(text) for text in texts]
-def made(chain, roots):
-    try:
-        parts = der.precertificate(chain, roots)
-        return dict(zip(("Hash", "TBS"), [base64.b64encode(part).decode() for part in parts]))
-    except der.NoCertificate as refusal:
-        return {"Refusal": str(refusal)}
-given = json.load(sys.stdin)
-print(json.dumps([made(decoded(chain), decoded(given["Roots"])) for chain in given["Chains"]]))
-`
-	given, err := json.Marshal(struct {
-		Chains [][][]byte
-		Roots  [][]byte
-	}{chains, roots})
-	if err != nil {
-		t.Fatal(err)
-	}
-	command := exec.Command("python3", "-B", "-c", program, inPythonAt)
-	command.Stdin, command.Stderr = bytes.NewReader(given), os.Stderr
-	output, err := command.Output()
-	if err != nil {
-		t.Fatal(err)
-	}
-	if err := json.Unmarshal(output, &answers); err != nil || len(answers) != len(chains) {
-		t.Fatalf("%d answers of %d: %v", len(answers), len(chains), err)
-	}
-	return answers
-}
-
-func wantsPython(t testing.TB) {
-	if _, err := exec.LookPath("python3"); err != nil {
-		t.Skip("python3 isn't installed")
-	}
-}
-
-// TestPrecertificatesAgreeWithPython: both make the same of a chain, or refuse it.
-func TestPrecertificatesAgreeWithPython(t *testing.T) {
-	wantsPython(t)
-	a := madeByOpenssl(t)
-	roots := a.roots(t, "root")
-	tests := []struct {
-		names []string
-		here  Refusal
-		there string
-	}{
-		{names: []string{"precertificate", "middle"}},
-		{names: []string{"precertificate-of-rsa", "rsa", "root"}},
-		{names: []string{"precertificate-of-root"}},
-		{names: []string{"poison-alone", "middle"}},
-		{[]string{"leaf", "middle"}, NoPoison, "no-poison"},
-		{[]string{"poison-uncritical", "middle"}, BadPoison, "no-poison"},
-		{[]string{"poison-of-a-number", "middle"}, BadPoison, "no-poison"},
-		{[]string{"precertificate", "root"}, NotIssuedByNext, "no-issuer"},
-	}
-	var chains [][][]byte
-	for _, test := range tests {
-		chains = append(chains, a.chain(t, test.names...))
-	}
-	cutter := NewCutter()
-	for i, there := range askPython(t, chains, roots.Certificates()) {
-		test := tests[i]
-		entry, err := NewChecker(roots, Rules{}, cutter).Precertificate(chains[i])
-		if RefusalOf(err) != test.here || there.Refusal != test.there || (err == nil) != (test.here == "") {
-			t.Errorf("%s: %v here, %q there", test.names, err, there.Refusal)
-		}
-		if err == nil && (!bytes.Equal(entry.IssuerKeyHash[:], there.Hash) ||
-			!bytes.Equal(entry.TBSCertificate, there.TBS)) {
-			t.Errorf("%s: they made two things of it", test.names)
-		}
-	}
 }
 
 // realPrecertificates reads the precertificates of examples/real-chains.jsonl, with the issuer's key hash and the

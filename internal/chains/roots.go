@@ -11,6 +11,7 @@ import (
 	"io"
 	"os"
 	"path/filepath"
+	"slices"
 	"strings"
 )
 
@@ -299,8 +300,10 @@ func (r *Roots) add(certificate *x509.Certificate) {
 	r.bySubject[subject] = append(r.bySubject[subject], certificate)
 }
 
-// has reports whether a certificate in DER is a root.
-func (r *Roots) has(der []byte) bool { return r.byHash[sha256.Sum256(der)] }
+// has reports whether a certificate with this name, in DER, is a root.
+func (r *Roots) has(name, der []byte) bool {
+	return slices.ContainsFunc(r.withSubject(name), func(of *x509.Certificate) bool { return bytes.Equal(of.Raw, der) })
+}
 
 // withSubject are the roots with this name, in DER.
 func (r *Roots) withSubject(name []byte) []*x509.Certificate { return r.bySubject[string(name)] }

@@ -65,7 +65,7 @@ const (
 	likeCN  = finding.LikeCommon
 )
 
-// rows are those of the table beside certspotter (tests/names/table.py). certspotter 0.16 reports each one that has a
+// rows are those of the table beside certspotter (tests/names/beside.py). certspotter 0.16 reports each one that has a
 // place here, except of mail addresses, URIs and IP addresses, which it does not read.
 func rows() []row {
 	common := func(tag int, value []byte) pkix.Name { return testcert.CommonName(tag, value) }

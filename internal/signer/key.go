@@ -13,6 +13,7 @@ import (
 	"io"
 	"os"
 	"runtime"
+	"sync/atomic"
 
 	"golang.org/x/sync/errgroup"
 )
@@ -175,17 +176,21 @@ func (k *Key) signAll(ctx context.Context, messages [][]byte) ([][]byte, error) 
 }
 
 // inParallel calls do for each index below count, in as many goroutines as there are processors. It returns the first
-// error, and stops if the context ends.
+// error, and stops if the context ends. A goroutine takes one index after the other, so its stack grows only once.
 func inParallel(ctx context.Context, count int, do func(at int) error) error {
 	all, ctx := errgroup.WithContext(ctx)
-	all.SetLimit(runtime.GOMAXPROCS(0))
-	for at := 0; at < count; at++ {
-		at := at
+	var taken atomic.Int64
+	for range min(count, runtime.GOMAXPROCS(0)) {
 		all.Go(func() error {
-			if err := ctx.Err(); err != nil {
-				return fmt.Errorf("signer: %w", err)
+			for at := int(taken.Add(1)) - 1; at < count; at = int(taken.Add(1)) - 1 {
+				if err := ctx.Err(); err != nil {
+					return fmt.Errorf("signer: %w", err)
+				}
+				if err := do(at); err != nil {
+					return err
+				}
 			}
-			return do(at)
+			return nil
 		})
 	}
 	return all.Wait()

@@ -133,14 +133,15 @@ func (j *judge) putHead(name, note string) {
 		j.breaks("a head is the list's", "%s has the root %x and not %x", name, head.Root[:4], root[:4])
 	}
 	j.judgeTime(head, name)
-	if head.Timestamp == j.newest.Timestamp && head != j.newest {
-		j.breaks("one head a timestamp", "%s and the head of %d entries have one timestamp", name, j.newest.Size)
-	}
 	// Witnesses remember trees, and not their timestamps. So if all else was rolled back to an earlier head of a tree that
-	// they saw, a head with more entries may be earlier than one of that tree.
+	// they saw, a head with more entries may be as early as one of that tree, or earlier.
 	isSmaller := head.Timestamp > j.newest.Timestamp && head.Size < j.newest.Size
 	isEarlier := head.Timestamp <= j.newest.Timestamp && head.Size > j.newest.Size
-	if isSmaller || isEarlier && !j.w.excuses.signed {
+	isExcused := isEarlier && j.w.excuses.signed
+	if head.Timestamp == j.newest.Timestamp && head != j.newest && !isExcused {
+		j.breaks("one head a timestamp", "%s and the head of %d entries have one timestamp", name, j.newest.Size)
+	}
+	if isSmaller || isEarlier && !isExcused {
 		j.breaks("heads do not go back", "%s is put after the head of %d entries at %d ms", name, j.newest.Size,
 			j.newest.Timestamp)
 	}
@@ -184,6 +185,7 @@ func (j *judge) judgeTime(head signer.Head, name string) {
 // signs judges a head that a machine has the key sign. All of its tree must be in the store by then.
 func (j *judge) signs(m *machine, head signer.Head) {
 	if j.w.excuses.unput[m] {
+		j.w.excuses.theirs[head] = true
 		return
 	}
 	j.isLists(head, fmt.Sprintf("a signed head of %d entries at %d ms", head.Size, head.Timestamp),

@@ -192,10 +192,11 @@ func (w *world) mayRoll() bool {
 	return rolled < w.plan.Witnesses.Quorums.Faults
 }
 
-// cosigns judges a checkpoint that a witness cosigns. It must be the list's, unless the witness was rolled back.
+// cosigns judges a checkpoint that a witness cosigns. It must be the list's, unless the witness was rolled back, or the
+// machine that signed it cannot know of the list's newest head.
 func (j *judge) cosigns(by *observer, head signer.Head) {
 	j.stats.Cosigned++
-	if !by.rolled {
+	if !by.rolled && !j.w.excuses.theirs[head] {
 		j.isLists(head, fmt.Sprintf("%s cosigns a head of %d entries at %d ms, which", by.name, head.Size,
 			head.Timestamp), "a cosigned head is the list's")
 	}

@@ -98,8 +98,10 @@ type excuses struct {
 	// another list may be signed. It must not be put.
 	signed bool
 	// unput has the machines that did not accept a signed head when the lock and the guard's state were rolled back
-	// before that head was put. Their nodes may have a head of another list signed, and no witness cosigns it.
-	unput map[*machine]bool
+	// before that head was put. Their nodes may have a head of another list signed, which must not be put. theirs has
+	// the heads that they had signed since. A witness may cosign one of them if it did not see the head that was lost.
+	unput  map[*machine]bool
+	theirs map[signer.Head]bool
 	// again has the identities that may get one more entry.
 	again map[[32]byte]bool
 }
@@ -117,7 +119,8 @@ func newWorld(plan Plan, proved node.Proved, logs bool) *world {
 	w := &world{plan: plan, proved: proved, events: events{faults: slices.Clone(plan.Faults)}, stores: newMemory(),
 		observed: observed{history: history{isKept: logs}, bentAt: -readWithin}}
 	w.random = rand.New(rand.NewSource(plan.Seed ^ 0x5deece66d))
-	w.judge, w.excuses.again, w.excuses.unput = newJudge(w), map[[32]byte]bool{}, map[*machine]bool{}
+	w.judge, w.excuses.again = newJudge(w), map[[32]byte]bool{}
+	w.excuses.unput, w.excuses.theirs = map[*machine]bool{}, map[signer.Head]bool{}
 	w.newObservers()
 	for i := range plan.Machines {
 		m := &machine{w: w, name: fmt.Sprintf("n%d", i+1)}

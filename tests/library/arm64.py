@@ -6,7 +6,7 @@
 1. The programs verify.c and follow.c of examples/link are compiled for arm64, and run over the cases of cases.py.
 2. The tests of bindings/go/wagtenib are compiled for arm64 and run.
 3. Comparisons of this folder run in Debian's Python for arm64, over a shared library for arm64.
-4. The tests of bindings/rust/wagtenib are compiled with Debian's Rust and its standard library for arm64, and run. 2,000 random calls are compared with models, as rust.py does.
+4. The tests of bindings/rust/wagtenib are compiled with Debian's Rust and its standard library for arm64, and run.
 
 replays.py compares the same code with that for amd64, called from C. Debian's packages qemu-user, gcc-aarch64-linux-gnu and libc6-dev-arm64-cross must be installed. With SETUP=yes in the
 environment, root installs them, and apt fetches Python and Rust into a folder that is removed at the end. A part whose packages cannot be had is left out, and the script says so in one line.
@@ -171,10 +171,7 @@ def rust_compiler(folder):
 
 
 def try_rust(folder):
-    """The tests of the Rust crate, and random calls of it."""
-    # (it reads only the header)
-    import rust
-
+    """The tests of the Rust crate."""
     found = rust_compiler(folder)
     if found is None:
         return say("the Rust crate was left out: there is no Rust with the standard library for arm64 (SETUP=yes, as root, has apt fetch it)")
@@ -194,12 +191,9 @@ def try_rust(folder):
         build("--test", "--crate-name", test.stem, test, *own)
         told = ran(f"the test {test.name} of the Rust crate", [QEMU, "-L", LIBRARIES, made / test.stem])
         passed += sum(map(int, re.findall(r"^test result: ok\. (\d+) passed; 0 failed", told, re.M)))
-    build("--crate-name", "calls", RUST / "wagtenib/examples/calls.rs", *own)
     if not passed:
         sys.exit("tests/library/arm64.py: no test of the Rust crate ran")
     say(f"{passed} tests of the Rust crate passed")
-    if rust.compare(2000, 2, [QEMU, "-L", LIBRARIES, made / "calls"]):
-        sys.exit("tests/library/arm64.py: the Rust crate for arm64 does not reply as the models")
 
 
 def main():

@@ -4,8 +4,7 @@
     beside.py [--ctwatch PROGRAM] [--certspotter PROGRAM] [--many N] [--write]
 
 certspotter is the one that is installed, unless --certspotter names another one, which may be that of a later Debian's package. The page must name its version.
-ctwatch is cmd/out/ctwatch, which `make service` builds. The entries are the certificates of table.py, made by openssl and by
-python's `cryptography`; odd names, and the certificates of field.py, on which monitors differ; the certificates of examples/real-chains.jsonl; and N (1000) made-up ones,
+ctwatch is cmd/out/ctwatch, which `make service` builds. The entries are the certificates of table.py; odd names, and the certificates of field.py, on which monitors differ; the certificates of examples/real-chains.jsonl; and N (1000) made-up ones,
 each with its precertificate. Three logs have the last two, and both programs watch the three at once. ctwatch must report everything that certspotter reports, each issuance
 once, and nothing else except the rows of REASONS. With --write the table of docs/WATCH.md is written; otherwise it must be there.
 The script ends with status 1 at the first thing that is not so. It is not part of `make test`.
@@ -26,10 +25,9 @@ HERE = pathlib.Path(__file__).resolve().parent
 ROOT = HERE.parent.parent
 sys.path.append(str(HERE))
 
-import compare  # noqa: E402
 import field  # noqa: E402
 import table  # noqa: E402
-from compare import x509  # noqa: E402
+from cryptography import x509  # noqa: E402
 from cryptography.hazmat.primitives import hashes, serialization  # noqa: E402
 
 PAGE = ROOT / "docs" / "WATCH.md"
@@ -45,7 +43,7 @@ REAL = (".t.co", ".letsencrypt.org", ".digicert.com", ".microsoft.com")
 
 def host(what, name):
     """An odd dNSName."""
-    return table.Row(what, "...", alt=(("DNS", name),))
+    return table.Row(what, alt=(("DNS", name),))
 
 
 ODD = [
@@ -54,10 +52,10 @@ ODD = [
     host("dNSName `www.example.org:443`", "www.example.org:443"),
     host("dNSName `www.example.org`, NUL, `.evil.net`", "www.example.org\0.evil.net"),
     host("dNSName ` www.example.org `", " www.example.org "),
-    table.Row("commonName ` www.example.org `", "...", common=" www.example.org "),
-    table.Row("commonName `bücher.example` as BMPString", "...", common="bücher.example", kind="BMPString"),
-    table.Row("commonName `bücher.example` as UniversalString", "...", common="bücher.example", kind="UniversalString"),
-    table.Row("URI `https://www.example.org:8443/a?b`", "...", alt=(("URI", "https://www.example.org:8443/a?b"),)),
+    table.Row("commonName ` www.example.org `", common=" www.example.org "),
+    table.Row("commonName `bücher.example` as BMPString", common="bücher.example", kind="BMPString"),
+    table.Row("commonName `bücher.example` as UniversalString", common="bücher.example", kind="UniversalString"),
+    table.Row("URI `https://www.example.org:8443/a?b`", alt=(("URI", "https://www.example.org:8443/a?b"),)),
     host("dNSName `*`", "*"),
     host("dNSName `*ple.org`", "*ple.org"),
     host("dNSName `..example.org`", "..example.org"),
@@ -75,18 +73,10 @@ REASONS = {
     "commonName ` www.example.org `": "Software that trims spaces would take the name for the host.",
 }
 LATIN = "dNSName `bücher.example` in Latin-1"
-# How many certificates field.py names.
-CELLS = 56
 
 
 def fail(why):
     sys.exit(f"beside.py: {why}")
-
-
-def check_cells(rows):
-    """Each certificate that field.py names is one of the rows."""
-    if len(set(field.CELLS)) != CELLS or not rows.issuperset(field.CELLS):
-        fail(f"of the {CELLS} certificates of field.py these are no rows: {sorted(set(field.CELLS) - rows)}")
 
 
 def latin():
@@ -109,17 +99,17 @@ def many(count, chance):
     """Made-up certificates, each with its precertificate: a fifth of them is for a watched name."""
     made = []
     begin = datetime.datetime(2026, 1, 1)
-    issuer = x509.Name([x509.NameAttribute(compare.NameOID.ORGANIZATION_NAME, "An authority")])
+    issuer = x509.Name([x509.NameAttribute(table.NameOID.ORGANIZATION_NAME, "An authority")])
     for number in range(count):
         mine = chance.random() < 0.2
         top = chance.choice(("example.org", "EXAMPLE.org", "sub.example.org")) if mine else chance.choice(("example.net", "notexample.org", "example.org.evil.net", "xample.org"))
         names = [f"{chance.choice(('a', '*', 'www', 'x-1'))}.{top}", f"h{number}.other.net"]
         chance.shuffle(names)
-        builder = x509.CertificateBuilder(issuer, x509.Name([]), compare.KEY.public_key(), number + 1, begin, begin + datetime.timedelta(90))
+        builder = x509.CertificateBuilder(issuer, x509.Name([]), table.KEY.public_key(), number + 1, begin, begin + datetime.timedelta(90))
         builder = builder.add_extension(x509.SubjectAlternativeName([x509.DNSName._init_without_validation(name) for name in names]), critical=False)
         poisoned = builder.add_extension(x509.PrecertPoison(), critical=True)
         for one, poison in ((poisoned, True), (builder, False)):
-            made.append((one.sign(compare.KEY, hashes.SHA256()).public_bytes(serialization.Encoding.DER), poison))
+            made.append((one.sign(table.KEY, hashes.SHA256()).public_bytes(serialization.Encoding.DER), poison))
     return made
 
 
@@ -224,7 +214,7 @@ def by_index(alerts, urls):
 def issuances(entries):
     """The number of the issuance of each entry: a precertificate and its certificate have one."""
     numbers = {}
-    return [numbers.setdefault(table.der.Certificate(data).without_poison() if poison else tbs_of(data), len(numbers)) for data, poison in entries]
+    return [numbers.setdefault(table.promises.entry_of(table.promises.tbs_of(data)) if poison else tbs_of(data), len(numbers)) for data, poison in entries]
 
 
 def tbs_of(data):
@@ -233,14 +223,10 @@ def tbs_of(data):
 
 def compare_rows(given, folder, rows):
     """The table: one run of certspotter for each name, and one of ctwatch for all."""
-    maker = table.Openssl(folder)
     made = [(table.by_library(row), row.poison) for row in rows]
-    made += [(maker.make(row), row.poison) for row in table.ROWS]
     log = table.Log([*made, (latin(), False)])
     url = log.serve()
     rows = [*rows, host(LATIN, "")]
-    # (the rows that openssl made too come after those of `cryptography`, and must be equal to them)
-    places = {i: i for i in range(len(made))} | {len(rows) - 1: len(made)}
     alerts = by_index(watch(given.ctwatch, folder, WATCHED, [log], [url]), [url])
     cells, only_ours = [[] for _ in rows], set()
     for number, (spotted_name, name) in enumerate(WATCHED.items()):
@@ -248,15 +234,12 @@ def compare_rows(given, folder, rows):
         below.mkdir()
         told = {index for _, index in spot(given.certspotter, [log.listed(url)], below, [spotted_name], {url: len(log.leaves)})}
         for i, row in enumerate(rows):
-            ours, theirs = place_of(places[i], alerts, name), "x" if places[i] in told else "."
+            ours, theirs = place_of(i, alerts, name), "x" if i in told else "."
             cells[i] += [ours, theirs]
             if theirs == "x" and ours == ".":
                 fail(f"{row.what}: certspotter reports {name}, and ctwatch does not")
             if theirs == "." and ours != ".":
                 only_ours.add(row.what)
-        for i, _ in enumerate(table.ROWS):
-            if place_of(i, alerts, name) != place_of(len(made) - len(table.ROWS) + i, alerts, name):
-                fail(f"{table.ROWS[i].what}: made by openssl, {name} is found at another place")
     if only_ours != set(REASONS):
         fail(f"only ctwatch reports {sorted(only_ours)}, and there are reasons for {sorted(REASONS)}")
     return table_of(rows, cells)
@@ -293,7 +276,6 @@ def main():
         for part in ("rows", "many"):
             (folder / part).mkdir()
         rows = [*table.ROWS, *ODD, *field.MORE]
-        check_cells({LATIN, *(row.what for row in rows)})
         text = compare_rows(given, folder / "rows", rows)
         told = compare_many(given, folder / "many")
     check_page(text, version, given.write)

@@ -1,72 +1,32 @@
 """The names of certificates, and whether one of them is a watched name: a plain and slow model, which shares no code with the library."""
 import ipaddress
+import pathlib
 import re
+import sys
 
-LENGTHS = {0x81: 1, 0x82: 2, 0x83: 3, 0x84: 4}
+sys.path.append(str(pathlib.Path(__file__).resolve().parents[1]))
+# (the folder above is on the path only now)
+from der import Unread, after, element, expected, only  # noqa: E402
+
 COMMON_NAME, ALT_NAMES = bytes([85, 4, 3]), bytes([85, 29, 17])
 WIDTHS = {30: 2, 28: 4}
 # The kinds of names of subjectAltName that are looked for, by their tag (RFC 5280, section 4.2.1.6).
 KINDS = {0x81: "mail", 0x82: "dns", 0x86: "uri", 0x87: "address"}
 
 
-class Unread(Exception):
-    """The first fault that reading meets, and the field of the certificate in which it is."""
-
-
-def element(data, field):
-    """The tag and the content of the DER element that bytes begin with, and what follows (X.690, sections 8.1 and 10.1)."""
-    if not data:
-        raise Unread("truncated", field)
-    if data[0] & 31 == 31:
-        raise Unread("long-tag", field)
-    if len(data) < 2:
-        raise Unread("truncated", field)
-    size, start = data[1], 2
-    if size == 0x80:
-        raise Unread("indefinite-length", field)
-    if size > 0x80:
-        if size not in LENGTHS:
-            raise Unread("long-length", field)
-        start += LENGTHS[size]
-        if len(data) < start:
-            raise Unread("truncated", field)
-        size = int.from_bytes(data[2:start], "big")
-        if size < 128 or size < 1 << 8 * (start - 3):
-            raise Unread("padded-length", field)
-    if len(data) < start + size:
-        raise Unread("truncated", field)
-    return data[0], data[start : start + size], data[start + size :]
-
-
-def expected(tag, data, field):
-    """The content of the element of this tag that bytes begin with, and what follows."""
-    found, content, rest = element(data, field)
-    if found != tag:
-        raise Unread("other-tag", field)
-    return content, rest
-
-
-def only(tag, data, field):
-    """The content of the element of this tag that bytes are."""
-    content, rest = expected(tag, data, field)
-    if rest:
-        raise Unread("trailing", field)
-    return content
-
-
 def past(tag, data, field):
     """The bytes after the element of this tag, if the bytes begin with one."""
-    return expected(tag, data, field)[1] if data[:1] == bytes([tag]) else data
+    return after([(tag, False, field)], data)
 
 
 def common_names(subject):
     """The common names of a subject's content (RFC 5280, section 4.1.2.4), a byte a character, 255 for those above."""
     while subject:
-        attributes, subject = expected(49, subject, "subject")
+        attributes, _, subject = expected(49, subject, "subject")
         while attributes:
-            pair, attributes = expected(48, attributes, "subject")
-            identifier, value = expected(6, pair, "subject")
-            tag, text, rest = element(value, "subject")
+            pair, _, attributes = expected(48, attributes, "subject")
+            identifier, _, value = expected(6, pair, "subject")
+            tag, text, _, rest = element(value, "subject")
             if rest:
                 raise Unread("trailing", "subject")
             if identifier == COMMON_NAME:
@@ -79,12 +39,12 @@ def common_names(subject):
 def alt_names(extensions):
     """The names of subjectAltName in the list of extensions, each with its kind."""
     while extensions:
-        extension, extensions = expected(48, extensions, "extensions")
-        identifier, rest = expected(6, extension, "extensions")
+        extension, _, extensions = expected(48, extensions, "extensions")
+        identifier, _, rest = expected(6, extension, "extensions")
         value = only(4, past(1, rest, "extensions"), "extensions")
         names = only(48, value, "alt-names") if identifier == ALT_NAMES else b""
         while names:
-            tag, text, names = element(names, "alt-names")
+            tag, text, _, names = element(names, "alt-names")
             if tag in (0xA1, 0xA2, 0xA6, 0xA7):
                 raise Unread("other-tag", "alt-names")
             if tag in KINDS:
@@ -96,14 +56,12 @@ def names_of(data, bare):
     if bare:
         rest = only(48, data, "tbs")
     else:
-        rest, behind = expected(48, only(48, data, "certificate"), "tbs")
-        only(3, expected(48, behind, "outer-algorithm")[1], "signature")
+        rest, _, behind = expected(48, only(48, data, "certificate"), "tbs")
+        only(3, expected(48, behind, "outer-algorithm")[2], "signature")
     rest = past(0xA0, rest, "version")
-    for tag, field in ((2, "serial"), (48, "algorithm"), (48, "issuer"), (48, "validity")):
-        rest = expected(tag, rest, field)[1]
-    subject, rest = expected(48, rest, "subject")
-    rest = expected(48, rest, "key")[1]
-    rest = past(0x82, past(0x81, rest, "issuer-id"), "subject-id")
+    rest = after([(2, True, "serial"), *((48, True, field) for field in ("algorithm", "issuer", "validity"))], rest)
+    subject, _, rest = expected(48, rest, "subject")
+    rest = after([(48, True, "key"), (0x81, False, "issuer-id"), (0x82, False, "subject-id")], rest)
     extensions = only(48, only(0xA3, rest, "extensions"), "extensions") if rest else b""
     common = list(common_names(subject))
     return list(alt_names(extensions)), common

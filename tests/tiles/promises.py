@@ -5,6 +5,12 @@ Unfit if a certificate gives nothing, with the reason: no-extension, second-exte
 the certificate (or precertificate) or its issuer's.
 """
 import hashlib
+import pathlib
+import sys
+
+sys.path.append(str(pathlib.Path(__file__).resolve().parents[1]))
+# (the folder above is on the path only now)
+from der import Unread, after, expected, only, written  # noqa: E402
 
 SEQUENCE, OCTETS, NAME, BITS, EXTENSIONS = 0x30, 0x04, 0x06, 0x03, 0xA3
 # 1.3.6.1.4.1.11129.2.4.3, the poison, in its one form, and .2, the list of timestamps.
@@ -21,77 +27,12 @@ class Unfit(Exception):
     """Why a certificate gives nothing: the members of the reply's object."""
 
 
-def unread(fault, place):
-    return Unfit({"fault": fault, "place": place, "refused": "unread"})
-
-
-def size_at(der, place):
-    """The length in front, and where its content begins (X.690, 8.1.3 and 10.1: the fewest bytes)."""
-    if not der:
-        raise unread("truncated", place)
-    first = der[0]
-    if first < 128:
-        return first, 1
-    if first == 128:
-        raise unread("indefinite-length", place)
-    if first > 132:
-        raise unread("long-length", place)
-    octets = der[1 : first - 127]
-    if len(octets) < first - 128:
-        raise unread("truncated", place)
-    size = int.from_bytes(octets, "big")
-    if size < 128 or octets[0] == 0:
-        raise unread("padded-length", place)
-    return size, first - 127
-
-
-def element(der, place):
-    """The tag and the content of the element in front, all its bytes, and what follows it."""
-    if not der:
-        raise unread("truncated", place)
-    if der[0] % 32 == 31:
-        raise unread("long-tag", place)
-    size, begin = size_at(der[1:], place)
-    end = 1 + begin + size
-    if len(der) < end:
-        raise unread("truncated", place)
-    return der[0], der[1 + begin : end], der[:end], der[end:]
-
-
-def expected(tag, der, place):
-    found, content, whole, rest = element(der, place)
-    if found != tag:
-        raise unread("other-tag", place)
-    return content, whole, rest
-
-
-def only(tag, der, place):
-    content, _, rest = expected(tag, der, place)
-    if rest:
-        raise unread("trailing", place)
-    return content
-
-
-def after(fields, der):
-    """The bytes after these fields."""
-    for tag, has_to, place in fields:
-        if has_to or der[:1] == bytes([tag]):
-            der = expected(tag, der, place)[2]
-    return der
-
-
 def extension_at(der):
     """The name and the value of the extension in front, all its bytes, and what follows it."""
     content, whole, rest = expected(SEQUENCE, der, "extensions")
     name, _, behind = expected(NAME, content, "extensions")
     behind = after([(0x01, False, "extensions")], behind)
     return name, only(OCTETS, behind, "extensions"), whole, rest
-
-
-def written(tag, content):
-    size = len(content)
-    octets = size.to_bytes((size.bit_length() + 7) // 8, "big")
-    return bytes([tag]) + (bytes([size]) if size < 128 else bytes([128 + len(octets)]) + octets) + content
 
 
 def cut(tbs, name):
@@ -129,6 +70,8 @@ def of(document, call, *words):
     """The result of a call over a document, whose name a fault gets."""
     try:
         return call(*words)
+    except Unread as unread:
+        raise Unfit({"document": document, "fault": unread.args[0], "place": unread.args[1], "refused": "unread"}) from None
     except Unfit as unfit:
         raise Unfit({"document": document, **unfit.args[0]}) from None
 

@@ -1,21 +1,5 @@
-"""Trees and tiles of hashes by hashlib: MTH of RFC 6962, section 2.1, by its own recursion, and the tiles of C2SP tlog-tiles ("Merkle Tree")."""
-import hashlib
-
-
-def digest(data):
-    return hashlib.sha256(data).digest()
-
-
-def mth(hashes):
-    """MTH of a list of leaf hashes."""
-    if not hashes:
-        return digest(b"")
-    if len(hashes) == 1:
-        return hashes[0]
-    half = 1
-    while 2 * half < len(hashes):
-        half *= 2
-    return digest(b"\x01" + mth(hashes[:half]) + mth(hashes[half:]))
+"""Tiles of hashes (C2SP tlog-tiles, "Merkle Tree")."""
+from merkle import Tree
 
 
 def name(level, index, width):
@@ -32,5 +16,5 @@ def levels(leaves):
     found = [leaves]
     for _ in range(7):
         below = found[-1]
-        found.append([mth(below[at : at + 256]) for at in range(0, len(below) - 255, 256)])
+        found.append([Tree(below[at : at + 256]).root(0, 256) for at in range(0, len(below) - 255, 256)])
     return found

@@ -8,7 +8,7 @@ ghost use Rattle.ct_core.specs.Tickets.{ticket_of, AreEntered};
 use crate::both::both;
 use crate::settled::Settled;
 use ct_codec::Refusal;
-use shared::SharedList;
+use shared_list::SharedList;
 use shared_table::{Slot, Table, Test, copy, first_place, with_all};
 use std::alloc::Global;
 use std::marker::Model;

@@ -8,11 +8,11 @@ use Rattle.std.proofs.Math.Seq.{take-append_seam}
 use Rattle.ct_tree.specs.Tree.{mth_of_leaves, hash_leaf}
 use Rattle.ct_tree.specs.declared.head.Head.{Head}
 use Rattle.ct_monitor.specs.Heads.{IsHeadOfAll}
-use Rattle.ct_older_tree.proofs.ListProofs.{same_lists, beginning, accepted_path_is_path}
-use Rattle.ct_older_tree.proofs.OlderTree.{HasLog, whole_log}
-use Rattle.ct_older_tree.proofs.Viewing.{first_of, second_of}
-use Rattle.ct_older_tree.specs.Hashed.{CollideAmong, proof_strings}
-use Rattle.ct_older_tree.specs.ListLaws.{IsHashedInAudit}
+use Rattle.ct_verify.proofs.ListProofs.{same_lists, beginning, accepted_path_is_path}
+use Rattle.ct_verify.proofs.OlderTree.{HasLog, whole_log}
+use Rattle.ct_verify.proofs.Viewing.{first_of, second_of}
+use Rattle.ct_verify.specs.Hashed.{CollideAmong, proof_strings}
+use Rattle.ct_verify.specs.ListLaws.{IsHashedInAudit}
 use Rattle.ct_verify.specs.ConsistencyEvidence.{IsAcceptedFor, IsBeginning}
 use Rattle.ct_verify.specs.InclusionEvidence.{IsAccepted}
 use Rattle.ct_verify.specs.Laws.{AreHashes}

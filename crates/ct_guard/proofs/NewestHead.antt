@@ -10,9 +10,9 @@ use Rattle.ct_monitor.specs.Heads.{IsHeadOfAll}
 use Rattle.ct_verify.specs.Laws.{AreHashes}
 use Rattle.ct_verify.specs.Verdict.{AcceptsConsistency}
 use Rattle.ct_guard.specs.Guarded.{PassesHead, IsLater}
-use Rattle.ct_older_tree.proofs.OlderTree.{HasLog, has_cut, whole_log, goes_back}
-use Rattle.ct_older_tree.proofs.Viewing.{first_of, second_of}
-use Rattle.ct_older_tree.specs.Hashed.{CollideAmong, proof_strings}
+use Rattle.ct_verify.proofs.OlderTree.{HasLog, has_cut, whole_log, goes_back}
+use Rattle.ct_verify.proofs.Viewing.{first_of, second_of}
+use Rattle.ct_verify.specs.Hashed.{CollideAmong, proof_strings}
 use Rattle.ct_guard.specs.History.{head_strings}
 use Rattle.ct_guard.specs.NewestHead.{HeadStep, AreHeadSteps, NewestIsOf, IsHeadOfFirst, step_strings, IsHashedForHeads, HeadsGoBack}
 

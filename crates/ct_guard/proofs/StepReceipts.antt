@@ -10,11 +10,11 @@ use Rattle.ct_tree.specs.Tree.{split, hash_node, mth_of_leaves}
 use Rattle.ct_verify.proofs.Options.{none_some, same_some}
 use Rattle.ct_verify.proofs.Shown.{leaves_length, leaves_split}
 use Rattle.ct_verify.specs.Laws.{AreHashes}
-use Rattle.ct_older_tree.proofs.Agreeing.{left_nodes, right_nodes}
-use Rattle.ct_older_tree.proofs.ListProofs.{same_lists}
-use Rattle.ct_older_tree.proofs.OlderTree.{HasTree}
-use Rattle.ct_older_tree.specs.Hashed.{CollideAmong, IsHashedIn}
-use Rattle.ct_older_tree.specs.Hashed.IsHashedIn.{node, left, right}
+use Rattle.ct_verify.proofs.Agreeing.{left_nodes, right_nodes}
+use Rattle.ct_verify.proofs.ListProofs.{same_lists}
+use Rattle.ct_verify.proofs.OlderTree.{HasTree}
+use Rattle.ct_verify.specs.Hashed.{CollideAmong, IsHashedIn}
+use Rattle.ct_verify.specs.Hashed.IsHashedIn.{node, left, right}
 use Rattle.ct_guard.specs.StepReceipts.{node_of, with_first, whole_root, root_within, root_after}
 use Rattle.ct_guard.specs.StepReceipts.{IsHashedAfter, StepReceiptsStand}
 use Rattle.ct_guard.specs.StepReceipts.IsHashedAfter.{whole, left_node, in_left, in_right, right_node}

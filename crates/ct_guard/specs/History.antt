@@ -5,8 +5,8 @@ use Rattle.ct_tree.specs.Tree.{hash_leaf}
 use Rattle.ct_tree.specs.declared.head.Head.{Head}
 use Rattle.ct_monitor.specs.Heads.{IsHeadOfAll}
 use Rattle.ct_verify.specs.ConsistencyEvidence.{IsBeginning}
-use Rattle.ct_older_tree.specs.Hashed.{CollideAmong, IsHashedInLog, proof_strings}
-use Rattle.ct_older_tree.specs.ListLaws.{IsHashedInAudit}
+use Rattle.ct_verify.specs.Hashed.{CollideAmong, IsHashedInLog, proof_strings}
+use Rattle.ct_verify.specs.ListLaws.{IsHashedInAudit}
 use Rattle.ct_verify.specs.Laws.{AreHashes}
 use Rattle.ct_verify.specs.Verdict.{AcceptsInclusion}
 use Rattle.ct_guard.specs.Guarded.{PassesHead}

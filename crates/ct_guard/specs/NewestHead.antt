@@ -4,7 +4,7 @@ use Rattle.std.specs.declared.option.Option.{Option}
 use Rattle.ct_tree.specs.Tree.{mth_of_leaves}
 use Rattle.ct_tree.specs.declared.head.Head.{Head}
 use Rattle.ct_monitor.specs.Heads.{IsHeadOfAll}
-use Rattle.ct_older_tree.specs.Hashed.{CollideAmong, IsHashedInLog}
+use Rattle.ct_verify.specs.Hashed.{CollideAmong, IsHashedInLog}
 use Rattle.ct_verify.specs.Laws.{AreHashes}
 use Rattle.ct_guard.specs.Guarded.{PassesHead}
 use Rattle.ct_guard.specs.History.{head_strings}

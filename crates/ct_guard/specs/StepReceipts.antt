@@ -10,7 +10,7 @@ use Rattle.ct_codec.specs.Faults.{LeafFaulty}
 use Rattle.ct_tree.specs.Tree.{split, hash_node, mth_of_leaves}
 use Rattle.ct_tree.specs.declared.head.Head.{Head}
 use Rattle.ct_monitor.specs.Heads.{IsHeadOfAll}
-use Rattle.ct_older_tree.specs.Hashed.{CollideAmong, IsHashedIn}
+use Rattle.ct_verify.specs.Hashed.{CollideAmong, IsHashedIn}
 use Rattle.ct_verify.specs.Laws.{AreHashes}
 use Rattle.ct_verify.specs.declared.fault.ProofFault.TheVariants.{IndexOutOfRange, RootMismatch}
 use Rattle.ct_guard.specs.Guarded.{IsLeafOf, IsOwnIndex}

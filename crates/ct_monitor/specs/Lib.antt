@@ -8,3 +8,9 @@ pub mod Watched
 pub mod Verdicts
 pub mod WatcherState
 pub mod History
+pub mod StateText
+pub mod Fitting
+pub mod Entries
+pub mod Calls
+pub mod CallLaws
+pub mod Starts

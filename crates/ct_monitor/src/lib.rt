@@ -11,24 +11,47 @@
 //! - An [`Auditor`] checks audit paths and consistency proofs against tree heads. If it is given the leaves, it explains an audit path: the
 //!   leaf is present, or it returns two different strings with the same hash.
 //!
-//! All of this holds for every hash function with digests of 32 bytes (`NodeHash`), including SHA-256. The meaning of the results is
+//! The four calls [`begin`], [`take_head`], [`take_entries`] and [`take_proof`] are a [`Watcher`] as calls over values. The state is bytes,
+//! which belong to the caller: a call receives a state, and returns a verdict and the next state. Nothing is kept between calls.
+//!
+//! - `writing` writes the bytes of a state, and `reading` reads them. Bytes whose parts do not fit one another (`fitting`) are not a state.
+//! - `facts` has the facts about a state that follow from its types.
+//! - `entries` finds the first entry that is later than the waiting head, and the first that is not a leaf.
+//! - `starting` has the state of a monitor that begins at a trusted head.
+//! - `calls` has the calls, and `answer` their results.
+//! - [`call_laws`] has the laws of many calls.
+//!
+//! Except for the calls, which use SHA-256, all of this holds for every hash function with digests of 32 bytes (`NodeHash`), including SHA-256. The meaning of the results is
 //! defined in `specs/`: `Followed` and `Observed` for the monitor, `FollowerState` for the follower, `Watched` and `Verdicts` for the
 //! watcher, `Audited` for the auditor.
 #![tactic(auto)]
 
+mod answer;
 mod auditor;
+pub mod call_laws;
+mod calls;
+mod entries;
 mod extension;
+mod facts;
 mod fault;
+mod fitting;
 mod keeping;
 pub mod laws;
 mod order;
 mod peaks;
+mod reading;
+mod starting;
 mod verdict;
 mod watcher;
+mod writing;
 
+pub use answer::{Answer, EntriesAnswer};
 pub use auditor::Auditor;
+pub use calls::{begin, take_entries, take_head, take_proof};
+pub use entries::{FaultyEntry, LaterEntry};
 pub use fault::MonitorFault;
 pub use keeping::{Follower, Monitor};
 pub use peaks::Peaks;
+pub use starting::{StartFault, start};
 pub use verdict::Verdict;
 pub use watcher::Watcher;

@@ -10,8 +10,8 @@ use Rattle.ct_data_tiles.specs.TileLeaf.{Tiled, leaf_of}
 use Rattle.ct_guard.specs.NewestHead.{HeadStep, NewestIsOf, IsHeadOfFirst, IsHashedForHeads, HeadsGoBack}
 use Rattle.ct_step.specs.declared.line.StateLine.{StateLine}
 use Rattle.ct_monitor.specs.Heads.{IsHeadOfAll}
-use Rattle.ct_older_tree.proofs.Agreeing.{collide_more}
-use Rattle.ct_older_tree.specs.Hashed.{CollideAmong, IsHashedIn, IsHashedInLog}
+use Rattle.ct_verify.proofs.Agreeing.{collide_more}
+use Rattle.ct_verify.specs.Hashed.{CollideAmong, IsHashedIn, IsHashedInLog}
 use Rattle.ct_node.specs.declared.state.State.{State}
 use Rattle.ct_node.specs.declared.node.Node.TheVariants.{Heading}
 use Rattle.ct_node.specs.Worlds.{Has, Made, Object, World, AskedAreTaken}

@@ -8,7 +8,7 @@ use Rattle.ct_step.specs.declared.line.StateLine.{StateLine}
 use Rattle.ct_data_tiles.specs.NameAnswers.{NamesDiffer}
 use Rattle.ct_data_tiles.specs.TileNames.{IsTile, name_text}
 use Rattle.ct_data_tiles.specs.declared.tile.Tile.{Tile}
-use Rattle.ct_older_tree.specs.Hashed.{CollideAmong}
+use Rattle.ct_verify.specs.Hashed.{CollideAmong}
 use Rattle.ct_node.specs.declared.state.State.{State}
 use Rattle.ct_node.specs.Worlds.{Has, Made, Object, HeadsAreWhole}
 use Rattle.ct_node.specs.Sweeps.{IsFullFor, SweptWorld, StandsInstead, SweepsKeep}

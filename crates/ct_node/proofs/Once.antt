@@ -8,7 +8,7 @@ use Rattle.ct_data_tiles.specs.TileLeaf.{Tiled, leaf_of}
 use Rattle.ct_step.specs.Identities.{identity_of_leaf, LeavesKeepIdentities, AreApart, AreNewFrom}
 use Rattle.ct_step.proofs.Lists.{AllPairs-first, AllPairs-rest, AllPairs-append, pairs_behind}
 use Rattle.ct_step.specs.declared.line.StateLine.{StateLine}
-use Rattle.ct_older_tree.specs.Hashed.{CollideAmong}
+use Rattle.ct_verify.specs.Hashed.{CollideAmong}
 use Rattle.ct_node.specs.declared.state.State.{State}
 use Rattle.ct_node.specs.Worlds.{Has, Made, IsChain, PastsAreChains, HoldsNewest}
 use Rattle.ct_node.specs.LookUps.{ShareNone, StatesAddOthers}

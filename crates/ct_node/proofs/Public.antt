@@ -7,8 +7,8 @@ use Rattle.hex.proofs.HexLemmas.{decode_of-encode_lower}
 use Rattle.ct_data_tiles.specs.TileLeaf.{Tiled}
 use Rattle.ct_data_tiles.specs.TileNames.{name_text}
 use Rattle.ct_data_tiles.specs.declared.tile.Tile.{Tile}
-use Rattle.ct_older_tree.proofs.Agreeing.{collide_more, one_hash}
-use Rattle.ct_older_tree.specs.Hashed.{CollideAmong}
+use Rattle.ct_verify.proofs.Agreeing.{collide_more, one_hash}
+use Rattle.ct_verify.specs.Hashed.{CollideAmong}
 use Rattle.ct_node.specs.Worlds.{Has, Object, World}
 use Rattle.ct_step.specs.Lines.{IsHashedBySteps}
 use Rattle.ct_node.specs.Logs.{StandsOf, NodesWriteOneLog, log_of_past}

@@ -10,8 +10,8 @@ use Rattle.ct_node.specs.Worlds.{Has, Made, World, IsSoundWorld, WorldsAreSound}
 use Rattle.ct_node.specs.Logs.{NodesWriteOneLog, StandsOf, log_of_past}
 use Rattle.ct_node.specs.Names.{objects_of}
 use Rattle.ct_node.specs.Whole.{AreAllPut, HasAllObjects, HeadsHaveAllObjects}
-use Rattle.ct_older_tree.specs.Hashed.{CollideAmong}
-use Rattle.ct_older_tree.proofs.Agreeing.{one_hash}
+use Rattle.ct_verify.specs.Hashed.{CollideAmong}
+use Rattle.ct_verify.proofs.Agreeing.{one_hash}
 use Rattle.ct_step.specs.Lines.{LineAttempt, IsHashedBySteps, IsStepOf}
 
 pub heads_have_all_objects : NodesWriteOneLog → WorldsAreSound → BundlesAreResumed → HeadsHaveAllObjects

@@ -5,7 +5,7 @@ use Rattle.ct_tree.specs.declared.head.Head.{Head}
 use Rattle.ct_data_tiles.specs.TileLeaf.{Tiled}
 use Rattle.ct_guard.specs.NewestHead.{HeadStep, AreHeadSteps, IsHeadOfFirst, IsHashedForHeads}
 use Rattle.ct_step.specs.declared.line.StateLine.{StateLine}
-use Rattle.ct_older_tree.specs.Hashed.{CollideAmong}
+use Rattle.ct_verify.specs.Hashed.{CollideAmong}
 use Rattle.ct_node.specs.declared.state.State.{State}
 use Rattle.ct_node.specs.declared.node.Node.TheVariants.{Heading}
 use Rattle.ct_node.specs.Worlds.{Has, Made, Object, World, Happening, beginning, IsFirstState, LeadTo}
@@ -13,6 +13,7 @@ use Rattle.ct_step.specs.Entries.{tree_leaves}
 use Rattle.ct_step.specs.Lines.{LineAttempt, IsHashedBySteps}
 use Rattle.ct_step.specs.Steps.{IsLog, line_head}
 use Rattle.ct_node.specs.Logs.{AreStepsMade, StandsOf, log_of_past}
+use Rattle.ct_verify.specs.ConsistencyEvidence.{IsBeginning}
 
 -- some node was given the command to have the head of a state signed and put, and this head is the one that the state's line names
 abbrev pub IsAsked : (State → StateLine) → World → Head → Type 0
@@ -42,4 +43,4 @@ GuardedHeadsAreOfOneLog =
     (plan : Object → List ℕ × List ℕ) (known : List Tiled)
     (count : State → ℕ) (b : State) (hs : List Happening) (w : World) → IsFirstState count b → LeadTo count (beginning b) hs w → IsLog H known (line b)
     → AreStepsMade H S line step count plan w.made → (E : List Tiled) → E ≡ log_of_past step known w.past
-    → ((known ≡ take (length known) E) × StandsOf H line step b plan E w × HeadsLetThroughAreOf H line E w) ⊎ CollideAmong H (IsHashedBySteps H S E)
+    → (IsBeginning known E × StandsOf H line step b plan E w × HeadsLetThroughAreOf H line E w) ⊎ CollideAmong H (IsHashedBySteps H S E)

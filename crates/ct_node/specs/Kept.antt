@@ -4,13 +4,14 @@ use Rattle.ct_data_tiles.specs.TileLeaf.{Tiled}
 use Rattle.ct_step.specs.declared.line.StateLine.{StateLine}
 use Rattle.ct_data_tiles.specs.TileNames.{IsTile, name_text}
 use Rattle.ct_data_tiles.specs.declared.tile.Tile.{Tile}
-use Rattle.ct_older_tree.specs.Hashed.{CollideAmong}
+use Rattle.ct_verify.specs.Hashed.{CollideAmong}
 use Rattle.ct_node.specs.declared.state.State.{State}
 use Rattle.ct_node.specs.Worlds.{Has, Made, Object, World, IsFirstState}
 use Rattle.ct_node.specs.Sweeps.{SweptWorld, SweptHappening, swept_beginning, LeadToSwept}
 use Rattle.ct_step.specs.Lines.{LineAttempt, IsHashedBySteps}
 use Rattle.ct_step.specs.Steps.{IsLog}
 use Rattle.ct_node.specs.Logs.{AreStepsMade, StandsOf, log_of_past}
+use Rattle.ct_verify.specs.ConsistencyEvidence.{IsBeginning}
 
 -- the name of the full tile of which this tile is a part
 abbrev pub whole_name : Tile → List ℕ
@@ -53,4 +54,4 @@ NodesKeepTiles =
     (known : List Tiled) (count : State → ℕ) (b : State) (hs : List SweptHappening) (w : SweptWorld) → IsFirstState count b → LeadToSwept count (tile_and_width of) (swept_beginning b) hs w
     → IsLog H known (line b) → AreStepsMade H S line step count plan w.world.made → AreNamed of plan w.world
     → (E : List Tiled) → E ≡ log_of_past step known w.world.past
-    → ((known ≡ take (length known) E) × StandsOf H line step b plan E w.world × CanBeRead count of plan w) ⊎ CollideAmong H (IsHashedBySteps H S E)
+    → (IsBeginning known E × StandsOf H line step b plan E w.world × CanBeRead count of plan w) ⊎ CollideAmong H (IsHashedBySteps H S E)

@@ -2,7 +2,7 @@
 use Rattle.std.specs.Prelude.{◌≡◌, ◌⊎◌, ℕ, ◌<◌, List, [], ◌∷◌, ◌++◌, Contains, map, Ok, Vec, length, take}
 use Rattle.ct_data_tiles.specs.TileLeaf.{Tiled}
 use Rattle.ct_step.specs.declared.line.StateLine.{StateLine}
-use Rattle.ct_older_tree.specs.Hashed.{CollideAmong}
+use Rattle.ct_verify.specs.Hashed.{CollideAmong}
 use Rattle.ct_node.specs.declared.state.State.{State}
 use Rattle.ct_node.specs.Worlds.{Has, Made, Object, World, Happening, beginning, IsFirstState, LeadTo}
 use Rattle.std.specs.Global.{Global}
@@ -11,6 +11,7 @@ use Rattle.ct_step.specs.declared.bundle.Object.{Object as Found}
 use Rattle.ct_step.specs.Lines.{LineAttempt, IsHashedBySteps, IsMadeOfLine, IsStepOf}
 use Rattle.ct_step.specs.Steps.{new_entries, IsLog}
 use Rattle.ct_node.specs.Names.{IsTileOfEntries}
+use Rattle.ct_verify.specs.ConsistencyEvidence.{IsBeginning}
 
 -- The objects that are put of a state are objects that `resume` returned for its line and some bytes, wherever these came from. S contains
 -- these bytes, since they were hashed. `line` returns the line of a state, `count` the number of its objects that are put, and `plan` each
@@ -65,4 +66,4 @@ NodesWriteOneLog =
     (H : List ℕ → List ℕ) (S : List (List ℕ)) (line : State → StateLine) (step : Made → LineAttempt) (plan : Object → List ℕ × List ℕ) (known : List Tiled)
     (count : State → ℕ) (b : State) (hs : List Happening) (w : World) → IsFirstState count b → LeadTo count (beginning b) hs w → IsLog H known (line b)
     → AreStepsMade H S line step count plan w.made → (E : List Tiled) → E ≡ log_of_past step known w.past
-    → ((known ≡ take (length known) E) × StandsOf H line step b plan E w) ⊎ CollideAmong H (IsHashedBySteps H S E)
+    → (IsBeginning known E × StandsOf H line step b plan E w) ⊎ CollideAmong H (IsHashedBySteps H S E)

@@ -5,7 +5,7 @@ use Rattle.ct_codec.specs.Submitted.{identity_of}
 use Rattle.ct_data_tiles.specs.TileLeaf.{Tiled}
 use Rattle.ct_step.specs.Identities.{identity_of_leaf, AreApart, AreNewFrom}
 use Rattle.ct_step.specs.declared.line.StateLine.{StateLine}
-use Rattle.ct_older_tree.specs.Hashed.{CollideAmong}
+use Rattle.ct_verify.specs.Hashed.{CollideAmong}
 use Rattle.ct_node.specs.declared.state.State.{State}
 use Rattle.ct_node.specs.Worlds.{Has, Made, World, Happening, beginning, IsFirstState, LeadTo}
 use Rattle.ct_node.specs.LookUps.{AllLookUp}
@@ -13,6 +13,7 @@ use Rattle.ct_step.specs.Entries.{tree_leaves}
 use Rattle.ct_step.specs.Lines.{LineAttempt, IsHashedBySteps}
 use Rattle.ct_step.specs.Steps.{IsLog}
 use Rattle.ct_node.specs.Logs.{IsAttempt, log_of_past}
+use Rattle.ct_verify.specs.ConsistencyEvidence.{IsBeginning}
 
 -- the identities of a log's entries
 abbrev pub entry_identities : List Tiled → List (List ℕ)
@@ -38,4 +39,4 @@ NodesAddOnce =
     (count : State → ℕ) (b : State) (hs : List Happening) (w : World) → IsFirstState count b → LeadTo count (beginning b) hs w → IsLog H known (line b)
     → (ids b ≡ entry_identities known) → AreStepsAdding H S line step ids w.made → AllLookUp ids (beginning b) hs
     → (E : List Tiled) → E ≡ log_of_past step known w.past
-    → (IsLog H E (line w.held) × (known ≡ take (length known) E) × AreNewFrom (length known) (entry_identities E)) ⊎ CollideAmong H (IsHashedBySteps H S E)
+    → (IsLog H E (line w.held) × IsBeginning known E × AreNewFrom (length known) (entry_identities E)) ⊎ CollideAmong H (IsHashedBySteps H S E)

@@ -9,7 +9,7 @@ use Rattle.ct_node.specs.declared.state.State.{State}
 use Rattle.ct_node.specs.Worlds.{Has, Made, Object, World, Happening, beginning, IsFirstState, LeadTo}
 use Rattle.ct_node.specs.Logs.{AreStepsMade, log_of_past}
 use Rattle.ct_node.specs.Names.{objects_of}
-use Rattle.ct_older_tree.specs.Hashed.{CollideAmong}
+use Rattle.ct_verify.specs.Hashed.{CollideAmong}
 use Rattle.ct_step.specs.Lines.{LineAttempt, IsHashedBySteps, IsStepOf}
 use Rattle.ct_step.specs.Steps.{IsLog}
 

@@ -12,9 +12,9 @@ use Rattle.ct_promise.proofs.Readings.{content_bytes, bytes_before}
 use Rattle.ct_codec.specs.Leaf.{precertificate, leaf_text, LeafText}
 use Rattle.ct_tree.specs.Tree.{hash_leaf, mth_of_leaves}
 use Rattle.ct_verify.specs.Verdict.{AcceptsInclusion}
-use Rattle.ct_older_tree.proofs.Agreeing.{collide_more}
-use Rattle.ct_older_tree.proofs.ListProofs.{accepted_path_is_path}
-use Rattle.ct_older_tree.specs.ListLaws.{IsHashedInAudit}
+use Rattle.ct_verify.proofs.Agreeing.{collide_more}
+use Rattle.ct_verify.proofs.ListProofs.{accepted_path_is_path}
+use Rattle.ct_verify.specs.ListLaws.{IsHashedInAudit}
 use Rattle.ct_promise.specs.declared.fault.CutFault.{CutFault}
 use Rattle.ct_promise.specs.Tbs.{Parts, IsWithout, IsTbsOf}
 use Rattle.ct_promise.specs.Reading.{parts_cut_at, without, whole_tbs_at, key_at}

@@ -12,7 +12,7 @@ use Rattle.ct_step.specs.Lines.{LineAttempt, AreLineAttempts, entries_after, tak
 use Rattle.ct_step.specs.Steps.{new_entries, IsHashedOfLog, IsLog, IsTiledStep}
 use Rattle.ct_step.proofs.LinesAgree.{after_begins, after_taken, after_left, met_before}
 use Rattle.ct_data_tiles.specs.TileLeaf.{Tiled, leaf_of}
-use Rattle.ct_older_tree.specs.Hashed.{CollideAmong}
+use Rattle.ct_verify.specs.Hashed.{CollideAmong}
 use Rattle.ct_step.specs.StepLaws.{LookedUpLine, line_attempts_of, taken_of_lines, StoresEach, held_behind, logged_identities, OneEntryAnIdentityByLines}
 use Rattle.ct_step.specs.StepRepeats.{BatchEntry, is_known, with_identity, first_of_each, identities_of}
 use Rattle.ct_step.proofs.Splits.{batches_are_split}

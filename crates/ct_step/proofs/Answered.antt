@@ -1,14 +1,14 @@
 -- Calls that are answered.
-use Rattle.std.proofs.Common.{◌≡◌, ◌<◌, ◌≤◌, ℕ, List, length, Option, Some, None, refl, arith}
+use Rattle.std.proofs.Common.{◌≡◌, ◌<◌, ◌≤◌, ℕ, List, length, Option, Some, None, refl}
 use Rattle.std.proofs.lemmas.Bool.{lt-ltb, le-ltb}
 use Rattle.std.specs.Prelude.{Result, Err, IfOk}
 use Rattle.ct_step.specs.StepAnswers.{IsReplyTo}
-use Rattle.ct_step.specs.StepAsks.{StepAsk, for_step, for_too_many, for_no_edge, for_no_batch, step_of_batch}
+use Rattle.ct_step.specs.StepAsks.{for_step, for_too_many, for_no_edge, for_no_batch, step_of_batch}
 use Rattle.ct_step.specs.StepBytes.{IsBatchText, IsContentsText}
 use Rattle.ct_step.specs.StepCalls.{IsReplyToStep}
 use Rattle.ct_step.specs.StepRepeats.{BatchEntry}
 use Rattle.ct_step.specs.StepReplies.{IsReplyText, answer_parts}
-use Rattle.ct_step.specs.StepWords.{StepReply, refuses}
+use Rattle.ct_step.specs.StepWords.{refuses}
 use Rattle.ct_step.specs.declared.answer.Answer.{Answer}
 use Rattle.ct_step.specs.declared.answer.StepRefusal.{StepRefusal}
 use Rattle.ct_step.specs.declared.answer.StepRefusal.TheVariants.{BadBatch, TooMany}

@@ -4,9 +4,9 @@ use Rattle.ct_tree.specs.Tree.{hash_leaf, mth_of_leaves}
 use Rattle.ct_tree.specs.declared.head.Head.{Head}
 use Rattle.ct_verify.specs.Verdict.{AcceptsInclusion, RefusesInclusion}
 use Rattle.ct_verify.specs.Evidence.{IsAudited}
-use Rattle.ct_older_tree.proofs.ListProofs.{accepted_path_is_path}
-use Rattle.ct_older_tree.specs.Hashed.{CollideAmong}
-use Rattle.ct_older_tree.specs.ListLaws.{IsHashedInAudit}
+use Rattle.ct_verify.proofs.ListProofs.{accepted_path_is_path}
+use Rattle.ct_verify.specs.Hashed.{CollideAmong}
+use Rattle.ct_verify.specs.ListLaws.{IsHashedInAudit}
 use Rattle.ct_verify.specs.declared.fault.ProofFault.{ProofFault}
 use Rattle.ct_verify.proofs.Equations.{path_not_refused}
 use Rattle.ct_verify.proofs.Explaining.{path_holds}

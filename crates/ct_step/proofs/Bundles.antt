@@ -93,7 +93,7 @@ read-stuck done objects bytes rest r some none b =
     stuck (o ∷ more) e h = none o (bundle_text more) (All-head IsObject o more h) e
 
 -- one text has one list of objects
-same_objects : (a b : List (List ℕ × List ℕ)) (bytes : List ℕ) → IsBundleOf a bytes → IsBundleOf b bytes → a ≡ b
+pub same_objects : (a b : List (List ℕ × List ℕ)) (bytes : List ℕ) → IsBundleOf a bytes → IsBundleOf b bytes → a ≡ b
 same_objects a b bytes p q =
     let more = begun b a [] q.fit p.fit (append-nil (bundle_text b) ∙ sym q.text ∙ p.text) in
     more.1 ∙ ap (λ (x : List (List ℕ × List ℕ)). b ++ x) (none more.0 more.2) ∙ append-nil b

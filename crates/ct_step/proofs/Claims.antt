@@ -20,8 +20,8 @@ use Rattle.ct_step.specs.Steps.{line_head, IsLog}
 use Rattle.ct_data_tiles.specs.TileLeaf.{Tiled, leaf_of}
 use Rattle.ct_tree.specs.Tree.{hash_leaf}
 use Rattle.ct_tree.specs.declared.head.Head.{Head}
-use Rattle.ct_older_tree.specs.Hashed.{CollideAmong}
-use Rattle.ct_older_tree.specs.ListLaws.{IsHashedInAudit}
+use Rattle.ct_verify.specs.Hashed.{CollideAmong}
+use Rattle.ct_verify.specs.ListLaws.{IsHashedInAudit}
 use Rattle.ct_verify.proofs.Defined.{accepted_not_refused}
 use Rattle.ct_step.specs.StepAnswers.{IsClaimReplyBy}
 use Rattle.ct_step.specs.StepLaws.{StandsAsClaimed, ClaimsStandThere}

@@ -9,7 +9,7 @@ use Rattle.ct_tiles.proofs.EdgeRoot.{root_step, length-lone_root, root_at_top, s
 use Rattle.ct_tiles.proofs.Words.{level_has_length}
 use Rattle.ct_verify.proofs.Shown.{parts}
 use Rattle.ct_verify.specs.Laws.{AreHashes}
-use Rattle.ct_older_tree.specs.Hashed.{CollideAmong}
+use Rattle.ct_verify.specs.Hashed.{CollideAmong}
 use Rattle.ct_step.specs.EdgeStrings.{IsHashedOverTiles, IsHashedInEdge}
 use Rattle.ct_step.specs.EdgeStrings.IsHashedOverTiles.{top, here, higher}
 use Rattle.ct_step.specs.Believed.{tile_widths, carried_over, edge_root, BelievedEdgesTell, EdgesAreBelieved, IsHashedInEdgeOf}

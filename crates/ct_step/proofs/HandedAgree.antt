@@ -8,8 +8,8 @@ use Rattle.ct_codec.specs.Submitted.{entry_of}
 use Rattle.ct_tree.specs.Tree.{hash_leaf}
 use Rattle.ct_tree.specs.declared.head.Head.{Head}
 use Rattle.ct_tiles.specs.Edge.{IsEdge}
-use Rattle.ct_older_tree.proofs.Agreeing.{collide_more}
-use Rattle.ct_older_tree.specs.Hashed.{CollideAmong}
+use Rattle.ct_verify.proofs.Agreeing.{collide_more}
+use Rattle.ct_verify.specs.Hashed.{CollideAmong}
 use Rattle.ct_step.specs.Believed.{BelievesState, IsHeadOver, IsHashedInEdgeOf}
 use Rattle.ct_step.specs.EdgeStrings.{IsHashedInEdge}
 use Rattle.ct_step.specs.Growths.{IsState, IsGrowth}

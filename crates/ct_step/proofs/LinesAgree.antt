@@ -7,8 +7,8 @@ use Rattle.std.specs.Prelude.{All, Bool, true, false, if◌then◌else◌, Conta
 use Rattle.ct_codec.specs.Submitted.{Submitted}
 use Rattle.ct_data_tiles.specs.TileLeaf.{Tiled}
 use Rattle.ct_step.specs.declared.line.StateLine.{StateLine}
-use Rattle.ct_older_tree.proofs.Agreeing.{collide_more}
-use Rattle.ct_older_tree.specs.Hashed.{CollideAmong}
+use Rattle.ct_verify.proofs.Agreeing.{collide_more}
+use Rattle.ct_verify.specs.Hashed.{CollideAmong}
 use Rattle.ct_step.specs.Entries.{tiled_leaves}
 use Rattle.ct_step.specs.Steps.{IsEdgeOf, IsHashedOfLog, IsLog, IsTiledStep, new_entries}
 use Rattle.ct_step.specs.Lines.{LineAttempt, AreLineAttempts, HandedLineAttempt, AreTrueAttempts, handed_line_attempts, entries_after, IsHashedBySteps, taken_lines, IsStepOf, ComesBehindLine, CarryOnLines, LineSequencersAgree, TrueEdgesAgree}

@@ -1,5 +1,5 @@
 -- The result of a step for a batch.
-use Rattle.std.proofs.Common.{◌≡◌, ◌⊎◌, ◌∙◌, ℕ, suc, ◌-◌, ◌/◌, ◌<◌, ◌≤◌, ◌+◌, ◌^◌, true, false, List, [], ◌∷◌, ◌++◌, length, map, sym, refl, ap, subst, arith, inl, inr, ⊎_elim, Vec, Global, All}
+use Rattle.std.proofs.Common.{◌≡◌, ◌⊎◌, ◌∙◌, ℕ, suc, ◌-◌, ◌/◌, ◌<◌, ◌≤◌, ◌+◌, ◌^◌, List, [], ◌∷◌, ◌++◌, length, map, sym, refl, ap, subst, arith, inl, inr, ⊎_elim, Vec, Global, All}
 use Rattle.std.proofs.lemmas.List.{length-map, map-append}
 use Rattle.std.specs.Prelude.{Contains}
 use Rattle.ct_codec.specs.Submitted.{Submitted, entry_of}
@@ -18,11 +18,11 @@ use Rattle.ct_step.specs.declared.line.StateLine.{StateLine}
 use Rattle.ct_tiles.specs.Edge.{IsEdge}
 use Rattle.ct_data_tiles.specs.TileLeaf.{Tiled, leaf_of, tile_leaf_text}
 use Rattle.ct_verify.specs.Laws.{AreHashes}
-use Rattle.ct_older_tree.proofs.Agreeing.{collide_more, one_hash}
-use Rattle.ct_older_tree.specs.Hashed.{CollideAmong}
+use Rattle.ct_verify.proofs.Agreeing.{collide_more, one_hash}
+use Rattle.ct_verify.specs.Hashed.{CollideAmong}
 use Rattle.ct_step.specs.Entries.{tiled_at, tiled_leaves, texts_of, tree_leaves, hashes_of}
 use Rattle.ct_step.specs.Steps.{new_entries, last_tiles, line_head, tile_hashes, AreBytesOf, IsLog, IsNamed, IsEdgeOf, IsHashedOfHanded, IsHashedOfLog, NamedEdgesTell, EdgesAreNamed, MayStep, StopsStep, StopsMade}
-use Rattle.ct_step.specs.Lines.{IsHashedByMaker, HandedAttemptsAreAttempts}
+use Rattle.ct_step.specs.Lines.{HandedAttemptsAreAttempts}
 use Rattle.ct_step.specs.declared.step.StepFault.{StepFault}
 use Rattle.ct_step.specs.declared.step.StepFault.TheVariants.{Edge, Entries, Growth, TooLong}
 use Rattle.ct_step.proofs.Batches.{Entry}

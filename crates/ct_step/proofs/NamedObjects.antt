@@ -17,9 +17,9 @@ use Rattle.ct_step.specs.Entries.{texts_of, hashes_of}
 use Rattle.ct_step.specs.Objects.{named, hash_object, entry_object, each_from, changed, level_objects, data_objects}
 use Rattle.ct_step.specs.Steps.{new_entries, step_objects, IsEdgeOf, IsHashedOfHanded, IsHashedOfLog, IsLog, IsTiledStep, NamedEdgesTell}
 use Rattle.ct_step.specs.declared.step.Step.{Step}
-use Rattle.ct_older_tree.proofs.Agreeing.{collide_more}
-use Rattle.ct_older_tree.specs.Hashed.{CollideAmong}
-use Rattle.ct_step.specs.RolledOut.{IsHashedOfContents, RepliedObjectsChange}
+use Rattle.ct_verify.proofs.Agreeing.{collide_more}
+use Rattle.ct_verify.specs.Hashed.{CollideAmong}
+use Rattle.ct_step.specs.RolledOut.{RepliedObjectsChange}
 use Rattle.ct_step.specs.StepAnswers.{edge_of, AreObjectsIn, IsStepReplyBy, IsBoundedReplyBy}
 use Rattle.ct_step.specs.StepRepeats.{BatchEntry, first_of_each}
 use Rattle.ct_step.specs.StepWords.{IsTileName, Reference, references_of, steps, refuses}

@@ -6,13 +6,10 @@ use Rattle.ct_step.specs.Resumed.{AnswersResume}
 use Rattle.ct_step.specs.declared.bundle.Object.{Object}
 use Rattle.ct_step.specs.declared.rolling_out.ResumeFault.{ResumeFault}
 use Rattle.ct_step.proofs.Bundles.{bundles_are_resumed, bundles_tell}
-use Rattle.ct_codec.specs.Submitted.{Submitted}
 use Rattle.ct_step.specs.declared.line.StateLine.{StateLine}
-use Rattle.ct_data_tiles.specs.TileLeaf.{Tiled}
 use Rattle.ct_verify.specs.Evidence.{Collides}
 use Rattle.ct_step.specs.RollingOut.{IsRolledOut, StepsAreRolledOut}
-use Rattle.ct_step.specs.Steps.{new_entries, step_objects, IsTiledStep}
-use Rattle.ct_step.specs.declared.step.Step.{Step}
+use Rattle.ct_step.specs.Steps.{new_entries, step_objects}
 
 others_tell : (H : List ℕ → List ℕ) (line : StateLine) (own bytes : List ℕ) (r : Result (Vec Object Global) ResumeFault) → line.bundle ≡ H own
     → AnswersResume H line bytes r → bytes ≢ own → IsRolledOut r → Collides H bytes own

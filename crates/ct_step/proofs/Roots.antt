@@ -8,8 +8,8 @@ use Rattle.ct_tree.proofs.Split.{split_pos, split_lt}
 use Rattle.ct_tree.specs.Tree.{split, mth, hash_node}
 use Rattle.ct_tiles.specs.Tiles.{lone_root}
 use Rattle.ct_verify.specs.Laws.{AreHashes}
-use Rattle.ct_older_tree.proofs.Agreeing.{left_nodes}
-use Rattle.ct_older_tree.specs.Hashed.{CollideAmong}
+use Rattle.ct_verify.proofs.Agreeing.{left_nodes}
+use Rattle.ct_verify.specs.Hashed.{CollideAmong}
 use Rattle.ct_step.specs.EdgeStrings.{IsHashedAbove}
 use Rattle.ct_step.specs.EdgeStrings.IsHashedAbove.{node, left, right}
 

@@ -1,6 +1,6 @@
 -- The positions of the objects of a staged batch in it.
 use Rattle.std.proofs.Common.{◌≡◌, ◌∙◌, ◌+◌, ◌<◌, ◌≤◌, ℕ, zero, suc, List, [], ◌∷◌, ◌++◌, length, map, take, drop, get_or, All, refl, sym, subst, ap, arith, append_assoc, length-append}
-use Rattle.std.proofs.lemmas.List.{append-nil, take_more, take_all, map_push}
+use Rattle.std.proofs.lemmas.List.{take_more, take_all, map_push}
 use Rattle.std.proofs.lemmas.Simd.{map-map}
 use Rattle.sha2.specs.Sha256.{sha256}
 use Rattle.ct_codec.specs.Bytes.{num, vec}
@@ -68,7 +68,7 @@ placed_more E i end next d p places after h placed pushed here moved =
     )
 
 -- the position of an object whose content has this digest
-pub hashed_place : (E : List Object) (i end : ℕ) (digest : List ℕ) → digest ≡ sha256 ((get_or E i no_object).content.now ++ [])
+pub hashed_place : (E : List Object) (i end : ℕ) (digest : List ℕ) → digest ≡ sha256 (get_or E i no_object).content.now
     → place_parts (record {
       name = (get_or E i no_object).name;
       start = end + (6 + length (get_or E i no_object).name.now);
@@ -78,7 +78,7 @@ pub hashed_place : (E : List Object) (i end : ℕ) (digest : List ℕ) → diges
 hashed_place E i end digest is =
     let o : Object = get_or E i no_object in
     ap (λ (h : List ℕ). record { name = o.name.now; start = end + (6 + length o.name.now); size = length o.content.now; digest = h })
-    (is ∙ ap sha256 (append-nil o.content.now))
+    is
 
 pub placed_all : (E : List Object) (i end : ℕ) (places : List Place) → length E ≤ i → ArePlaced (take i E) end places
     → map place_parts places ≡ references_of sha256 (map object_parts E)

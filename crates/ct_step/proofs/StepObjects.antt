@@ -10,9 +10,9 @@ use Rattle.ct_step.specs.Resumed.{object_parts, StopsResume}
 use Rattle.ct_step.specs.declared.bundle.Object.{Object}
 use Rattle.ct_step.specs.declared.rolling_out.ResumeFault.{ResumeFault}
 use Rattle.ct_step.specs.declared.rolling_out.ResumeFault.TheVariants.{Bundle}
-use Rattle.ct_step.proofs.Bundles.{bundles_are_resumed}
+use Rattle.ct_step.proofs.Bundles.{bundles_are_resumed, same_objects}
 use Rattle.ct_step.specs.declared.line.StateLine.{StateLine}
-use Rattle.ct_step.specs.StepAnswers.{AreObjectsIn, IsBundleOfTiles, IsNotRolledOut}
+use Rattle.ct_step.specs.StepAnswers.{AreObjectsIn, IsNotRolledOut}
 use Rattle.ct_step.specs.StepWords.{IsTileName}
 
 abbrev pub name_in : Object → List ℕ
@@ -71,24 +71,13 @@ not_rolled_out line bundle fault is stops = either (subst (λ (f : ResumeFault).
     either (inl other) = inl other
     either (inr none) = inr (λ objects b. none objects b.0)
 
--- the bytes are not the staged batch of objects with the names of tiles, and no objects are found
-pub none_found : (line : StateLine) (bundle : List ℕ) (fault : ResumeFault) (found : List Object) → found ≡ [] → sha256 bundle ≡ line.bundle → fault ≡ Bundle
-    → StopsResume sha256 line bundle fault → AreObjectsIn bundle (map object_parts found)
-none_found line bundle fault found nil digest is stops =
-    inr (ap (map object_parts) nil, either (subst (λ (f : ResumeFault). StopsResume sha256 line bundle f) is stops))
-  where
-    either : StopsResume sha256 line bundle Bundle → (others : List (List ℕ × List ℕ)) → IsBundleOfTiles others bundle → ⊥
-    either (inl other) = absurd (other digest)
-    either (inr none) = λ others b. none others b.0
-
--- the same if the objects do not all have the names of tiles
-pub none_named_in : (line : StateLine) (bundle : List ℕ) (read : Vec Object Global) (found : List Object) → found ≡ [] → sha256 bundle ≡ line.bundle
+-- if the objects of a staged batch do not all have the names of tiles, no objects are found
+pub none_named_in : (bundle : List ℕ) (read : Vec Object Global) (found : List Object) → found ≡ []
     → IsBundleOf (map object_parts read.items) bundle → (All IsTileName (map name_in read.items) → ⊥) → AreObjectsIn bundle (map object_parts found)
-none_named_in line bundle read found nil digest is none =
+none_named_in bundle read found nil is none =
     inr (
       ap (map object_parts) nil,
       λ others b.
-          let r : Result (Vec Object Global) ResumeFault = Ok read in
-          let same : map object_parts read.items ≡ others = bundles_are_resumed sha256 line others bundle r b.0 (sym digest) (digest, is) in
+          let same : map object_parts read.items ≡ others = same_objects (map object_parts read.items) others bundle is b.0 in
           none (parts_named read.items (subst (λ (l : List (List ℕ × List ℕ)). All HasName l) (sym same) b.1)),
     )

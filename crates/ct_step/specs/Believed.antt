@@ -6,7 +6,7 @@ use Rattle.ct_tree.specs.declared.head.Head.{Head}
 use Rattle.ct_tiles.specs.Edge.{IsEdge}
 use Rattle.ct_tiles.specs.Tiles.{edge, lone_root}
 use Rattle.ct_verify.specs.Laws.{AreHashes}
-use Rattle.ct_older_tree.specs.Hashed.{CollideAmong}
+use Rattle.ct_verify.specs.Hashed.{CollideAmong}
 use Rattle.ct_step.specs.EdgeStrings.{IsHashedInEdge}
 use Rattle.ct_step.specs.declared.believed.EdgeFault.{EdgeFault}
 use Rattle.ct_step.specs.declared.believed.EdgeFault.TheVariants.{OtherWidths, OtherRoot, Memory}

@@ -3,11 +3,12 @@
 use Rattle.std.specs.Prelude.{◌≡◌, ◌⊎◌, ⊤, true, false, ℕ, ◌≤◌, if◌then◌else◌, List, [], ◌∷◌, ◌++◌, length, map, take}
 use Rattle.ct_codec.specs.Submitted.{entry_of}
 use Rattle.ct_tree.specs.declared.head.Head.{Head}
-use Rattle.ct_older_tree.specs.Hashed.{CollideAmong}
+use Rattle.ct_verify.specs.Hashed.{CollideAmong}
 use Rattle.ct_step.specs.Believed.{BelievesState, IsHeadOver, IsHashedInEdgeOf}
 use Rattle.ct_step.specs.EdgeStrings.{IsHashedInEdge}
 use Rattle.ct_step.specs.Leaves.{indexed_leaves}
 use Rattle.ct_step.specs.History.{Attempt, IsMade, taken, CarryOn}
+use Rattle.ct_verify.specs.ConsistencyEvidence.{IsBeginning}
 
 -- An attempt that received its right edge: the head that was read (`head`), the partial tiles that were received (`tiles`), and the attempt
 -- from the state that was believed from these (`attempt`).
@@ -55,5 +56,5 @@ abbrev pub HandedSequencersAgree : Type 0
 HandedSequencersAgree =
     (H : List ℕ → List ℕ) → ((x : List ℕ) → length (H x) ≡ 32) → (held : Head) (known : List (List ℕ)) (attempts : List HandedAttempt)
     → IsHeadOver H known held → AreHandedAttempts H held attempts → (D : List (List ℕ)) → D ≡ leaves_after known attempts
-    → ((known ≡ take (length known) D) × CarryOn H held.timestamp D (taken (attempts_of attempts)))
+    → (IsBeginning known D × CarryOn H held.timestamp D (taken (attempts_of attempts)))
     ⊎ CollideAmong H (λ s. IsHashedInTiles H attempts s ⊎ IsHashedInEdgesOf H D s)

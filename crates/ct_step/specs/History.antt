@@ -7,6 +7,7 @@ use Rattle.ct_step.specs.Leaves.{receipts_from, receipt_parts}
 use Rattle.ct_step.specs.Growths.{IsState, IsGrowth, MayGrow}
 use Rattle.ct_step.specs.declared.growth.Growth.{Growth}
 use Rattle.ct_step.specs.declared.growth.State.{State}
+use Rattle.ct_verify.specs.ConsistencyEvidence.{IsBeginning}
 
 -- An attempt to carry on the log: the state that was read (`seen`), the submissions (`batch`), the timestamp (`now`), the step that was
 -- made from these (`growth`), and whether the lock took the step's state in place of the one that was read (`took`).
@@ -68,4 +69,4 @@ pub record CarryOn (H : List ℕ → List ℕ) (since : ℕ) (D : List (List ℕ
 abbrev pub SequencersAgree : Type 0
 SequencersAgree =
     (H : List ℕ → List ℕ) (held : State) (known : List (List ℕ)) (attempts : List Attempt) → IsState H held known → AreAttempts H held attempts
-    → (D : List (List ℕ)) × (known ≡ take (length known) D) × CarryOn H held.timestamp D (taken attempts)
+    → (D : List (List ℕ)) × IsBeginning known D × CarryOn H held.timestamp D (taken attempts)

@@ -4,10 +4,11 @@ use Rattle.std.specs.Prelude.{◌≡◌, ◌⊎◌, ⊤, Bool, true, false, ℕ,
 use Rattle.ct_codec.specs.Submitted.{Submitted}
 use Rattle.ct_data_tiles.specs.TileLeaf.{Tiled}
 use Rattle.ct_step.specs.declared.line.StateLine.{StateLine}
-use Rattle.ct_older_tree.specs.Hashed.{CollideAmong}
+use Rattle.ct_verify.specs.Hashed.{CollideAmong}
 use Rattle.ct_step.specs.Entries.{tiled_leaves}
 use Rattle.ct_step.specs.Steps.{new_entries, IsEdgeOf, IsHashedOfHanded, IsHashedOfLog, IsLog, IsStepFrom, IsTiledStep, MayStep}
 use Rattle.ct_step.specs.declared.step.Step.{Step}
+use Rattle.ct_verify.specs.ConsistencyEvidence.{IsBeginning}
 
 -- An attempt to carry on the log: the line that was read (`seen`), the submissions with their chains' fingerprints (`batch`), the timestamp
 -- (`now`), the step that was made from these (`step`), and whether the lock took the step's line in place of the one that was read
@@ -81,7 +82,7 @@ abbrev pub LineSequencersAgree : Type 0
 LineSequencersAgree =
     (H : List ℕ → List ℕ) (S : List (List ℕ)) (held : StateLine) (known : List Tiled) (attempts : List LineAttempt) → IsLog H known held
     → AreLineAttempts H S held attempts → (E : List Tiled) → E ≡ entries_after known attempts
-    → ((known ≡ take (length known) E) × CarryOnLines H held.timestamp E (taken_lines attempts)) ⊎ CollideAmong H (IsHashedBySteps H S E)
+    → (IsBeginning known E × CarryOnLines H held.timestamp E (taken_lines attempts)) ⊎ CollideAmong H (IsHashedBySteps H S E)
 
 -- An attempt with the bytes that its maker received: those of the partial tiles (`edge`), those of the partial data tile (`entries`), and
 -- the attempt itself (`attempt`).
@@ -118,7 +119,7 @@ abbrev pub TrueEdgesAgree : Type 0
 TrueEdgesAgree =
     (H : List ℕ → List ℕ) (held : StateLine) (known : List Tiled) (attempts : List HandedLineAttempt) → IsLog H known held
     → AreTrueAttempts H held known attempts
-    → (E : List Tiled) × (known ≡ take (length known) E) × CarryOnLines H held.timestamp E (taken_lines (handed_line_attempts attempts))
+    → (E : List Tiled) × IsBeginning known E × CarryOnLines H held.timestamp E (taken_lines (handed_line_attempts attempts))
 
 -- the strings that the maker of a step hashes: those of the received bytes, and the step's staged batch
 abbrev pub IsHashedByMaker : (List ℕ → List ℕ) → HandedLineAttempt → List ℕ → Type 0

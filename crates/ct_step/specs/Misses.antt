@@ -6,6 +6,7 @@ use Rattle.ct_step.specs.Growths.{IsState}
 use Rattle.ct_step.specs.History.{Attempt, AreAttempts, taken, CarryOn}
 use Rattle.ct_step.specs.declared.growth.State.{State}
 use Rattle.ct_step.specs.Identities.{identity_of_leaf, AreApart, AreNewFrom}
+use Rattle.ct_verify.specs.ConsistencyEvidence.{IsBeginning}
 
 -- An attempt whose submissions were looked up first: the identities that the deduplication index had then (`stored`), and the attempt with
 -- those submissions that it was said not to have (`attempt`).
@@ -50,7 +51,7 @@ abbrev pub OneEntryAnIdentity : Type 0
 OneEntryAnIdentity =
     (H : List ℕ → List ℕ) (held : State) (known : List (List ℕ)) (attempts : List LookedUp) → IsState H held known
     → AreAttempts H held (looked_up_attempts attempts) → MissesWereTrue known (taken_looked_up attempts)
-    → (D : List (List ℕ)) × (known ≡ take (length known) D) × CarryOn H held.timestamp D (taken (looked_up_attempts attempts))
+    → (D : List (List ℕ)) × IsBeginning known D × CarryOn H held.timestamp D (taken (looked_up_attempts attempts))
     × AddsOnce known D (taken (looked_up_attempts attempts))
 
 -- These premises do not exclude any history that satisfies the conclusion. If the identities of the steps' batches, in order, are new after

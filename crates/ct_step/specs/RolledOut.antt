@@ -6,7 +6,7 @@ use Rattle.ct_step.specs.declared.line.StateLine.{StateLine}
 use Rattle.ct_step.specs.Steps.{new_entries, step_objects, IsHashedOfHanded, IsHashedOfLog, IsLog, IsTiledStep}
 use Rattle.ct_step.specs.declared.step.Step.{Step}
 use Rattle.ct_data_tiles.specs.TileLeaf.{Tiled}
-use Rattle.ct_older_tree.specs.Hashed.{CollideAmong}
+use Rattle.ct_verify.specs.Hashed.{CollideAmong}
 use Rattle.ct_verify.specs.Evidence.{Collides}
 use Rattle.ct_step.specs.StepAnswers.{edge_of, IsReplyToBy}
 use Rattle.ct_step.specs.StepAsks.{for_step, for_resume}

@@ -1,5 +1,5 @@
 -- The meaning of the bytes that a call receives: a batch, and the contents of the objects at a log's right edge.
-use Rattle.std.specs.Prelude.{◌≡◌, ◌<◌, ◌^◌, ◌/◌, ◌&&◌, ℕ, List, [], ◌∷◌, length, map, All, Bool, true, false, nat_eq, nat_lt, if◌then◌else◌, Option, Some, None, option_map, option_and_then}
+use Rattle.std.specs.Prelude.{◌≡◌, ◌<◌, ◌^◌, ◌/◌, ◌&&◌, ℕ, List, [], ◌∷◌, length, All, Bool, nat_eq, nat_lt, if◌then◌else◌, Option, Some, None, option_map, option_and_then}
 use Rattle.std.specs.List.{flat_map}
 use Rattle.std.specs.Result.{result_ok}
 use Rattle.core.specs.Simd.{first_chunks}

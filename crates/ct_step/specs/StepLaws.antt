@@ -12,12 +12,13 @@ use Rattle.ct_step.specs.Lines.{LineAttempt, AreLineAttempts, entries_after, IsH
 use Rattle.ct_step.specs.Steps.{new_entries, IsLog}
 use Rattle.ct_step.specs.declared.step.Step.{Step}
 use Rattle.ct_data_tiles.specs.TileLeaf.{Tiled}
-use Rattle.ct_older_tree.specs.Hashed.{CollideAmong}
-use Rattle.ct_older_tree.specs.ListLaws.{IsHashedInAudit}
+use Rattle.ct_verify.specs.Hashed.{CollideAmong}
+use Rattle.ct_verify.specs.ListLaws.{IsHashedInAudit}
 use Rattle.ct_step.specs.StepAsks.{for_step, for_claim}
 use Rattle.ct_step.specs.StepAnswers.{edge_of, first_line_by, IsReplyToBy}
 use Rattle.ct_step.specs.StepRepeats.{BatchEntry, first_of_each, places_of_all, identities_of}
 use Rattle.ct_step.specs.StepWords.{Reference, receipts_at, steps, stands}
+use Rattle.ct_verify.specs.ConsistencyEvidence.{IsBeginning}
 
 -- the first line of a log is that of a log without entries
 abbrev pub FirstLineBegins : Type 0
@@ -140,5 +141,5 @@ OneEntryAnIdentityByLines =
     (H : List ℕ → List ℕ) (S : List (List ℕ)) (held : StateLine) (known : List Tiled) (asked : List LookedUpLine) → IsLog H known held
     → AreLineAttempts H S held (line_attempts_of asked) → LineMissesWereTrue known (taken_of_lines asked) → (E : List Tiled)
     → E ≡ entries_after known (line_attempts_of asked)
-    → (IsLog H E (held_behind held (line_attempts_of asked)) × (known ≡ take (length known) E) × AreNewFrom (length known) (logged_identities E))
+    → (IsLog H E (held_behind held (line_attempts_of asked)) × IsBeginning known E × AreNewFrom (length known) (logged_identities E))
     ⊎ CollideAmong H (IsHashedBySteps H S E)

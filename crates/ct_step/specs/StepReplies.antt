@@ -1,5 +1,5 @@
 -- The bytes of the replies, in the presentation language of RFC 5246 (section 4). Each vector's length has 8 bytes.
-use Rattle.std.specs.Prelude.{◌≡◌, ◌++◌, ℕ, List, map, filter_map, slice_get, Result, Ok, Err}
+use Rattle.std.specs.Prelude.{◌≡◌, ◌++◌, ℕ, List, Result, Ok, Err}
 use Rattle.std.specs.List.{flat_map}
 use Rattle.ct_checkpoint.specs.Checkpoint.{checkpoint_text}
 use Rattle.ct_codec.specs.Bytes.{num, vec}

@@ -22,7 +22,7 @@ use Rattle.ct_step.specs.declared.believed.EdgeFault.TheVariants.{OtherWidths, O
 use Rattle.ct_step.specs.declared.growth.State.{State}
 use Rattle.ct_step.specs.declared.growth.GrowthFault.TheVariants.{ClockBack, Full, Refused}
 use Rattle.ct_verify.specs.Laws.{AreHashes}
-use Rattle.ct_older_tree.specs.Hashed.{CollideAmong}
+use Rattle.ct_verify.specs.Hashed.{CollideAmong}
 use Rattle.ct_step.specs.Bundle.{IsBundleOf}
 use Rattle.ct_step.specs.Entries.{tiled_leaves, texts_of, tree_leaves, hashes_of}
 use Rattle.ct_step.specs.Objects.{level_objects, data_objects, FitsInBundle}
@@ -68,13 +68,14 @@ pub record IsTiledStep (H : List ℕ → List ℕ) (line : StateLine) (E : List 
 -- A step from a line, for any received edge:
 -- - Each submission has its receipt, in order, from the line's size on (`receipts`).
 -- - The next line has one entry more for each submission (`size`), and the timestamp `now` (`moment`).
--- - It has the digests of the staged batch (`digest`) and of the text of the line before (`before`).
+-- - It has the digests of the staged batch (`digest`), of the new partial data tile (`partial`) and of the text of the line before (`before`).
 -- - The bytes that are signed for the head have this line's size, timestamp and root (`signed`).
 pub record IsStepFrom (H : List ℕ → List ℕ) (line : StateLine) (batch : List (Submitted × List (List ℕ))) (now : ℕ) (s : Step) : Type 0 where
   pub receipts : map receipt_parts s.receipts.items ≡ receipts_from now line.tree_size (map (λ e. entry_of e.0) batch)
   pub size : s.line.tree_size ≡ line.tree_size + length batch
   pub moment : s.line.timestamp ≡ now
   pub digest : s.line.bundle ≡ H s.bundle.items
+  pub partial : s.line.data_tile ≡ H s.partial.items
   pub before : s.line.before ≡ H (state_line_text line)
   pub signed : s.signed.items ≡ tree_head_text now s.line.tree_size s.line.root
 

@@ -4,8 +4,8 @@ ghost use Rattle.std.specs.Prelude.{◌≡◌, ◌⊎◌, ◌<◌, ◌^◌, ℕ,
 ghost use Rattle.ct_codec.specs.Submitted.{entry_of};
 ghost use Rattle.ct_codec.specs.declared.refusal.Refusal.TheVariants as Refusal;
 ghost use Rattle.ct_verify.specs.Evidence.{IsAudited};
-ghost use Rattle.ct_older_tree.specs.Hashed.{CollideAmong};
-ghost use Rattle.ct_older_tree.specs.ListLaws.{IsHashedInAudit};
+ghost use Rattle.ct_verify.specs.Hashed.{CollideAmong};
+ghost use Rattle.ct_verify.specs.ListLaws.{IsHashedInAudit};
 ghost use Rattle.ct_step.specs.Believed.{IsHeadOver};
 ghost use Rattle.ct_step.specs.Claims.{claimed_leaf, IsAnsweredAt, StopsClaim};
 ghost use Rattle.ct_step.specs.declared.claim.ClaimFault.TheVariants.{ProofRefused, Refused};

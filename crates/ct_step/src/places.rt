@@ -18,12 +18,27 @@ pub struct Place<'a> {
     pub(crate) digest: [u8; 32],
 }
 
-// Returns the positions of the objects of a staged batch.
+// Returns the SHA-256 digest of a content. It is not computed again if the content is the partial data tile, whose digest is known.
+fn digest_of(content: &[u8], partial: &[u8], known: &[u8; 32]) -> [u8; 32]
+    requires { known.now ≡ sha256 partial.now }
+    ensures { result ≡ sha256 content.now }
+{
+    if content == partial {
+        *known
+    } else {
+        Sha256Hash.hash(&[content])
+    }
+}
+
+// Returns the positions of the objects of a staged batch. A partial data tile with a known digest is not hashed again.
 pub(crate) fn places_of<'a>(
     alloc: Global,
     objects: &[Object<'a>],
+    partial: &[u8],
+    known: &[u8; 32],
 ) -> Result<Vec<Place<'a>>, AllocError>
-    requires { bundle_size (map object_parts objects.now) < 2 ^ 64 }
+    requires size { bundle_size (map object_parts objects.now) < 2 ^ 64 }
+    requires known { known.now ≡ sha256 partial.now }
     ensures { IfOk result (λ places. map place_parts places.items ≡ references_of sha256 (map object_parts objects.now)) }
 {
     let mut places = Vec::new(alloc);
@@ -35,7 +50,7 @@ pub(crate) fn places_of<'a>(
             name: object.name,
             start,
             length,
-            digest: Sha256Hash.hash(&[object.content]),
+            digest: digest_of(object.content, partial, known),
         })?;
         end = start + length;
     }

@@ -36,6 +36,8 @@ pub struct Step {
     pub signed: Vec<u8>,
     /// The objects that are new or change, as one byte string, from which [`crate::resume`] returns them.
     pub bundle: Vec<u8>,
+    /// The bytes of the new partial data tile, which are empty if there is none.
+    pub partial: Vec<u8>,
     /// The new state: its size, timestamp and root are those of the new head.
     pub line: StateLine,
 }
@@ -224,6 +226,7 @@ fn step_of<H: NodeHash>(
         receipts: growth.receipts,
         signed: tree_head_signature_input(alloc, now, next.tree_size, &next.root)?,
         bundle,
+        partial: row.partial,
         line: next,
     })
 }

@@ -13,6 +13,7 @@ ghost use Rattle.ct_step.specs.StepWords.{IsTileName, bundle_size, names_edge, r
 ghost use Rattle.ct_step.specs.Needed.{needed_names};
 
 use crate::answer::{Answer, StepRefusal};
+use crate::bundle::{is_bundle, objects_of};
 use crate::edge::edge_of;
 use crate::entry::Entry;
 use crate::fault::{NoName, NotBelieved, NotRolledOut, NotTaken};
@@ -85,24 +86,17 @@ fn are_tiles(alloc: Global, objects: &[Object<'_>]) -> Result<bool, AllocError>
     Ok(true)
 }
 
-// Returns the objects of a line's staged batch if it is one of objects with the names of tiles, and otherwise no objects.
-fn objects_in<'a>(
-    alloc: Global,
-    line: &StateLine,
-    bundle: &'a [u8],
-) -> Result<Vec<Object<'a>>, AllocError>
-    requires { sha256 bundle.now ≡ line.now.bundle }
+// Returns the objects of a staged batch if it is one of objects with the names of tiles, and otherwise no objects. The digest is not computed:
+// the caller made these bytes itself.
+fn objects_in<'a>(alloc: Global, bundle: &'a [u8]) -> Result<Vec<Object<'a>>, AllocError>
     ensures found { IfOk result (λ objects. AreObjectsIn bundle.now (map object_parts objects.items)) }
     ensures named { IfOk result (λ objects. All IsTileName (map (λ o. (object_parts o).0) objects.items)) }
     ensures few { IfOk result (λ objects. bundle_size (map object_parts objects.items) < 2 ^ 64) }
 {
-    let objects = match resume(alloc, &Sha256Hash, line, bundle) {
-        Ok(objects) => objects,
-        Err(fault) => {
-            NotRolledOut::from(fault).told?;
-            return Ok(Vec::new(alloc));
-        }
-    };
+    if !is_bundle(bundle) {
+        return Ok(Vec::new(alloc));
+    }
+    let objects = objects_of(alloc, bundle)?;
     if are_tiles(alloc, &objects)? {
         Ok(objects)
     } else {
@@ -117,11 +111,11 @@ fn step_made(
     step: &Step,
     places: &[usize],
 ) -> Result<Answer, AllocError>
-    requires { sha256 step.now.bundle.items ≡ step.now.line.bundle }
+    requires { step.now.line.data_tile ≡ sha256 step.now.partial.items }
     ensures { IfOk result (λ t. IsReplyText origin.now t (TellsObjects step.now places.now)) }
 {
-    let objects = objects_in(alloc, &step.line, &step.bundle)?;
-    let standing = places_of(alloc, &objects)?;
+    let objects = objects_in(alloc, &step.bundle)?;
+    let standing = places_of(alloc, &objects, &step.partial, &step.line.data_tile)?;
     stepped_line(alloc, origin, step, places, &standing)
 }
 
@@ -251,7 +245,7 @@ fn resumed(
     if !are_tiles(alloc, &objects)? {
         return refused_line(StepRefusal::Bundle);
     }
-    let standing = places_of(alloc, &objects)?;
+    let standing = places_of(alloc, &objects, &[], &Sha256Hash.hash(&[]))?;
     resumed_line(alloc, origin, line, &standing)
 }
 

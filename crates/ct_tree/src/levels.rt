@@ -3,7 +3,7 @@ ghost use Rattle.std.specs.Prelude.{◌≡◌, ◌+◌, ◌-◌, ◌<◌, ◌≤
 ghost use Rattle.ct_tree.specs.Stored.{Stores, IsWhole, HaveSameLevels, HaveSameLevelsBut};
 
 use crate::hash::{NodeHash, node_hash};
-use shared::SharedList;
+use shared_list::SharedList;
 use std::alloc::{AllocError, Global};
 
 // The node at an index of a level. The lists are those of the levels above the leaves.

@@ -16,3 +16,9 @@ pub mod Prefix
 pub mod Walking
 pub mod Extending
 pub mod Clashes
+pub mod Agreeing
+pub mod Carrying
+pub mod OlderTree
+pub mod ListProofs
+pub mod HashedStrings
+pub mod Viewing

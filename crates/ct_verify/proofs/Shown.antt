@@ -1,6 +1,6 @@
 -- The conclusion from walking down an accepted path, and that nothing is found if the path is PATH.
 use Rattle.std.proofs.Common.{◌≡◌, ℕ, ◌+◌, ◌-◌, ◌<◌, ◌≤◌, refl, subst, sym, ◌∙◌, ap, arith, List, [], ◌∷◌, ◌++◌, reverse, length, take, drop, get_or, map}
-use Rattle.std.proofs.Common.{Option, Some, None, true, false, length-drop, ◌⊎◌, inl, inr, ⊎_elim}
+use Rattle.std.proofs.Common.{Option, Some, None, true, false, length-drop, ⊎_elim}
 use Rattle.std.specs.Str.{bytes_eq}
 use Rattle.std.proofs.lemmas.Bool.{cases_Bool, cond-true, cond-false, both_ways, lt-ltb, le-ltb, cases_lt}
 use Rattle.std.proofs.lemmas.Slice.Eq.{bytes_eq-Decides}

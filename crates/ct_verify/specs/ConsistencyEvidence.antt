@@ -13,9 +13,9 @@ use Rattle.ct_verify.specs.declared.evidence.EvidenceFault.TheVariants.{ProofRef
 abbrev pub IsAcceptedFor : (List ℕ → List ℕ) → List (List ℕ) → List (List ℕ) → List (List ℕ) → Type 0
 IsAcceptedFor H E D p = AcceptsConsistency H (length E) (length D) (mth_of_leaves H E) (mth_of_leaves H D) p
 
--- the old list is the beginning of the new one
-abbrev pub IsBeginning : List (List ℕ) → List (List ℕ) → Type 0
-IsBeginning E D = E ≡ take (length E) D
+-- a list is the beginning of another one
+abbrev pub IsBeginning : {X : Type 0} → List X → List X → Type 0
+IsBeginning {X} E D = E ≡ take (length E) D
 
 -- Holds: accepted, and the old list begins the new one. Collision: accepted, the old list does not begin the new one, and these are two
 -- strings that differ and have the same hash, the first clash along the proof

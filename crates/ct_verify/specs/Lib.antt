@@ -11,3 +11,7 @@ pub mod Strings
 pub mod Difference
 pub mod Search
 pub mod Clash
+pub mod Hashed
+pub mod ListLaws
+pub mod OlderTree
+pub mod Shown

@@ -1,11 +1,12 @@
 -- The results of the search for a collision between two lists, as the contracts of its helper functions cite it.
-use Rattle.std.specs.Prelude.{◌≡◌, ℕ, Bool, List, ◌∷◌, length, take, Option, Some}
+use Rattle.std.specs.Prelude.{◌≡◌, ℕ, Bool, List, ◌∷◌, length, Option, Some}
 use Rattle.std.specs.Option.{option_map}
 use Rattle.ct_tree.specs.Tree.{mth_of_leaves, hash_node}
 use Rattle.ct_verify.specs.Rebuild.{both_roots}
 use Rattle.ct_verify.specs.Strings.{children_string}
 use Rattle.ct_verify.specs.declared.consistency_evidence.Clash.{Clash}
 use Rattle.ct_verify.specs.declared.consistency_evidence.Clash.TheVariants.{Leaves, Nodes}
+use Rattle.ct_verify.specs.ConsistencyEvidence.{IsBeginning}
 
 -- the two strings of a clash
 abbrev pub clash_strings : Clash → List ℕ × List ℕ
@@ -26,4 +27,4 @@ SameRoot H E D = mth_of_leaves H E ≡ mth_of_leaves H D → E ≡ D
 
 -- if the proof's roots are those of the lists, the old list begins the new one
 abbrev pub Begun : (List ℕ → List ℕ) → Bool → List ℕ → List (List ℕ) → List (List ℕ) → List (List ℕ) → Type 0
-Begun H b r p E D = both_roots H (length E) (length D) b r p ≡ Some (mth_of_leaves H E, mth_of_leaves H D) → E ≡ take (length E) D
+Begun H b r p E D = both_roots H (length E) (length D) b r p ≡ Some (mth_of_leaves H E, mth_of_leaves H D) → IsBeginning E D

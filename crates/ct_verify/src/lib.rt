@@ -14,6 +14,9 @@
 //! collisions. Given the lists themselves, they report that the proof is true of them, or return two strings that differ and have the same
 //! hash. For an audit path these are the strings nearest the root (`specs/Evidence.antt`), for a consistency proof those nearest the leaves
 //! (`specs/Clash.antt`).
+//!
+//! The module [`meaning`] states what an accepted proof shows of lists of leaves, of older trees and of what two clients see, or otherwise
+//! which strings collide.
 #![tactic(auto)]
 
 mod children;
@@ -25,6 +28,7 @@ mod halves;
 mod inclusion;
 mod inclusion_evidence;
 pub mod laws;
+pub mod meaning;
 mod place;
 
 pub use consistency::verify_consistency;

@@ -5,8 +5,8 @@ use Rattle.std.specs.Prelude.{All, Contains, count_by, flat_map}
 use Rattle.std.proofs.lemmas.List.{length-append, length-replicate}
 use Rattle.std.proofs.lemmas.List.Elements.{All-nil, All-head, All-tail, All-weaker, Contains-append_right}
 use Rattle.std.proofs.lemmas.List.Sums.{sum_by-cons}
-use Rattle.ct_older_tree.proofs.Viewing.{in_left}
-use Rattle.ct_older_tree.specs.Hashed.{CollideAmong}
+use Rattle.ct_verify.proofs.Viewing.{in_left}
+use Rattle.ct_verify.specs.Hashed.{CollideAmong}
 use Rattle.ct_witness.proofs.Runs.{all_back, both_back}
 use Rattle.ct_witness.specs.declared.tree.Tree.{Tree}
 use Rattle.ct_witness.specs.Runs.{Granted, no_tree, AreGranted, IsWitness, newest_tree, IsCosigned, IsTreeOf, IsTreeOfFirst, granted_strings}

@@ -5,11 +5,11 @@ use Rattle.std.proofs.lemmas.List.{length-take-le, take-take, take_all}
 use Rattle.std.proofs.lemmas.List.Elements.{All-nil, All-cons, All-weaker, All-contains_itself}
 use Rattle.ct_tree.proofs.Mth.{mth-nil}
 use Rattle.ct_tree.specs.Tree.{mth_of_leaves}
-use Rattle.ct_older_tree.specs.Hashed.{CollideAmong, IsHashedIn, proof_strings}
+use Rattle.ct_verify.specs.Hashed.{CollideAmong, IsHashedIn, proof_strings}
 use Rattle.ct_verify.specs.Laws.{AreHashes}
 use Rattle.ct_verify.specs.Verdict.{AcceptsConsistency}
-use Rattle.ct_older_tree.proofs.OlderTree.{HasLog, has_cut, whole_log, goes_back}
-use Rattle.ct_older_tree.proofs.Viewing.{first_of, second_of}
+use Rattle.ct_verify.proofs.OlderTree.{HasLog, has_cut, whole_log, goes_back}
+use Rattle.ct_verify.proofs.Viewing.{first_of, second_of}
 use Rattle.ct_witness.specs.declared.tree.Tree.{Tree}
 use Rattle.ct_witness.specs.Witnessed.{TreeGoesOn}
 use Rattle.ct_witness.specs.Runs.{Granted, no_tree, AreGranted, newest_tree, IsCosigned, IsTreeOf, IsTreeOfFirst, granted_strings, IsHashedOver, CosignedGoBack, CosignedAgree}

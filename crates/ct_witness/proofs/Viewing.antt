@@ -5,10 +5,10 @@ use Rattle.std.specs.Prelude.{All, Contains, flat_map}
 use Rattle.std.proofs.lemmas.List.Elements.{All-head, All-weaker, Contains-append_left, Contains-append_right}
 use Rattle.ct_tree.specs.Tree.{hash_leaf}
 use Rattle.ct_verify.specs.Laws.{AreHashes}
-use Rattle.ct_older_tree.proofs.Extending.{Leads}
-use Rattle.ct_older_tree.proofs.Viewing.{in_left, first_of, second_of, leads, meet, further, root_length, first_part, second_part, third_part}
-use Rattle.ct_older_tree.specs.Hashed.{CollideAmong, path_strings, proof_strings}
-use Rattle.ct_older_tree.specs.Shown.{IsShown, shown_strings}
+use Rattle.ct_verify.proofs.Carrying.{Leads}
+use Rattle.ct_verify.proofs.Viewing.{in_left, first_of, second_of, leads, meet, further, root_length, first_part, second_part, third_part}
+use Rattle.ct_verify.specs.Hashed.{CollideAmong, path_strings, proof_strings}
+use Rattle.ct_verify.specs.Shown.{IsShown, shown_strings}
 use Rattle.ct_witness.proofs.Quorums.{common, Has, with_strings_of}
 use Rattle.ct_witness.proofs.Runs.{reach_up, reach_same}
 use Rattle.ct_witness.specs.declared.tree.Tree.{Tree}

@@ -1,7 +1,7 @@
 -- Consequences when enough of several witnesses cosigned a tree. A witness is represented by the list of the requests that it granted, in
 -- their order; for a faulty witness this is any list. H is any hash function on byte lists with hashes of 32 bytes.
 use Rattle.std.specs.Prelude.{◌≡◌, ◌⊎◌, ◌+◌, ◌-◌, ◌<◌, ◌≤◌, ⊤, ℕ, Bool, true, false, List, [], ◌∷◌, length, count_by, flat_map, Contains}
-use Rattle.ct_older_tree.specs.Hashed.{CollideAmong, IsHashedInLog}
+use Rattle.ct_verify.specs.Hashed.{CollideAmong, IsHashedInLog}
 use Rattle.ct_witness.specs.declared.tree.Tree.{Tree}
 use Rattle.ct_witness.specs.Runs.{Granted, IsWitness, IsCosigned, IsTreeOf, IsTreeOfFirst, newest_tree, no_tree, granted_strings}
 

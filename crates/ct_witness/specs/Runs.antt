@@ -1,7 +1,7 @@
 -- Consequences for all trees that a witness cosigned. H is any hash function on byte lists with hashes of 32 bytes.
 use Rattle.std.specs.Prelude.{◌≡◌, ◌⊎◌, ◌≤◌, ⊤, ℕ, true, List, [], ◌∷◌, ◌++◌, length, take, All, Contains}
 use Rattle.ct_tree.specs.Tree.{mth_of_leaves}
-use Rattle.ct_older_tree.specs.Hashed.{CollideAmong, IsHashedInLog, proof_strings}
+use Rattle.ct_verify.specs.Hashed.{CollideAmong, IsHashedInLog, proof_strings}
 use Rattle.ct_verify.specs.Laws.{AreHashes}
 use Rattle.ct_witness.specs.declared.tree.Tree.{Tree}
 use Rattle.ct_witness.specs.Witnessed.{PassesTree}

@@ -1,8 +1,8 @@
 -- The leaves that clients can be shown under trees that witnesses cosigned. The laws need no list of leaves, because a dishonest log has
 -- none. H is any hash function on byte lists with hashes of 32 bytes.
 use Rattle.std.specs.Prelude.{◌≡◌, ◌⊎◌, ◌+◌, ◌<◌, ◌≤◌, ℕ, List, ◌++◌, length, flat_map, Contains}
-use Rattle.ct_older_tree.specs.Hashed.{CollideAmong}
-use Rattle.ct_older_tree.specs.Shown.{IsShown, shown_strings}
+use Rattle.ct_verify.specs.Hashed.{CollideAmong}
+use Rattle.ct_verify.specs.Shown.{IsShown, shown_strings}
 use Rattle.ct_witness.specs.declared.tree.Tree.{Tree}
 use Rattle.ct_witness.specs.Runs.{Granted, IsWitness, IsCosigned, no_tree, granted_strings}
 use Rattle.ct_witness.specs.Quorums.{AtLeast, AllBut}

@@ -2,7 +2,7 @@
 use Rattle.std.proofs.Common.{◌≡◌, ℕ, List, [], inr}
 use Rattle.std.specs.Prelude.{Option}
 use Rattle.std.specs.Io.KnownBytes.{Appends}
-use Rattle.ct_parties.specs.Output.{not_begun}
+use Rattle.ct_workers.specs.Output.{not_begun}
 use Rattle.ct_lines.specs.declared.run_fault.Fault.{Fault}
 use Rattle.ct_lines.specs.declared.run_fault.Fault.TheVariants.{Memory}
 use Rattle.ctlog.specs.CommandLine.{CommandLine, log_with, help, version, nothing}

@@ -1,7 +1,7 @@
 -- The output of a run of the program.
 use Rattle.std.specs.Prelude.{◌≡◌, ◌⊎◌, ℕ, List, [], Option}
 use Rattle.std.specs.Io.KnownBytes.{Appends}
-use Rattle.ct_parties.specs.Output.{IsBegun, IsServed}
+use Rattle.ct_workers.specs.Output.{IsBegun, IsServed}
 use Rattle.ct_lines.specs.declared.run_fault.Fault.{Fault}
 use Rattle.ct_lines.specs.declared.run_fault.Fault.TheVariants.{Memory, Write}
 use Rattle.ctlog.specs.CommandLine.{CommandLine, log_with, help, version, nothing}

@@ -5,7 +5,7 @@
 //! of the fronts come first, in the order of their numbers, then the operator's, and then, after the log is closed, those of the frozen
 //! log. At a line that ends a shift, all lines before it are done, and all fronts are resumed, before the lines after it are started.
 //!
-//! - `program` has `run`, which does all this over any reader and any two writers, with `serve` of `ct_parties`.
+//! - `program` has `run`, which does all this over any reader and any two writers, with `serve` of `ct_workers`.
 //! - `words` has the texts of the arguments, `command` reads the numbers of a log from them, and `answer` answers a command line that gives
 //!   no numbers. `names` has the program's name and its descriptions for help.
 //! - `reporting` writes the line for a fault, which ends the program before all output is written.

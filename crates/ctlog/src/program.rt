@@ -12,7 +12,7 @@ use crate::command::read_options;
 use crate::names::Program;
 use crate::reporting::report;
 use ct_lines::Fault;
-use ct_parties::serve;
+use ct_workers::serve;
 use std::alloc::Global;
 use std::io::{Read, Write};
 use std::sync::Wait;

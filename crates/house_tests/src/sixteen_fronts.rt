@@ -10,7 +10,7 @@ use ct_codec::{Refusal, Submission};
 use ct_core::{Query, Settled};
 use ct_house::{FinalLog, Front, Retired, Sequencer, open};
 use ct_tree::Head;
-use shared::SharedList;
+use shared_list::SharedList;
 use std::alloc::Global;
 use std::process::Abort;
 use std::sync::Wait;

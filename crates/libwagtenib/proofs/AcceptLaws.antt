@@ -6,8 +6,8 @@ use Rattle.ct_guard.proofs.NewestHead.{heads_go_back}
 use Rattle.ct_guard.specs.Guarded.{PassesHead}
 use Rattle.ct_guard.specs.NewestHead.{HeadStep, AreHeadSteps, IsHeadOfFirst, NewestIsOf, IsHashedForHeads}
 use Rattle.ct_monitor.specs.Heads.{IsHeadOfAll}
-use Rattle.ct_older_tree.proofs.Agreeing.{collide_more}
-use Rattle.ct_older_tree.specs.Hashed.{CollideAmong}
+use Rattle.ct_verify.proofs.Agreeing.{collide_more}
+use Rattle.ct_verify.specs.Hashed.{CollideAmong}
 use Rattle.ct_guard.proofs.StepReceipts.{step_receipts_stand}
 use Rattle.ct_guard.specs.StepReceipts.{PassesReceipts, IsHashedForStep}
 use Rattle.ct_tree.specs.declared.head.Head.{Head}

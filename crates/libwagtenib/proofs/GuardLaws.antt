@@ -19,9 +19,9 @@ use Rattle.ct_guard.specs.declared.refusal.ReceiptRefusal.TheVariants.{NoHead, N
 use Rattle.ct_monitor.specs.Heads.{IsHeadOfAll}
 use Rattle.ct_tree.specs.Tree.{hash_leaf, mth_of_leaves}
 use Rattle.ct_tree.specs.declared.head.Head.{Head}
-use Rattle.ct_older_tree.proofs.Agreeing.{collide_more}
-use Rattle.ct_older_tree.specs.Hashed.{CollideAmong}
-use Rattle.ct_older_tree.specs.ListLaws.{IsHashedInAudit}
+use Rattle.ct_verify.proofs.Agreeing.{collide_more}
+use Rattle.ct_verify.specs.Hashed.{CollideAmong}
+use Rattle.ct_verify.specs.ListLaws.{IsHashedInAudit}
 use Rattle.ct_verify.specs.Laws.{AreHashes}
 use Rattle.ct_verify.specs.Verdict.{AcceptsInclusion}
 use Rattle.ct_verify.specs.declared.fault.ProofFault.{ProofFault}

@@ -5,7 +5,7 @@ use Rattle.std.proofs.lemmas.List.{append-nil, map_push}
 use Rattle.sha2.specs.Sha256.{sha256}
 use Rattle.sha2.proofs.Facts256.{length-sha256}
 use Rattle.ct_verify.specs.Laws.{AreHashes}
-use Rattle.ct_older_tree.proofs.ListProofs.{accepted_path_is_path, accepted_proof_is_of_beginning}
+use Rattle.ct_verify.proofs.ListProofs.{accepted_path_is_path, accepted_proof_is_of_beginning}
 use Rattle.ct_tree.specs.Tree.{mth, path, proof}
 use Rattle.ct_data_tiles.specs.TileNames.{name_text}
 use Rattle.ct_tiles.specs.Needed.{root_tiles, path_tiles, proof_tiles}

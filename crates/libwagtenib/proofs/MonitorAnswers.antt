@@ -1,7 +1,7 @@
 -- The verdict and the report of an answer whose state was written, or had no room.
 use Rattle.std.proofs.Common.{◌≡◌, ◌⊎◌, ℕ, List, inl, inr, arith}
-use Rattle.ct_monitor_calls.specs.declared.answer.Answer.{Answer}
-use Rattle.ct_monitor_calls.specs.declared.answer.EntriesAnswer.{EntriesAnswer}
+use Rattle.ct_monitor.specs.declared.answer.Answer.{Answer}
+use Rattle.ct_monitor.specs.declared.answer.EntriesAnswer.{EntriesAnswer}
 use Rattle.libwagtenib.specs.Monitor.{GivesAnswer, TellsReport, TellsVerdict}
 use Rattle.libwagtenib.specs.Output.{WritesOutput}
 use Rattle.libwagtenib.specs.declared.monitor.EntryReport.{EntryReport}

@@ -3,19 +3,19 @@ use Rattle.std.proofs.Common.{◌≡◌, ◌∙◌, ◌⊎◌, ◌++◌, ℕ, Li
 use Rattle.std.proofs.Math.Seq.{take-append_seam}
 use Rattle.sha2.specs.Sha256.{sha256}
 use Rattle.sha2.proofs.Facts256.{length-sha256}
-use Rattle.ct_monitor_calls.specs.Calls.{Handed, a_head, entries_from, a_proof, HasState, IsMonitorBegin, StateJudges}
-use Rattle.ct_monitor_calls.specs.Laws.{MonitorCall, CallsHandOut, IsCallOver, IsNeverRefused, AreCalls, last_state}
-use Rattle.ct_monitor_calls.specs.Starts.{IsHashedForStart, IsMonitorStart, known_at_start}
-use Rattle.ct_monitor_calls.specs.declared.starting.StartFault.TheVariants.{OtherCount, OtherRoot, Memory}
-use Rattle.ct_monitor_calls.specs.StateText.{IsMonitorState}
-use Rattle.ct_monitor_calls.specs.declared.answer.Answer.{Answer}
-use Rattle.ct_monitor_calls.proofs.History.{calls_agree}
-use Rattle.ct_monitor_calls.proofs.Starts.{calls_agree_from_start}
+use Rattle.ct_monitor.specs.Calls.{Handed, a_head, entries_from, a_proof, HasState, IsMonitorBegin, StateJudges}
+use Rattle.ct_monitor.specs.CallLaws.{MonitorCall, CallsHandOut, IsCallOver, IsNeverRefused, AreCalls, last_state}
+use Rattle.ct_monitor.specs.Starts.{IsHashedForStart, IsMonitorStart, known_at_start}
+use Rattle.ct_monitor.specs.declared.starting.StartFault.TheVariants.{OtherCount, OtherRoot, Memory}
+use Rattle.ct_monitor.specs.StateText.{IsMonitorState}
+use Rattle.ct_monitor.specs.declared.answer.Answer.{Answer}
+use Rattle.ct_monitor.proofs.CallHistory.{calls_agree}
+use Rattle.ct_monitor.proofs.Starts.{calls_agree_from_start}
 use Rattle.ct_monitor.specs.Heads.{IsHeadOfAll}
 use Rattle.ct_monitor.specs.Watched.{Watched}
 use Rattle.ct_monitor.specs.WatcherState.{WatcherState}
 use Rattle.ct_tree.specs.declared.head.Head.{Head}
-use Rattle.ct_older_tree.specs.Hashed.{CollideAmong}
+use Rattle.ct_verify.specs.Hashed.{CollideAmong}
 use Rattle.libwagtenib.specs.Guard.{head_of_c}
 use Rattle.libwagtenib.specs.Monitor.{BeginsMonitor, StartsMonitor, GivesAnswer, Judges, JudgesEntries, TellsVerdict, verdict_code, verdict_fault, verdict_known, verdict_root}
 use Rattle.libwagtenib.specs.MonitorLaws.{JudgingCall, CountsState, ReturnsOver, state_written, AreJudging, last_written, AreCallsOf, JudgingCallsAgree, StartedCallsAgree}
@@ -34,7 +34,7 @@ told : (a : Answer) (code : ℕ) (verdict tells : MonitorVerdict) → ((code ≡
 told a code verdict tells (inl t) z = t.1
 told a code verdict tells (inr t) z = absurd (omega (arith, t.0, z))
 
--- a call of ct_monitor_calls that a call was
+-- a call of ct_monitor that a call was
 pub record Found (state : List ℕ) (handed : Handed) (c : JudgingCall) : Type 0 where
   pub call : MonitorCall
   pub over : IsCallOver sha256 state call

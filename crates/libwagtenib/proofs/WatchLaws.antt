@@ -24,13 +24,13 @@ use Rattle.ct_data_tiles.specs.TileEntries.{tile_entries_bytes, tile_entry_bytes
 use Rattle.ct_monitor.specs.WatcherState.{WatcherState}
 use Rattle.ct_monitor.specs.declared.verdict.Verdict.{Verdict}
 use Rattle.ct_monitor.specs.declared.verdict.Verdict.TheVariants.{Accepted, Pending, Again, Stale, Shrunk, Fork, TimeNotLater, RootMismatch, Gap, Consistent, Inconsistent}
-use Rattle.ct_monitor_calls.specs.Calls.{ReportsEntries}
-use Rattle.ct_monitor_calls.specs.Entries.{IsFirstLater, leaves_to_read, moment_awaited}
-use Rattle.ct_monitor_calls.specs.StateText.{IsMonitorState}
-use Rattle.ct_monitor_calls.specs.declared.answer.Answer.{Answer}
-use Rattle.ct_monitor_calls.specs.declared.answer.EntriesAnswer.{EntriesAnswer}
-use Rattle.ct_monitor_calls.specs.declared.entries.FaultyEntry.{FaultyEntry}
-use Rattle.ct_monitor_calls.specs.declared.entries.LaterEntry.{LaterEntry}
+use Rattle.ct_monitor.specs.Calls.{ReportsEntries}
+use Rattle.ct_monitor.specs.Entries.{IsFirstLater, leaves_to_read, moment_awaited}
+use Rattle.ct_monitor.specs.StateText.{IsMonitorState}
+use Rattle.ct_monitor.specs.declared.answer.Answer.{Answer}
+use Rattle.ct_monitor.specs.declared.answer.EntriesAnswer.{EntriesAnswer}
+use Rattle.ct_monitor.specs.declared.entries.FaultyEntry.{FaultyEntry}
+use Rattle.ct_monitor.specs.declared.entries.LaterEntry.{LaterEntry}
 use Rattle.ct_names.specs.declared.name_bytes.EntryKind.{EntryKind}
 use Rattle.ct_names.specs.declared.name_bytes.EntryKind.TheVariants.{X509, Precert}
 use Rattle.ct_data_tiles.specs.declared.tile.Tile.{Tile}

@@ -5,8 +5,8 @@ use Rattle.std.proofs.lemmas.Option.{same_Some, none-some}
 use Rattle.std.specs.List.{AllZip}
 use Rattle.std.proofs.Math.Seq.{take-append_seam}
 use Rattle.ct_checkpoint.specs.Message.{cosignature_message}
-use Rattle.ct_older_tree.proofs.Viewing.{first_of, second_of}
-use Rattle.ct_older_tree.specs.Hashed.{CollideAmong, proof_strings, proof_strings_down}
+use Rattle.ct_verify.proofs.Viewing.{first_of, second_of}
+use Rattle.ct_verify.specs.Hashed.{CollideAmong, proof_strings, proof_strings_down}
 use Rattle.ct_verify.specs.Laws.{AreHashes}
 use Rattle.ct_verify.specs.Verdict.{AcceptsConsistency}
 use Rattle.ct_verify.specs.declared.fault.ProofFault.{ProofFault}

@@ -4,16 +4,16 @@ use Rattle.sha2.specs.Sha256.{sha256}
 use Rattle.ct_monitor.specs.declared.verdict.Verdict.{Verdict}
 use Rattle.ct_monitor.specs.declared.verdict.Verdict.TheVariants.{Accepted, Pending, Again, Stale, Shrunk, Fork, TimeNotLater, RootMismatch, Gap, Consistent, Inconsistent}
 use Rattle.ct_codec.specs.declared.fault.DecodeFault.{DecodeFault}
-use Rattle.ct_monitor_calls.specs.Entries.{HasTimestamp, IsFaulty, IsLaterThan}
-use Rattle.ct_monitor_calls.specs.Calls.{Handed, entries_from, IsMonitorAnswer, IsEntriesAnswer, IsMonitorBegin}
-use Rattle.ct_monitor_calls.specs.StateText.{IsNoState}
-use Rattle.ct_monitor_calls.specs.Starts.{IsMonitorStart, RefusesStart}
-use Rattle.ct_monitor_calls.specs.declared.answer.Answer.{Answer}
-use Rattle.ct_monitor_calls.specs.declared.answer.EntriesAnswer.{EntriesAnswer}
-use Rattle.ct_monitor_calls.specs.declared.entries.LaterEntry.{LaterEntry}
-use Rattle.ct_monitor_calls.specs.declared.entries.FaultyEntry.{FaultyEntry}
-use Rattle.ct_monitor_calls.specs.declared.starting.StartFault.{StartFault}
-use Rattle.ct_monitor_calls.specs.declared.starting.StartFault.TheVariants.{OtherCount, OtherRoot, Memory}
+use Rattle.ct_monitor.specs.Entries.{HasTimestamp, IsFaulty, IsLaterThan}
+use Rattle.ct_monitor.specs.Calls.{Handed, entries_from, IsMonitorAnswer, IsEntriesAnswer, IsMonitorBegin}
+use Rattle.ct_monitor.specs.StateText.{IsNoState}
+use Rattle.ct_monitor.specs.Starts.{IsMonitorStart, RefusesStart}
+use Rattle.ct_monitor.specs.declared.answer.Answer.{Answer}
+use Rattle.ct_monitor.specs.declared.answer.EntriesAnswer.{EntriesAnswer}
+use Rattle.ct_monitor.specs.declared.entries.LaterEntry.{LaterEntry}
+use Rattle.ct_monitor.specs.declared.entries.FaultyEntry.{FaultyEntry}
+use Rattle.ct_monitor.specs.declared.starting.StartFault.{StartFault}
+use Rattle.ct_monitor.specs.declared.starting.StartFault.TheVariants.{OtherCount, OtherRoot, Memory}
 use Rattle.ct_tree.specs.declared.head.Head.{Head}
 use Rattle.libwagtenib.specs.Codes.{leaf_code, proof_code}
 use Rattle.libwagtenib.specs.Guard.{head_of_c}

@@ -4,13 +4,13 @@ use Rattle.sha2.specs.Sha256.{sha256}
 use Rattle.ct_monitor.specs.Heads.{IsHeadOfAll}
 use Rattle.ct_monitor.specs.Watched.{Watched, nothing_seen}
 use Rattle.ct_monitor.specs.WatcherState.{WatcherState}
-use Rattle.ct_monitor_calls.specs.Calls.{Handed, a_head, entries_from, a_proof}
-use Rattle.ct_monitor_calls.specs.Laws.{MonitorCall, CallsHandOut, IsNeverRefused}
-use Rattle.ct_monitor_calls.specs.Entries.{size_awaited}
-use Rattle.ct_monitor_calls.specs.Starts.{IsHashedForStart, known_at_start}
-use Rattle.ct_monitor_calls.specs.StateText.{IsInBytes, monitor_state_text}
+use Rattle.ct_monitor.specs.Calls.{Handed, a_head, entries_from, a_proof}
+use Rattle.ct_monitor.specs.CallLaws.{MonitorCall, CallsHandOut, IsNeverRefused}
+use Rattle.ct_monitor.specs.Entries.{size_awaited}
+use Rattle.ct_monitor.specs.Starts.{IsHashedForStart, known_at_start}
+use Rattle.ct_monitor.specs.StateText.{IsInBytes, monitor_state_text}
 use Rattle.ct_tree.specs.declared.head.Head.{Head}
-use Rattle.ct_older_tree.specs.Hashed.{CollideAmong}
+use Rattle.ct_verify.specs.Hashed.{CollideAmong}
 use Rattle.libwagtenib.specs.Guard.{head_of_c}
 use Rattle.libwagtenib.specs.Monitor.{BeginsMonitor, StartsMonitor, Judges, JudgesPieces, verdict_code, verdict_fault, verdict_known, verdict_root}
 use Rattle.libwagtenib.specs.Tiles.{pieces}
@@ -58,7 +58,7 @@ CountsState told bytes =
     (t : WatcherState) × IsInBytes t × (bytes ≡ monitor_state_text sha256 t) × (told.leaves_accepted ≡ t.sure.0) × (told.leaves_read ≡ t.all.0)
     × (told.leaves_wanted ≡ size_awaited t.waiting t.all.0)
 
--- the same call in the laws of ct_monitor_calls: the log's answer, the verdict with all that it names, the state that the call gave, and its counts
+-- the same call in the laws of ct_monitor: the log's answer, the verdict with all that it names, the state that the call gave, and its counts
 pub record IsCallOf (c : JudgingCall) (d : MonitorCall) : Type 0 where
   pub handed : d.handed ≡ c.handed
   pub verdict : c.told.verdict ≡ verdict_code d.verdict

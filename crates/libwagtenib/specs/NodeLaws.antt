@@ -27,13 +27,14 @@ use Rattle.ct_step.specs.StepRepeats.{BatchEntry}
 use Rattle.ct_step.specs.StepReplies.{stepped_text, resumed_text}
 use Rattle.ct_step.specs.StepWords.{Reference, steps, rolls_out}
 use Rattle.ct_step.specs.Steps.{IsLog}
-use Rattle.ct_older_tree.specs.Hashed.{CollideAmong}
+use Rattle.ct_verify.specs.Hashed.{CollideAmong}
 use Rattle.libwagtenib.specs.declared.node.NodeCommand.{NodeCommand}
 use Rattle.libwagtenib.specs.declared.node.NodeOutcome.{NodeOutcome}
 use Rattle.libwagtenib.specs.declared.node.NodeFound.{NodeFound}
 use Rattle.libwagtenib.specs.declared.node.NodeState.{NodeState}
 use Rattle.libwagtenib.specs.Lock.{ReadsLockText}
 use Rattle.libwagtenib.specs.Node.{node_of_c, c_of_node, c_of_state, outcome_of_c, GivesNext, found_of_c, lock_of, StartsNode}
+use Rattle.ct_verify.specs.ConsistencyEvidence.{IsBeginning}
 
 -- A world, and the commands that calls gave, the newest first.
 pub record CallsWorld : Type 0 where
@@ -204,7 +205,7 @@ CallsWriteOneLog =
     (count : State → ℕ) (b : State)
     (hs : List CallHappening) (w : CallsWorld) → IsFirstState count b → LeadToByCalls count (calls_beginning b) hs w → IsLog H known (line b)
     → AreStepsMade H S line step count plan w.world.made → (E : List Tiled) → E ≡ log_of_past step known w.world.past
-    → ((known ≡ take (length known) E) × StandsOf H line step b plan E w.world × AnswersAreOf H line step b E w) ⊎ CollideAmong H (IsHashedBySteps H S E)
+    → (IsBeginning known E × StandsOf H line step b plan E w.world × AnswersAreOf H line step b E w) ⊎ CollideAmong H (IsHashedBySteps H S E)
 
 -- Whatever happens by calls, if the number of objects that calls are handed for a staged batch is the number of objects in it, then each object of the step of a
 -- published head is in the store; or two strings collide that S has, or that are hashed for the log's lines.
@@ -248,7 +249,7 @@ CallsAddOnce =
     (hs : List CallHappening) (w : CallsWorld) → IsFirstState count b → LeadToByCalls count (calls_beginning b) hs w → IsLog H known (line b)
     → (ids b ≡ entry_identities known) → AreStepsAdding H S line step ids w.world.made → AllLookUpByCalls ids (calls_beginning b) hs
     → (E : List Tiled) → E ≡ log_of_past step known w.world.past
-    → (IsLog H E (line w.world.held) × (known ≡ take (length known) E) × AreNewFrom (length known) (entry_identities E)) ⊎ CollideAmong H (IsHashedBySteps H S E)
+    → (IsLog H E (line w.world.held) × IsBeginning known E × AreNewFrom (length known) (entry_identities E)) ⊎ CollideAmong H (IsHashedBySteps H S E)
 
 -- A call returns 0 over a lock's text exactly if no head that the node finds is ahead of the text's.
 abbrev pub CallsStartBehindNone : Type 0

@@ -5,8 +5,8 @@ use Rattle.ct_tree.specs.Tree.{mth, path, proof}
 use Rattle.ct_verify.specs.ConsistencyEvidence.{IsAcceptedFor, IsBeginning}
 use Rattle.ct_verify.specs.Evidence.{IsAudited}
 use Rattle.ct_verify.specs.InclusionEvidence.{IsAccepted}
-use Rattle.ct_older_tree.specs.Hashed.{CollideAmong}
-use Rattle.ct_older_tree.specs.ListLaws.{IsHashedInAudit, IsHashedBetween}
+use Rattle.ct_verify.specs.Hashed.{CollideAmong}
+use Rattle.ct_verify.specs.ListLaws.{IsHashedInAudit, IsHashedBetween}
 use Rattle.ct_data_tiles.specs.TileNames.{IsTile, name_text}
 use Rattle.ct_data_tiles.specs.declared.tile.Content.TheVariants.{Hashes}
 use Rattle.ct_data_tiles.specs.declared.tile.Tile.{Tile}

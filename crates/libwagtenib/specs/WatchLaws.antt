@@ -6,10 +6,10 @@ use Rattle.ct_data_tiles.specs.Entries.{IsDataTileName, HasEntry, IsFirstWrong, 
 use Rattle.ct_data_tiles.specs.TileLeaf.{Tiled, leaf_of}
 use Rattle.ct_data_tiles.specs.TileEntries.{tile_entries_bytes}
 use Rattle.ct_monitor.specs.WatcherState.{WatcherState}
-use Rattle.ct_monitor_calls.specs.Entries.{IsFirstFaulty, IsFirstLater, leaves_to_read, moment_awaited}
-use Rattle.ct_monitor_calls.specs.StateText.{IsMonitorState}
-use Rattle.ct_monitor_calls.specs.declared.entries.FaultyEntry.{FaultyEntry}
-use Rattle.ct_monitor_calls.specs.declared.entries.LaterEntry.{LaterEntry}
+use Rattle.ct_monitor.specs.Entries.{IsFirstFaulty, IsFirstLater, leaves_to_read, moment_awaited}
+use Rattle.ct_monitor.specs.StateText.{IsMonitorState}
+use Rattle.ct_monitor.specs.declared.entries.FaultyEntry.{FaultyEntry}
+use Rattle.ct_monitor.specs.declared.entries.LaterEntry.{LaterEntry}
 use Rattle.ct_names.specs.declared.name_bytes.EntryKind.{EntryKind}
 use Rattle.ct_data_tiles.specs.declared.tile.Tile.{Tile}
 use Rattle.libwagtenib.specs.Codes.{DecodesLeaf}

@@ -2,7 +2,7 @@
 -- library's is SHA-256.
 use Rattle.std.specs.Prelude.{◌≡◌, ◌⊎◌, ◌<◌, ◌≤◌, ◌^◌, ⊤, All, ℕ, List, [], ◌∷◌, Contains, length, map, take, Option, Some, None}
 use Rattle.std.specs.List.{AllZip}
-use Rattle.ct_older_tree.specs.Hashed.{CollideAmong}
+use Rattle.ct_verify.specs.Hashed.{CollideAmong}
 use Rattle.ct_witness.specs.declared.tree.Tree.{Tree}
 use Rattle.ct_witness.specs.Runs.{Granted, IsWitness, IsTreeOf, IsTreeOfFirst, IsHashedOver, no_tree}
 use Rattle.libwagtenib.specs.Witness.{Cosigned, Cosigns, CosignsFirst, IsMessageOf}

@@ -3,8 +3,8 @@
 ghost use Rattle.std.specs.Bool.{MatchBool};
 ghost use Rattle.std.specs.Prelude.{◌≡◌, ◌⊎◌, IfOk, MatchOption, length, sum};
 ghost use Rattle.sha2.specs.Sha256.{sha256};
-ghost use Rattle.ct_monitor_calls.specs.Calls.{IsMonitorAnswer, IsEntriesAnswer, a_head, a_proof, entries_from};
-ghost use Rattle.ct_monitor_calls.specs.StateText.{IsNoState};
+ghost use Rattle.ct_monitor.specs.Calls.{IsMonitorAnswer, IsEntriesAnswer, a_head, a_proof, entries_from};
+ghost use Rattle.ct_monitor.specs.StateText.{IsNoState};
 ghost use Rattle.libwagtenib.specs.Guard.{head_of_c};
 ghost use Rattle.libwagtenib.specs.Monitor.{AddUp, BeginsMonitor, GivesAnswer, Judges, JudgesEntries, JudgesEntry, JudgesPieces, StartsMonitor, TellsFaulty};
 ghost use Rattle.libwagtenib.specs.Monitor.{TellsLater, TellsReport, TellsVerdict, start_code, verdict_code, verdict_fault, verdict_known, verdict_root};
@@ -17,8 +17,7 @@ use crate::output::write_output;
 use crate::tiles::pieces_of;
 use crate::{codes, leaf, proofs};
 use ct_codec::lend_leaf;
-use ct_monitor::Verdict;
-use ct_monitor_calls::{Answer, EntriesAnswer, FaultyEntry, LaterEntry, StartFault};
+use ct_monitor::{Answer, EntriesAnswer, FaultyEntry, LaterEntry, StartFault, Verdict};
 use ct_tree::Head;
 use std::alloc::{AllocError, Global};
 
@@ -148,7 +147,7 @@ fn give(answer: &Answer, verdict: &mut MonitorVerdict, out: &mut [u8], length: &
 pub extern "C" fn wagtenib_monitor_begin(alloc: Global, out: &mut [u8], length: &mut u64) -> u32
     ensures { BeginsMonitor result out.old out.new length.old length.new }
 {
-    match ct_monitor_calls::begin(alloc) {
+    match ct_monitor::begin(alloc) {
         Ok(state) => write_output(&state, out, length),
         Err(AllocError) => OUT_OF_MEMORY,
     }
@@ -177,7 +176,7 @@ pub extern "C" fn wagtenib_monitor_start(
 ) -> u32
     ensures { StartsMonitor (head_of_c head.now) subtrees.now result out.old out.new length.old length.new }
 {
-    match ct_monitor_calls::start(alloc, head_of(head), subtrees) {
+    match ct_monitor::start(alloc, head_of(head), subtrees) {
         Ok(state) => write_output(&state, out, length),
         Err(fault) => number_of_start(fault),
     }
@@ -192,7 +191,7 @@ fn answer_to_head(
     ensures { IfOk result (λ o. MatchOption o (IsNoState sha256 state.now)
         (λ a. IsMonitorAnswer sha256 state.now (a_head (head_of_c head.now)) a)) }
 {
-    ct_monitor_calls::take_head(alloc, state, head_of(head))
+    ct_monitor::take_head(alloc, state, head_of(head))
 }
 
 /// The verdict on a tree head, over a state. 0: the verdict is written, and `out` begins with the next state, which has `*length` bytes. 36: the bytes are no
@@ -227,7 +226,7 @@ pub extern "C" fn wagtenib_monitor_proof(
 ) -> u32
     ensures { Judges (a_proof path.now) state.now result verdict.old verdict.new out.old out.new length.old length.new }
 {
-    match ct_monitor_calls::take_proof(alloc, state, path) {
+    match ct_monitor::take_proof(alloc, state, path) {
         Ok(Some(answer)) => give(&answer, verdict, out, length),
         Ok(None) => codes::BAD_STATE,
         Err(AllocError) => OUT_OF_MEMORY,
@@ -246,7 +245,7 @@ fn answer_to(
         (λ a. IsEntriesAnswer sha256 state.now start (pieces lengths.now leaves.now) a)) }
 {
     let entries = pieces_of(alloc, leaves, lengths)?;
-    ct_monitor_calls::take_entries(alloc, state, start, &entries)
+    ct_monitor::take_entries(alloc, state, start, &entries)
 }
 
 // The index and the timestamp of an entry that is later than its head.

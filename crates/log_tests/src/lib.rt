@@ -1,10 +1,10 @@
-//! Tests of the log in memory, except its house: of `ct_codec`, `ct_core`, `ct_lines` and `ct_parties`, over the tests' own
+//! Tests of the log in memory, except its house: of `ct_codec`, `ct_core`, `ct_lines` and `ct_workers`, over the tests' own
 //! readers and writers. They have a crate of their own, so that each of those crates is proved once.
 //!
 //! - `rows` reads rows of text, each a call and its expected result. `submissions`, `precertificates` and `hostile_bytes` test bytes,
 //!   `core_log`, `core_answers` and `settled_log` test the log's state, and `request_lines`, `serving`, `bounded_lines` and `failing_calls`
 //!   test lines.
-//! - `script` tests the scripts of `ct_parties`: each call of a reader and of a writer fails in turn. It also tests when output is flushed, and lines that
+//! - `script` tests the scripts of `ct_workers`: each call of a reader and of a writer fails in turn. It also tests when output is flushed, and lines that
 //!   look only a few times.
 #![tactic(auto)]
 

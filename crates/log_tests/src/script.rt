@@ -1,6 +1,6 @@
 // A script over a reader and a writer whose calls fail, and lines that look only a few times.
 use ct_lines::{Fault, Options};
-use ct_parties::serve;
+use ct_workers::serve;
 use std::alloc::Global;
 use std::io;
 use std::io::{ErrorKind, Read, Write};

@@ -15,7 +15,7 @@ pub struct Shared<A> {
 impl<A> Model for Shared<A> {
     ghost use Rattle.std.specs.Prelude.{List};
     ghost use Rattle.std.specs.Arc.{arc_value};
-    ghost use Rattle.shared.specs.Flat.{shared_items};
+    ghost use Rattle.shared_list.specs.Flat.{shared_items};
 
     ghost Value = { List A };
 

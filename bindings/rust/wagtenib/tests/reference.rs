@@ -5,6 +5,7 @@ mod common;
 use common::{bytes, hash, hashes, leaf_hashes, LEAVES, PATH, PROOF, ROOTS};
 use wagtenib::guard::{self, TreeHead};
 use wagtenib::leaf::{self, Entry};
+use wagtenib::node;
 use wagtenib::texts;
 use wagtenib::tree::{self, Subtrees};
 use wagtenib::Error;
@@ -75,6 +76,16 @@ fn the_guard_signs_no_fork() {
     assert_eq!(guard::head(&[], &head(8, 4000), &proof, 10_000), Err(Error::BadState));
     assert_eq!(guard::state(&six, &eight), Ok(head(8, 3000)));
     assert_eq!(guard::state(&eight, &six), Err(Error::StateRolledBack));
+    assert_eq!(node::accept(&head(6, 2000), &head(8, 3000), &proof), Ok(()));
+    assert_eq!(node::accept(&head(6, 2000), &head(8, 2000), &proof), Err(Error::TimestampNotLater));
+    assert_eq!(node::accept(&head(8, 3000), &head(6, 4000), &proof), Err(Error::SizeFalls));
+    // A MerkleTreeLeaf of the timestamp 2000, whose hash is the root of its tree.
+    let leaf = bytes("000000000000000007d00000000001780000");
+    let one = guard::head(&empty, &TreeHead { tree_size: 1, timestamp: 2000, root: tree::leaf_hash(&leaf) }, &[], 10_000).unwrap();
+    assert_eq!(guard::receipt(&one, &leaf, 0, &[]), Ok(()));
+    assert_eq!(guard::receipt(&six, &leaf, 0, &[]), Err(Error::PathTooShort));
+    assert_eq!(guard::receipts(&one, 0, &[], &[&leaf]), Ok(()));
+    assert_eq!(guard::receipts(&one, 1, &[], &[&leaf]), Err(Error::IndexOutOfRange));
     // A leaf of the reference tree is no MerkleTreeLeaf.
     assert_eq!(guard::receipt(&eight, &bytes(LEAVES[5]), 5, &hashes(&PATH)), Err(Error::BadVersion));
 }

@@ -22,7 +22,7 @@ pub loop-object-preserved : goal.loop-object-preserved
 loop-object-preserved c =
     placed_more c.args.objects.now c.loop-object.object-index c.loop-object.end _ no_object _ c.loop-object.places.items c.push.new.self.items
     (omega (arith, c.loop-object-test.true)) c.loop-object.invariant c.in_ok-push.ensures.items
-    (hashed_place c.args.objects.now c.loop-object.object-index c.loop-object.end c.hash.result c.hash.ensures) (omega arith)
+    (hashed_place c.args.objects.now c.loop-object.object-index c.loop-object.end c.digest_of.result c.digest_of.ensures) (omega arith)
 
 pub returns : goal.returns
 returns c =

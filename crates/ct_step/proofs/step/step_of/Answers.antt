@@ -74,6 +74,7 @@ returns-clause-from g c =
       );
       moment = ap (λ (x : StateLine). x.timestamp) c.in_ok-next.ensures ∙ grown.timestamp;
       digest = ap (λ (x : StateLine). x.bundle) c.in_ok-next.ensures ∙ ap g.H.NodeHash.digest c.deref-3.ensures.value;
+      partial = ap (λ (x : StateLine). x.data_tile) c.in_ok-next.ensures ∙ ap g.H.NodeHash.digest c.deref-4.ensures.value;
       before = ap (λ (x : StateLine). x.before) c.in_ok-next.ensures;
       signed = c.in_ok-tree_head_signature_input.ensures.text;
     }

@@ -11,6 +11,6 @@ returns c =
     let same = rw c.deref-2.ensures.value at c.in_ok-standing.ensures in
     let objects = map object_parts c.in_ok-objects.objects.items in
     let found = rw c.deref.ensures.value at c.in_ok-objects.ensures.found in
-    let line = rw (c.deref-3.ensures.value, same) at c.stepped_line.ensures in
+    let line = rw (c.deref-4.ensures.value, same) at c.stepped_line.ensures in
     by_reply c.stepped_line.result c.args.origin.now (steps c.args.step.now c.args.places.now (references_of sha256 objects))
     (TellsObjects c.args.step.now c.args.places.now) (objects, refl, found) line

@@ -1,13 +1,10 @@
-use Rattle.std.proofs.Common.{[], inl, inr, refl, sym, map, Some}
+use Rattle.std.proofs.Common.{[], inl, inr, refl, map, Some}
 use Rattle.ct_step.specs.StepAnswers.{IsStepReply, TellsObjects}
 use Rattle.ct_step.specs.StepBytes.{entry_parts}
 use Rattle.ct_step.specs.StepRepeats.{places_of_all}
 use Rattle.ct_step.specs.StepWords.{refuses}
 use Rattle.ct_step.proofs.StepKept.{by_less, by_reply}
 use Rattle.ct_step.proofs.stepping.taken.Goals as goal
-
-pub step_made-requires : goal.step_made-requires
-step_made-requires c = sym c.in-Ok.ensures.from.digest
 
 pub returns-in-Ok : goal.returns-in-Ok
 returns-in-Ok c =

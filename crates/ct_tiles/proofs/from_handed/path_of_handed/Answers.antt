@@ -1,5 +1,5 @@
 use Rattle.std.proofs.Common.{◌≡◌, ◌∙◌, ℕ, List, sym, ap}
-use Rattle.ct_older_tree.proofs.ListProofs.{accepted_path_is_path}
+use Rattle.ct_verify.proofs.ListProofs.{accepted_path_is_path}
 use Rattle.ct_tiles.specs.Needed.{path_tiles}
 use Rattle.ct_tiles.specs.Handed.{contents_in, handed_fault, AreTilesOf}
 use Rattle.ct_tiles.specs.declared.handed.HandedFault.TheVariants.{Memory}

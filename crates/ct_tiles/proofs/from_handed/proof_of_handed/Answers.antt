@@ -1,6 +1,6 @@
 use Rattle.std.proofs.Common.{◌≡◌, ◌∙◌, ℕ, List, sym, ap, subst}
 use Rattle.ct_verify.specs.Laws.{AreHashes}
-use Rattle.ct_older_tree.proofs.ListProofs.{accepted_proof_is_of_beginning}
+use Rattle.ct_verify.proofs.ListProofs.{accepted_proof_is_of_beginning}
 use Rattle.ct_tiles.specs.Needed.{proof_tiles}
 use Rattle.ct_tiles.specs.Handed.{contents_in, handed_fault, AreTilesOf}
 use Rattle.ct_tiles.specs.declared.handed.HandedFault.TheVariants.{Memory}

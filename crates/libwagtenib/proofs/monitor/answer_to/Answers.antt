@@ -1,8 +1,8 @@
 use Rattle.std.proofs.Common.{◌∙◌, ℕ, List, Vec, Global, map, ap, subst}
 use Rattle.std.specs.Prelude.{IfOk, MatchOption}
 use Rattle.sha2.specs.Sha256.{sha256}
-use Rattle.ct_monitor_calls.specs.Calls.{IsEntriesAnswer, entries_from}
-use Rattle.ct_monitor_calls.specs.StateText.{IsNoState}
+use Rattle.ct_monitor.specs.Calls.{IsEntriesAnswer, entries_from}
+use Rattle.ct_monitor.specs.StateText.{IsNoState}
 use Rattle.libwagtenib.proofs.monitor.answer_to.Goals as goal
 
 abbrev bytes : Vec ℕ Global → List ℕ

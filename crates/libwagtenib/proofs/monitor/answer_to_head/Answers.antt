@@ -1,8 +1,8 @@
 use Rattle.std.proofs.Common.{subst}
 use Rattle.std.specs.Prelude.{IfOk, MatchOption}
 use Rattle.sha2.specs.Sha256.{sha256}
-use Rattle.ct_monitor_calls.specs.Calls.{a_head, IsMonitorAnswer}
-use Rattle.ct_monitor_calls.specs.StateText.{IsNoState}
+use Rattle.ct_monitor.specs.Calls.{a_head, IsMonitorAnswer}
+use Rattle.ct_monitor.specs.StateText.{IsNoState}
 use Rattle.ct_tree.specs.declared.head.Head.{Head}
 use Rattle.libwagtenib.proofs.monitor.answer_to_head.Goals as goal
 

@@ -1,9 +1,9 @@
 use Rattle.std.proofs.Common.{Option, inl, inr, subst}
 use Rattle.std.specs.Prelude.{MatchOption}
 use Rattle.sha2.specs.Sha256.{sha256}
-use Rattle.ct_monitor_calls.specs.Calls.{IsEntriesAnswer, entries_from}
-use Rattle.ct_monitor_calls.specs.StateText.{IsNoState}
-use Rattle.ct_monitor_calls.specs.declared.answer.EntriesAnswer.{EntriesAnswer}
+use Rattle.ct_monitor.specs.Calls.{IsEntriesAnswer, entries_from}
+use Rattle.ct_monitor.specs.StateText.{IsNoState}
+use Rattle.ct_monitor.specs.declared.answer.EntriesAnswer.{EntriesAnswer}
 use Rattle.libwagtenib.specs.Tiles.{pieces}
 use Rattle.libwagtenib.proofs.monitor.judge_pieces.Goals as goal
 

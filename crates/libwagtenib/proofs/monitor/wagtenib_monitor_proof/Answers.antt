@@ -1,9 +1,9 @@
 use Rattle.std.proofs.Common.{Option, inl, inr, subst}
 use Rattle.std.specs.Prelude.{MatchOption}
 use Rattle.sha2.specs.Sha256.{sha256}
-use Rattle.ct_monitor_calls.specs.Calls.{a_proof, IsMonitorAnswer}
-use Rattle.ct_monitor_calls.specs.StateText.{IsNoState}
-use Rattle.ct_monitor_calls.specs.declared.answer.Answer.{Answer}
+use Rattle.ct_monitor.specs.Calls.{a_proof, IsMonitorAnswer}
+use Rattle.ct_monitor.specs.StateText.{IsNoState}
+use Rattle.ct_monitor.specs.declared.answer.Answer.{Answer}
 use Rattle.libwagtenib.proofs.monitor.wagtenib_monitor_proof.Goals as goal
 
 pub returns-in-Ok-Some : goal.returns-in-Ok-Some

@@ -1,6 +1,6 @@
 use Rattle.std.proofs.Common.{ℕ, List, inl, inr, refl, subst}
 use Rattle.sha2.specs.Sha256.{sha256}
-use Rattle.ct_monitor_calls.specs.Starts.{IsMonitorStart, RefusesStart}
+use Rattle.ct_monitor.specs.Starts.{IsMonitorStart, RefusesStart}
 use Rattle.ct_tree.specs.declared.head.Head.{Head}
 use Rattle.libwagtenib.specs.Output.{WritesOutput}
 use Rattle.libwagtenib.proofs.monitor.wagtenib_monitor_start.Goals as goal

@@ -1,0 +1,6 @@
+use Rattle.std.proofs.Common.{map, take, All}
+use Rattle.ct_monitor.specs.Entries.{IsLeafInBytes}
+use Rattle.ct_monitor.proofs.entries.first_faulty.Given as goal
+
+abbrev pub invariant-loop-i : goal.invariant-loop-i
+invariant-loop-i l = All IsLeafInBytes (take l.i (map (λ v. v.items) l.leaves))

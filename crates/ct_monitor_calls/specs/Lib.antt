@@ -1,6 +1,0 @@
-pub mod StateText
-pub mod Fitting
-pub mod Entries
-pub mod Calls
-pub mod Laws
-pub mod Starts

@@ -1,4 +1,0 @@
-pub mod Hashed
-pub mod ListLaws
-pub mod OlderTree
-pub mod Shown
