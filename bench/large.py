@@ -1,7 +1,7 @@
 #!/usr/bin/env python3
 """Times a log of ctserve out of a folder that has so many entries already, on loopback.
 
-    large.py [--entries 10400,1000000] [--asks 200] [--seconds 10] [--keep FOLDER [--make | --turns 3]]
+    large.py [--entries 10400,1000000] [--asks 200] [--seconds 10] [--keep FOLDER [--make | --turns 3 [--cold]]]
 
 Nobody submitted these entries. bench/fabricate writes the tiles (with a certificate of 60 bytes each) and the deduplication index. This script writes
 the register's text, with a state that is decided and not published yet. So ctserve publishes its head at its first start, and continues from it. Then it
@@ -11,8 +11,9 @@ all data tiles again quickly, and measures the tiles a second and the time for a
 --make makes them and times nothing. 10^8 entries take 25 GB. `make service` builds ctserve and ctload.
 
 With --turns logs of these sizes take turns, and the output has ratios to the first size. It measures the start with nothing of the log in the machine's
-cache (as root, with a warning otherwise) and once more; in each turn 64 clients that submit new certificates, and 64 clients of which 99 of 100
-submissions are repeats; then proofs by leaf hash at random places, each checked; and the memory of ctserve and its signer after the same turns.
+cache (as root, with a warning otherwise) and once more. Then it reads the indexes once, so that they are in the machine's cache as far as they fit (--cold leaves
+that out). It measures in each turn 64 clients that submit new certificates, and 64 clients that repeat
+what was answered; then proofs by leaf hash at random places, each checked; and the memory of ctserve and its signer after the same turns.
 """
 import argparse
 import base64
@@ -228,7 +229,7 @@ def measure(folder, fabricate, words, entries):
     return cells
 
 
-CLIENTS, REPEATS = 64, 99
+CLIENTS, REPEATS = 64, 100
 
 
 def forget():
@@ -238,6 +239,14 @@ def forget():
         pathlib.Path("/proc/sys/vm/drop_caches").write_text("3")
     except OSError as why:
         print(f"large.py: the machine's cache of files is kept, so the first start isn't a cold one: {why}", file=sys.stderr)
+
+
+def remember(folder):
+    """Reads the files of a folder, so that they are in the machine's cache as far as they fit."""
+    for path in folder.iterdir():
+        with path.open("rb") as file:
+            while file.read(1 << 20):
+                pass
 
 
 class Column:
@@ -288,6 +297,8 @@ def by_turns(columns, words):
     heads = "Entries before", "Submissions a second", "Median, ms", "99th percentile, ms", "Processor, ms an entry", "Written, bytes an entry", "Duplicates a second", "Processors that others had"
     print(f"| {' | '.join(heads)} |\n" + "|---" * len(heads) + "|")
     for column in columns:
+        if not words.cold:
+            remember(column.log.stored() / "index")
         # The first turn opens the clients' connections.
         turn(column.log, CLIENTS, 1, CLIENTS)
     for number in range(words.turns):
@@ -307,6 +318,7 @@ def main():
     parser.add_argument("--keep", type=pathlib.Path)
     parser.add_argument("--make", action="store_true")
     parser.add_argument("--turns", type=int, default=0)
+    parser.add_argument("--cold", action="store_true")
     words = parser.parse_args()
     if words.make and not words.keep:
         parser.error("--make needs --keep")

@@ -21,9 +21,9 @@ from speed import Ideal
 # The parts, by the names of functions of any of the calls, from the innermost on; the first that fits counts.
 PARTS = [(name, re.compile(pattern)) for name, pattern in (
     ("SHA-256 of the proved code", r"^(?!crypto|internal).*(Sha256|sha2::|sha256_)"),
-    ("the proved code otherwise", r"^(ct_\w+|shared|std|core|alloc|libwagtenib|sha2)::|wagtenib_|^rattle"),
+    ("the proved code otherwise", r"^(ct_\w+|shared|std\w*|core|alloc|libwagtenib|sha2|indexmap)::|wagtenib_|^(malloc|free|realloc|_int_\w+|__mem\w+)$"),
     ("SHA-256 of Go", r"sha256"),
-    ("ECDSA: chains checked and signatures made", r"^crypto/(ecdsa|elliptic)|nistec|/ecdsa|bigmod|drbg|^crypto/internal/fips140/(hmac|sha512)|^crypto/rand"),
+    ("ECDSA: chains checked and signatures made", r"^crypto/(ecdsa|elliptic)|^p256|nistec|/ecdsa|bigmod|drbg|^crypto/internal/fips140/(hmac|sha512)|^crypto/rand"),
     ("garbage collection and allocation", r"^runtime\.(gc|bgsweep|bgscavenge|sweep|scan|mallocgc|greyobject|markroot|newobject|makeslice|growslice|wbBufFlush|\(\*(mspan|mheap|mcache|mcentral|gcWork|sweepLocked))"),
     ("the index: LevelDB, or a file", r"goleveldb|^main\.\(\*places\)|internal/stores\.\(\*inLevelDB"),
     ("lines between ctserve and the signer", r"internal/(signer|jsonline|pipe|lines)"),
@@ -32,6 +32,7 @@ PARTS = [(name, re.compile(pattern)) for name, pattern in (
     ("X.509 and the rules of chains", r"^crypto/x509|cryptobyte|^encoding/asn1|internal/(chains|chain)|^math/big"),
     ("JSON and base64", r"^encoding/(json|base64)"),
     ("HTTP and connections", r"^net/http|^net\.|^bufio|^net/textproto|^internal/poll"),
+    ("stacks that grow", r"^runtime\.(copystack|newstack|morestack|adjustframe)"),
     ("waking and choosing goroutines", r"^runtime\.(schedule|findRunnable|mcall|park_m|futex|notewakeup|startm|wakep|mstart|netpoll|gosched|goready|ready|systemstack|chan|select|usleep|osyield|sysmon|stealWork|lock|unlock|semrelease|semacquire)"),
 )]  # fmt: skip
 KERNEL, REST = "kernel, no caller seen", "all else"

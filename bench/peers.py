@@ -2,13 +2,13 @@
 """Times ctserve beside CTFE over Trillian and MariaDB, by turns, on loopback: the same loader, the same chains (bench/peers.md).
 
     peers.py fetch FOLDER                  has apt fetch what is needed of Debian 13 and of this machine's Debian, and builds it in FOLDER
-    peers.py FOLDER [--turns 2] [--seconds 12] [--clients 16,64,256,1024] [--settle 0] [--before OUT] [--plot PAGE]
+    peers.py FOLDER [--turns 2] [--seconds 12] [--clients 16,64,256,1024] [--settle 0] [--before NAME=OUT] [--plot PAGE]
 
 Nothing is installed: everything is put into FOLDER. With only FOLDER it makes a log of CTFE, one of ctserve and one of bench/ideal, and has ctload submit
 to each in turn, in each turn with so many clients for so many seconds. It prints the machine, and of each turn timestamps a second, the median and 99th percentile of the time to one, the processor time
 of the log's processes an entry until a signed head has all of them, the bytes that they wrote to the disk, and how many processors others had meanwhile; then the ratios of ctserve to each other log, which are medians of the turns' ratios; then what
 each log's files and processes take. With --settle it looks at
-the files once more after so many seconds, when temporary files are gone. With --before a log of another build of ctserve is among them, which is in OUT (bench/old.sh).
+the files once more after so many seconds, when temporary files are gone. With --before a log of another build of ctserve is among them by that name, which is in OUT (bench/old.sh).
 With --plot it writes the medians to a page, docs/plots/peers.md say, and draws the plot beside it (bench/plot.py peers).
 ctload has made its submissions before it sends the first. `make service` builds ctserve and ctload.
 """
@@ -253,7 +253,8 @@ def measure(folder, words):
         try:
             logs["ctserve"] = Log(work / "one")
             if words.before:
-                logs["ctserve before"] = Log(work / "three", out=pathlib.Path(words.before).resolve())
+                name, _, out = words.before.rpartition("=")
+                logs[name or "ctserve before"] = Log(work / "three", out=pathlib.Path(out).resolve())
             logs["ideal"] = Ideal(work / "ideal", ideal)
             logs["CTFE over Trillian"] = Ctfe(work / "ctfe", folder)
             began = {name: (size_of(log), disk_used(log.stored())) for name, log in logs.items()}
