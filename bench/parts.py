@@ -2,10 +2,12 @@
 """Says where the processor time of an entry goes, by part: of ctserve, of its signer and of bench/ideal, by turns, with perf (Debian's linux-perf).
 
     parts.py [--turns 2] [--seconds 8] [--clients 64]
+    tests/engines.sh run bench/parts.py --nodes 1,3 [--turns 2] [--seconds 8] [--clients 64]
 
 In each turn ctload submits to one of the two logs, on a folder, while perf records where its processes are, some 500 times a second of processor time, with the
 calls that led there. A record counts for the first part that fits one of these calls, from the innermost call on. What the kernel does counts for the part
-of the program that called it. The table has, for each process, the microseconds of an entry (the means of the turns) and the ratio of the sums. `make service` builds ctserve and ctload.
+of the program that called it. The table has, for each process, the microseconds of an entry (the means of the turns) and the ratio of the sums. With --nodes logs of so many nodes over
+PostgreSQL and S3 take turns (bench/engines.py), and the table has all processes of each log together. `make service` builds ctserve and ctload.
 """
 import argparse
 import collections
@@ -15,6 +17,7 @@ import re
 import subprocess
 import tempfile
 
+import engines
 from served import HERE, OUT, Log, below, load, machine, run, size_of
 from speed import Ideal
 
@@ -29,12 +32,18 @@ PARTS = [(name, re.compile(pattern)) for name, pattern in (
     ("lines between ctserve and the signer", r"internal/(signer|jsonline|pipe|lines)"),
     ("files: objects, lock and guard's state", r"^os\.|internal/stores|^syscall\.(Fsync|Rename|Open|Unlink)|^main\.\(\*(tree|object)"),
     ("limits, metrics and clocks", r"prometheus|internal/(httpserver|limits|metrics)"),
+    ("TLS", r"^crypto/(tls|aes|cipher|ecdh|internal/fips140/(aes|tls|hkdf))|gcm|chacha"),
     ("X.509 and the rules of chains", r"^crypto/x509|cryptobyte|^encoding/asn1|internal/(chains|chain)|^math/big"),
     ("JSON and base64", r"^encoding/(json|base64)"),
     ("HTTP and connections", r"^net/http|^net\.|^bufio|^net/textproto|^internal/poll"),
     ("stacks that grow", r"^runtime\.(copystack|newstack|morestack|adjustframe)"),
     ("waking and choosing goroutines", r"^runtime\.(schedule|findRunnable|mcall|park_m|futex|notewakeup|startm|wakep|mstart|netpoll|gosched|goready|ready|systemstack|chan|select|usleep|osyield|sysmon|stealWork|lock|unlock|semrelease|semacquire)"),
 )]  # fmt: skip
+# These count before all others, if one of the calls fits.
+OUTER = [(name, re.compile(pattern)) for name, pattern in (
+    ("forwarding to another node", r"internal/(httpserver|logservice|node).*[fF]orward"),
+    ("clients of PostgreSQL, etcd and S3", r"minio|lib/pq|jackc|etcd|grpc"),
+)]
 KERNEL, REST = "kernel, no caller seen", "all else"
 FRAME = re.compile(r"^\s+[0-9a-f]+ (.*) \((.*)\)$")
 
@@ -42,6 +51,9 @@ FRAME = re.compile(r"^\s+[0-9a-f]+ (.*) \((.*)\)$")
 def part_of(frames):
     """The part of a record: the names of its calls, from the innermost on, each with whether it is the kernel's."""
     own = [name for name, is_kernel in frames if not is_kernel]
+    for part, pattern in OUTER:
+        if any(map(pattern.search, own)):
+            return part
     for name in own:
         for part, pattern in PARTS:
             if pattern.search(name):
@@ -73,18 +85,32 @@ def recorded(log, words, folder):
     return found
 
 
+def of_engines(words, work):
+    """Logs of so many nodes over engines."""
+    made = {}
+    for count in map(int, words.nodes.split(",")):
+        made[f"{count} node{'s' * (count > 1)}"] = engines.Node(work / f"log{count}", count, "postgres", OUT, count).log
+    return made
+
+
+def of_folders(work):
+    """A log of ctserve and one of ideal."""
+    program = work / "program"
+    run(HERE.parent / "deps" / "go", "-C", HERE.parent, "build", "-o", program, "./bench/ideal")
+    return {"ctserve": Log(work / "ctserve", OUT), "ideal": Ideal(work / "ideal", program)}
+
+
 def main():
     parser = argparse.ArgumentParser(description=__doc__, formatter_class=argparse.RawDescriptionHelpFormatter)
     parser.add_argument("--turns", type=int, default=2)
     parser.add_argument("--seconds", type=int, default=8)
     parser.add_argument("--clients", type=int, default=64)
+    parser.add_argument("--nodes")
     words, logs = parser.parse_args(), {}
     with tempfile.TemporaryDirectory(dir=os.environ.get("TMPDIR")) as work:
         work, sums = pathlib.Path(work), collections.defaultdict(collections.Counter)
-        program = work / "program"
-        run(HERE.parent / "deps" / "go", "-C", HERE.parent, "build", "-o", program, "./bench/ideal")
         try:
-            logs["ctserve"], logs["ideal"] = Log(work / "ctserve", OUT), Ideal(work / "ideal", program)
+            logs = of_engines(words, work) if words.nodes else of_folders(work)
             print(f"{words.turns} turns of {words.seconds} s with {words.clients} clients on {machine()}; a load of {os.getloadavg()[0]:.1f} before\n", flush=True)
             for log in logs.values():
                 load(log, words.clients, "--for", "1s")
@@ -92,16 +118,19 @@ def main():
                 for name, log in list(logs.items())[:: 1 if number % 2 == 0 else -1]:
                     for process, parts in recorded(log, words, work).items():
                         for part, took in parts.items():
-                            sums[name if process == "log" else process][part] += took / words.turns
+                            sums[process if process == "signer" and not words.nodes else name][part] += took / words.turns
         finally:
             for log in logs.values():
                 log.end()
-    columns = "ctserve", "signer", "ideal"
-    print("| Part, µs of an entry | `ctserve` | its signer | ideal |\n|---|---|---|---|")
-    for part in [*(name for name, _ in PARTS), KERNEL, REST]:
-        print(f"| {part} | {' | '.join(f'{sums[column][part]:.0f}' for column in columns)} |")
+    columns = list(logs) if words.nodes else ["ctserve", "signer", "ideal"]
+    print(f"| Part, µs of an entry | {' | '.join(columns)} |\n" + "|---" * (1 + len(columns)) + "|")
+    for part in [*(name for name, _ in OUTER + PARTS), KERNEL, REST]:
+        if any(sums[column][part] for column in columns):
+            print(f"| {part} | {' | '.join(f'{sums[column][part]:.0f}' for column in columns)} |")
     whole = [sum(sums[column].values()) for column in columns]
-    print(f"| sum | {' | '.join(f'{one:.0f}' for one in whole)} |\n\n`ctserve` with its signer over ideal: {(whole[0] + whole[1]) / max(whole[2], 1e-9):.2f}")
+    print(f"| sum | {' | '.join(f'{one:.0f}' for one in whole)} |")
+    over = whole[-1] / whole[0] if words.nodes else (whole[0] + whole[1]) / whole[2]
+    print(f"\n{'the last column over the first' if words.nodes else 'ctserve with its signer over ideal'}: {over:.2f}")
 
 
 if __name__ == "__main__":
