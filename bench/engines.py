@@ -1,24 +1,28 @@
 #!/usr/bin/env python3
-"""Measures one node of ctserve over engines on loopback, by turns: its rate, and the calls of a step to each store.
+"""Measures ctserve over engines on loopback, by turns: its rate with one node and with several, and the calls of a step to each store.
 
-    tests/engines.sh run bench/engines.py [--turns 2] [--seconds 12] [--clients 16,64,256,1024] [--stores etcd,postgres] [--out OUT,..]
+    tests/engines.sh run bench/engines.py [--turns 2] [--seconds 12] [--clients 16,64,256,1024] [--stores etcd,postgres] [--nodes 1,3] [--out OUT,..]
 
 The engines are those of tests/engines.sh: the lock and the guard's state are on etcd's three members or on PostgreSQL, the index always on PostgreSQL, objects always on S3.
 With several folders OUT of builds of ctserve (by default only cmd/out) each is a log of its own over the same engines. In each turn ctload submits to each log with so many
 clients for so many seconds, each client a new certificate as soon as its last one is answered.
+With --nodes 1,3 a log of three nodes takes turns with one of one node, over each store. Its nodes share a signer, and each gets a third of the submissions.
 `make service` builds ctserve and ctload.
 
-It prints, of each turn: timestamps a second, the median and 99th percentile of the time to one, how many entries a step took in, the processor time of the log's
+It prints the machine, and of each turn: timestamps a second, the median and 99th percentile of the time to one, how many entries a step took in, the processor time of the log's
 processes and of each engine an entry until a signed head has all of them, and how many processors others had meanwhile. Then, of all turns together, how often
-a step called each store and for how long (the guard's state isn't among them: it is the signer's), and how long each part of a step took.
+a step called each store and for how long (the guard's state isn't among them: it is the signer's), how long each part of a step took, and the ratios of several
+nodes to one, which are medians of the turns' ratios.
 """
 import argparse
 import os
 import pathlib
+import signal
+import subprocess
 import tempfile
 import time
 
-from served import OUT, Log, busy_time, load, processor_time, run, size_of, stop, until
+from served import HERE, OUT, Log, busy_time, free_port, keys, load, machine, processor_time, ratio, run, size_of, stop, until
 
 WANTED = ("STORES_MEMBERS", "STORES_POSTGRES", "STORES_S3", "STORES_AGAIN")
 
@@ -39,13 +43,56 @@ def address(store, name):
     return f"postgres://{at['user']}@{at['host']}:{at['port']}/{at['dbname']}?sslmode={at['sslmode']}&log={name}"
 
 
-class Node:
-    """A log of one node, whose stores are engines."""
+class Several:
+    """A log of several nodes, which share a signer."""
 
-    def __init__(self, folder, number, store, out):
-        self.name, name = f"{store}{'' if out == OUT else f', {out}'}", f"log{os.getpid()}-{number}"
-        self.log = Log(folder, out, store=bucket(name), lock=address(store, name), index=address("postgres", name), guard_state=address(store, f"{name}-guard"))
-        self.rows, self.steps, self.calls, self.phases = [], 0, {}, {}
+    def __init__(self, folder, out, count, guard_state, **stores):
+        keys(folder)
+        self.folder, self.roots, self.nodes = folder, folder / "roots.pem", []
+        socket, said = folder / "signer", folder / "signer.log"
+        with said.open("w") as to:
+            words = ["--signing-key", folder / "log.key", "--guard-state", guard_state, "--listen", socket, "--create"]
+            self.signer = subprocess.Popen([out / "ctserve", "signer", *words], stdout=to, stderr=subprocess.STDOUT)
+        until(socket.exists, "the signer doesn't listen", self.signer, said)
+        for number in range(count):
+            name = f"node-{number}"
+            run(HERE.parent / "release" / "node-certificate.sh", folder, name, "127.0.0.1")
+            own = {"nodes-certificate": folder / f"{name}.pem", "nodes-key": folder / f"{name}.key", "nodes-ca": folder / "nodes-ca.pem"}
+            at = f"127.0.0.1:{free_port()}"
+            self.nodes.append(Log(folder, out, name, number == 0, **{"signing-key": None, "signer-socket": socket, "nodes-listen": at, "nodes-address": f"https://{at}"}, **own, **stores))
+        self.url, self.urls = self.nodes[0].url, ",".join(node.url for node in self.nodes)
+
+    def figures(self):
+        """The figures of all nodes together."""
+        found = {}
+        for node in self.nodes:
+            for of, (many, long) in node.figures().items():
+                had = found.get(of, (0, 0))
+                found[of] = had[0] + many, had[1] + long
+        return found
+
+    def reload(self):
+        return f"kill -HUP {' '.join(str(node.process.pid) for node in self.nodes)}"
+
+    def ids(self):
+        return [self.signer.pid, *(node.process.pid for node in self.nodes)]
+
+    def end(self):
+        for node in self.nodes:
+            node.end()
+        self.signer.send_signal(signal.SIGTERM)
+        self.signer.wait()
+
+
+class Node:
+    """A log of one node or several, whose stores are engines."""
+
+    def __init__(self, folder, number, store, out, count):
+        self.store, self.count, self.out = store, count, out
+        self.name, name = f"{store}, {count} node{'s' * (count > 1)}{'' if out == OUT else f', {out}'}", f"log{os.getpid()}-{number}"
+        stores = {"store": bucket(name), "lock": address(store, name), "index": address("postgres", name), "guard_state": address(store, f"{name}-guard")}
+        self.log = Log(folder, out, **stores) if count == 1 else Several(folder, out, count, **stores)
+        self.figures, self.steps, self.calls, self.phases = {}, 0, {}, {}
 
     def turn(self, clients, seconds, engines):
         had, figures, busy, began = size_of(self.log), self.log.figures(), busy_time(), time.monotonic()
@@ -65,9 +112,9 @@ class Node:
             into = self.calls if of == "store" else self.phases
             into[name] = into.get(name, (0, 0))[0] + many, into.get(name, (0, 0))[1] + long
         each = ", ".join(f"{engine} {1000 * one / entries:.2f}" for engine, one in spent.items() if one)
-        self.rows.append(f"| {clients:,} | {self.name}{' (some were refused, and sent again)' if again else ''} | {count / took:,.0f} | {1000 * middle:,.0f} | {1000 * high:,.0f} | "
+        self.figures.setdefault(clients, []).append((count / took, middle, high, own / entries))
+        return (f"| {clients:,} | {self.name}{' (some were refused, and sent again)' if again else ''} | {count / took:,.0f} | {1000 * middle:,.0f} | {1000 * high:,.0f} | "
                          f"{entries / steps:.0f} | {1000 * own / entries:.2f} | {each} | {max(others, 0):.1f} |")  # fmt: skip
-        return self.rows[-1]
 
 
 class Engines:
@@ -88,12 +135,24 @@ class Engines:
         return found
 
 
+def several(nodes):
+    """Prints the ratios of each log of several nodes to the one of one node that has the same store and build."""
+    pairs = [(node, one) for node in nodes if node.count > 1 for one in nodes if (one.store, one.out, one.count) == (node.store, node.out, 1)]
+    if pairs:
+        print("\n| Clients | Nodes over one | Timestamps a second | Median | 99th percentile | Processor |\n" + "|---" * 6 + "|")
+    for node, one in pairs:
+        for clients, figures in node.figures.items():
+            cells = (f"{ratio(*([turn[at] for turn in turns] for turns in (figures, one.figures[clients]))):.2f}" for at in range(4))
+            print(f"| {clients:,} | {node.name} | {' | '.join(cells)} |")
+
+
 def main():
     parser = argparse.ArgumentParser(description=__doc__, formatter_class=argparse.RawDescriptionHelpFormatter)
     parser.add_argument("--turns", type=int, default=2)
     parser.add_argument("--seconds", type=int, default=12)
     parser.add_argument("--clients", default="16,64,256,1024")
     parser.add_argument("--stores", default="etcd,postgres")
+    parser.add_argument("--nodes", default="1")
     parser.add_argument("--out", default=str(OUT))
     words = parser.parse_args()
     engines, nodes = Engines(), []
@@ -101,9 +160,10 @@ def main():
         try:
             for store in words.stores.split(","):
                 for out in words.out.split(","):
-                    nodes.append(Node(pathlib.Path(work) / f"log{len(nodes)}", len(nodes), store, pathlib.Path(out).resolve()))
-            print(f"{words.turns} turns of {words.seconds} s on {os.cpu_count()} processors, at a load of {os.getloadavg()[0]:.1f} before", flush=True)
-            print("| Clients | Register | Timestamps a second | Median, ms | 99th percentile, ms | Entries a step | Processor of the log, ms an entry | Of the engines | Processors that others had |\n" + "|---" * 9 + "|")
+                    for count in map(int, words.nodes.split(",")):
+                        nodes.append(Node(pathlib.Path(work) / f"log{len(nodes)}", len(nodes), store, pathlib.Path(out).resolve(), count))
+            print(f"{words.turns} turns of {words.seconds} s on {machine()}; a load of {os.getloadavg()[0]:.1f} before\n", flush=True)
+            print("| Clients | Lock | Timestamps a second | Median, ms | 99th percentile, ms | Entries a step | Processor of the log, ms an entry | Of the engines | Processors that others had |\n" + "|---" * 9 + "|")
             for clients in map(int, words.clients.split(",")):
                 for number in range(words.turns):
                     for node in nodes[:: 1 if number % 2 == 0 else -1]:
@@ -114,6 +174,7 @@ def main():
                     cells = [(getattr(node, of)[name], node.steps) for node in nodes]
                     if any(many for (many, _), _ in cells):
                         print(f"| {name} | " + " | ".join(f"{many / steps:.2f}, {1000 * long / max(many, 1):.1f}" if of == "calls" else f"{1000 * long / steps:.1f}" for (many, long), steps in cells) + " |")
+            several(nodes)
         finally:
             for node in nodes:
                 node.log.end()

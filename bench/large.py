@@ -1,7 +1,7 @@
 #!/usr/bin/env python3
 """Times a log of ctserve out of a folder that has so many entries already, on loopback.
 
-    large.py [--entries 10400,1000000] [--asks 200] [--seconds 10] [--keep FOLDER [--make]]
+    large.py [--entries 10400,1000000] [--asks 200] [--seconds 10] [--keep FOLDER [--make | --turns 3 [--cold]]]
 
 Nobody submitted these entries. bench/fabricate writes the tiles (with a certificate of 60 bytes each) and the deduplication index. This script writes
 the register's text, with a state that is decided and not published yet. So ctserve publishes its head at its first start, and continues from it. Then it
@@ -9,6 +9,11 @@ measures for each size: the seconds until the log serves, at its second start; a
 each checked; one submission, a repeat of it, and 64 clients at the same time; the memory of ctserve and its signer, and the disk. At last it has the log read
 all data tiles again quickly, and measures the tiles a second and the time for all of them. The logs stay in FOLDER, and are used again where they are there;
 --make makes them and times nothing. 10^8 entries take 25 GB. `make service` builds ctserve and ctload.
+
+With --turns logs of these sizes take turns, and the output has ratios to the first size. It measures the start with nothing of the log in the machine's
+cache (as root, with a warning otherwise) and once more. Then it reads the indexes once, so that they are in the machine's cache as far as they fit (--cold leaves
+that out). It measures in each turn 64 clients that submit new certificates, and 64 clients that repeat
+what was answered; then proofs by leaf hash at random places, each checked; and the memory of ctserve and its signer after the same turns.
 """
 import argparse
 import base64
@@ -27,7 +32,7 @@ import time
 import urllib.parse
 import urllib.request
 
-from served import HERE, TESTS, Log, disk_used, load, memory, processor_time, run, stop, until
+from served import HERE, TESTS, Log, disk_used, load, machine, memory, processor_time, ratio, run, stop, turn, until
 
 sys.path += [str(TESTS), str(TESTS / "tiles")]
 
@@ -224,6 +229,87 @@ def measure(folder, fabricate, words, entries):
     return cells
 
 
+CLIENTS, REPEATS = 64, 100
+
+
+def forget():
+    """Drops the machine's cache of files, and says so where that is not allowed."""
+    os.sync()
+    try:
+        pathlib.Path("/proc/sys/vm/drop_caches").write_text("3")
+    except OSError as why:
+        print(f"large.py: the machine's cache of files is kept, so the first start isn't a cold one: {why}", file=sys.stderr)
+
+
+def remember(folder):
+    """Reads the files of a folder, so that they are in the machine's cache as far as they fit."""
+    for path in folder.iterdir():
+        with path.open("rb") as file:
+            while file.read(1 << 20):
+                pass
+
+
+class Column:
+    """A log that takes turns with others, and its figures."""
+
+    def __init__(self, folder, fabricate, entries):
+        self.entries, (self.log, self.moment) = entries, fabricated(folder, fabricate, entries)
+        self.new, self.again = [], []
+        forget()
+        self.cold = self.log.start()
+        self.log.end()
+        self.warm = self.log.start()
+        self.started = memory(self.log.process.pid)
+
+    def turn(self, seconds):
+        new = turn(self.log, CLIENTS, seconds, 4000 * seconds)
+        count, took, *_ = load(self.log, CLIENTS, "--repeats", REPEATS, "--for", f"{seconds}s")
+        self.new.append(new)
+        self.again.append(count / took)
+        print(f"| {self.entries:,} | {new.rate:,.0f} | {new.median:,.0f} | {new.high:,.0f} | {new.processor:.3f} | {new.written:,.0f} | {self.again[-1]:,.0f} | {new.others:.1f} |", flush=True)
+
+    def proofs(self, asks):
+        of = Reader(self.log, self.moment)
+        return timed([random.randrange(self.entries) for _ in range(asks)], of.proof_by_hash, of.fault_of_proof_by_hash)
+
+    def cells(self, asks, first):
+        """The cells of a column; the ratios are to those of the first size."""
+        now = memory(self.log.process.pid)
+        self.ended = now
+        rates, again = ([one.rate for one in self.new], [one.rate for one in first.new]), (self.again, first.again)
+        processor = ([one.processor for one in self.new], [one.processor for one in first.new])
+        return {
+            "start with nothing in the cache, s": f"{self.cold:.2f}",
+            "start, s": f"{self.warm:.2f}",
+            "memory after the start, MB": f"{self.started / 1e6:.0f}",
+            "memory after the turns, MB": f"{now / 1e6:.0f} ({now / first.ended:.2f})",
+            "submissions a second": f"{statistics.median(rates[0]):,.0f} ({ratio(*rates):.2f})",
+            "processor, ms an entry": f"{statistics.median(processor[0]):.2f} ({ratio(*processor):.2f})",
+            "duplicates a second": f"{statistics.median(again[0]):,.0f} ({ratio(*again):.2f})",
+            "proof by hash, ms": self.proofs(asks),
+            "disk, GB: objects + index": f"{disk_used(self.log.stored() / 'objects') / 1e9:.2f} + {disk_used(self.log.stored() / 'index') / 1e9:.2f}",
+        }
+
+
+def by_turns(columns, words):
+    """Has the logs take turns, and prints each turn and the figures of all."""
+    print(f"{machine()}; a load of {os.getloadavg()[0]:.1f} before; {words.turns} turns of {words.seconds} s with {CLIENTS} clients\n", flush=True)
+    heads = "Entries before", "Submissions a second", "Median, ms", "99th percentile, ms", "Processor, ms an entry", "Written, bytes an entry", "Duplicates a second", "Processors that others had"
+    print(f"| {' | '.join(heads)} |\n" + "|---" * len(heads) + "|")
+    for column in columns:
+        if not words.cold:
+            remember(column.log.stored() / "index")
+        # The first turn opens the clients' connections.
+        turn(column.log, CLIENTS, 1, CLIENTS)
+    for number in range(words.turns):
+        for column in columns[:: 1 if number % 2 == 0 else -1]:
+            column.turn(words.seconds)
+    found = [column.cells(words.asks, columns[0]) for column in columns]
+    print("\n| Entries |" + "".join(f" {column.entries:,} |" for column in columns) + "\n|---|" + "---|" * len(columns))
+    for name in found[0]:
+        print(f"| {name} |" + "".join(f" {cells[name]} |" for cells in found))
+
+
 def main():
     parser = argparse.ArgumentParser(description=__doc__, formatter_class=argparse.RawDescriptionHelpFormatter)
     parser.add_argument("--entries", default="10400,1000000")
@@ -231,6 +317,8 @@ def main():
     parser.add_argument("--seconds", type=int, default=10)
     parser.add_argument("--keep", type=pathlib.Path)
     parser.add_argument("--make", action="store_true")
+    parser.add_argument("--turns", type=int, default=0)
+    parser.add_argument("--cold", action="store_true")
     words = parser.parse_args()
     if words.make and not words.keep:
         parser.error("--make needs --keep")
@@ -238,6 +326,16 @@ def main():
         work, columns = pathlib.Path(work), {}
         fabricate = work / "fabricate"
         run(HERE.parent / "deps" / "go", "-C", HERE.parent, "build", "-o", fabricate, "./bench/fabricate")
+        if words.turns:
+            made = []
+            try:
+                for entries in map(int, words.entries.split(",")):
+                    made.append(Column((words.keep.resolve() if words.keep else work) / str(entries), fabricate, entries))
+                by_turns(made, words)
+            finally:
+                for column in made:
+                    column.log.end()
+            return
         for entries in map(int, words.entries.split(",")):
             folder = (words.keep.resolve() if words.keep else work) / str(entries)
             if words.make:

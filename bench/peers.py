@@ -2,12 +2,14 @@
 """Times ctserve beside CTFE over Trillian and MariaDB, by turns, on loopback: the same loader, the same chains (bench/peers.md).
 
     peers.py fetch FOLDER                  has apt fetch what is needed of Debian 13 and of this machine's Debian, and builds it in FOLDER
-    peers.py FOLDER [--turns 2] [--seconds 12] [--clients 16,64,256,1024] [--settle 0] [--before OUT]
+    peers.py FOLDER [--turns 2] [--seconds 12] [--clients 16,64,256,1024] [--settle 0] [--before NAME=OUT] [--plot PAGE]
 
-Nothing is installed: everything is put into FOLDER. With only FOLDER it makes a log of CTFE and one of ctserve, and has ctload submit
-to each in turn, in each turn with so many clients for so many seconds. It prints timestamps a second, the median and 99th percentile of the time to one, the processor time of the log's processes an entry
-until a signed head has all of them, and how many processors others had meanwhile; then what each log's files and processes take. With --settle it looks at
-the files once more after so many seconds, when temporary files are gone. With --before a log of another build of ctserve is among them, which is in OUT.
+Nothing is installed: everything is put into FOLDER. With only FOLDER it makes a log of CTFE, one of ctserve and one of bench/ideal, and has ctload submit
+to each in turn, in each turn with so many clients for so many seconds. It prints the machine, and of each turn timestamps a second, the median and 99th percentile of the time to one, the processor time
+of the log's processes an entry until a signed head has all of them, the bytes that they wrote to the disk, and how many processors others had meanwhile; then the ratios of ctserve to each other log, which are medians of the turns' ratios; then what
+each log's files and processes take. With --settle it looks at
+the files once more after so many seconds, when temporary files are gone. With --before a log of another build of ctserve is among them by that name, which is in OUT (bench/old.sh).
+With --plot it writes the medians to a page, docs/plots/peers.md say, and draws the plot beside it (bench/plot.py peers).
 ctload has made its submissions before it sends the first. `make service` builds ctserve and ctload.
 """
 import argparse
@@ -15,12 +17,14 @@ import os
 import pathlib
 import re
 import signal
+import statistics
 import subprocess
 import sys
 import tempfile
 import time
 
-from served import Log, disk_used, free_port, listens, memory, run, size_of, stop, turn, until
+from served import HERE, Log, disk_used, free_port, listens, machine, memory, ratio, run, size_of, stop, turn, until
+from speed import Ideal
 
 SUITE, GO = "trixie", "golang-1.24-go"
 WANTED = ["golang-github-google-trillian-dev", "golang-github-google-certificate-transparency-dev", GO]
@@ -199,31 +203,80 @@ class Ctfe:
             process.wait()
 
 
+FIGURES = (("rate", "Timestamps a second", 0), ("median", "Median, ms", 0), ("high", "99th percentile, ms", 0), ("processor", "Processor, ms an entry", 2),
+           ("written", "Written, bytes an entry", 0), ("others", "Processors that others had", 1))  # fmt: skip
+PLOTTED = {"rate": 0, "processor": 3}
+PAGE = """# Timestamps and processor time beside others
+
+This table has the medians that `bench/peers.py` measured: {told}. [{plot}]({plot}) is drawn from it ([bench/peers.md](../../bench/peers.md)). The ratio is the median of the
+turns' ratios of `ctserve` to the log. The clients submit at the same time, each a new certificate as soon as its last one is answered.
+
+| Clients | Log | Timestamps a second | Ratio | Processor time, ms an entry | Ratio |
+|---|---|---|---|---|---|
+"""
+
+
+def taken(logs, count, words):
+    """The figures of all logs' turns with so many clients, which it prints."""
+    figures = {name: [] for name in logs}
+    for number in range(words.turns):
+        for name, log in list(logs.items())[:: 1 if number % 2 == 0 else -1]:
+            figures[name].append(turn(log, count, words.seconds, min(MADE, MADE_EACH * count) * words.seconds))
+    for name, turns in figures.items():
+        cells = (", ".join(f"{getattr(one, of):,.{digits}f}" for one in turns) for of, _, digits in FIGURES)
+        print(f"| {count:,} | {name}{' (some were refused, and sent again)' if any(one.again for one in turns) else ''} | {' | '.join(cells)} |", flush=True)
+    return figures
+
+
+def over(turns, name, of):
+    """The ratio of a figure of ctserve to that of another log."""
+    return ratio(*([getattr(one, of) for one in turns[log]] for log in ("ctserve", name)))
+
+
+def page(told, turns, path):
+    """Writes the medians to a page, and draws them."""
+    plot = path.with_suffix(".svg")
+    text = PAGE.format(told=told, plot=plot.name)
+    for count, figures in turns.items():
+        for name in figures:
+            cells = (f"{statistics.median(getattr(one, of) for one in figures[name]):,.{digits}f} | {over(figures, name, of):.2f}" for of, digits in PLOTTED.items())
+            text += f"| {count:,} | {name} | {' | '.join(cells)} |\n"
+    path.write_text(text)
+    run(HERE / "plot.py", "peers", path, plot)
+
+
 def measure(folder, words):
-    clients = [int(one) for one in words.clients.split(",")]
     with tempfile.TemporaryDirectory(dir=os.environ.get("TMPDIR")) as work:
-        work, logs = pathlib.Path(work), {}
+        work, logs, turns = pathlib.Path(work), {}, {}
+        ideal = work / "program"
+        run(HERE.parent / "deps" / "go", "-C", HERE.parent, "build", "-trimpath", "-o", ideal, "./bench/ideal")
         try:
-            logs["CTFE over Trillian"] = Ctfe(work / "ctfe", folder)
             logs["ctserve"] = Log(work / "one")
             if words.before:
-                logs["ctserve before"] = Log(work / "three", out=pathlib.Path(words.before))
+                name, _, out = words.before.rpartition("=")
+                logs[name or "ctserve before"] = Log(work / "three", out=pathlib.Path(out).resolve())
+            logs["ideal"] = Ideal(work / "ideal", ideal)
+            logs["CTFE over Trillian"] = Ctfe(work / "ctfe", folder)
             began = {name: (size_of(log), disk_used(log.stored())) for name, log in logs.items()}
-            print(f"{words.turns} turns of {words.seconds} s on {os.cpu_count()} processors, at a load of {os.getloadavg()[0]:.1f} before", flush=True)
-            print("| Clients | Log | Timestamps a second | Median, ms | 99th percentile, ms | Processor, ms an entry | Processors that others had |\n|---|---|---|---|---|---|---|")
-            for count in clients:
-                figures = {name: [] for name in logs}
-                for number in range(words.turns):
-                    for name, log in list(logs.items())[:: 1 if number % 2 == 0 else -1]:
-                        figures[name].append(turn(log, count, words.seconds, min(MADE, MADE_EACH * count) * words.seconds))
-                for name, turns in figures.items():
-                    rate, middle, high, spent, _, others, _, again = zip(*turns)
-                    cells = (", ".join(f"{one:,.{digits}f}" for one in column) for column, digits in ((rate, 0), (middle, 0), (high, 0), (spent, 2), (others, 1)))
-                    print(f"| {count:,} | {name}{' (some were refused, and sent again)' if any(again) else ''} | {' | '.join(cells)} |", flush=True)
+            told_of = f"{words.turns} turns of {words.seconds} s on {machine()}"
+            print(f"{told_of}; a load of {os.getloadavg()[0]:.1f} before\n", flush=True)
+            heads = ["Clients", "Log", *(head for _, head, _ in FIGURES)]
+            print(f"| {' | '.join(heads)} |\n" + "|---" * len(heads) + "|")
+            for log in logs.values():
+                # The first turn opens connections, and fills caches.
+                turn(log, 16, 1, 1000)
+            for count in map(int, words.clients.split(",")):
+                turns[count] = taken(logs, count, words)
+            print(f"\n| Clients | `ctserve` over | {' | '.join(head.partition(',')[0] for _, head, _ in FIGURES[:-1])} |\n" + "|---" * (1 + len(FIGURES)) + "|")
+            for count, figures in turns.items():
+                for name in list(logs)[1:]:
+                    print(f"| {count:,} | {name} | {' | '.join(f'{over(figures, name, of):.2f}' for of, _, _ in FIGURES[:-1])} |")
             told(logs, began, "at the end")
             if words.settle:
                 time.sleep(words.settle)
                 told(logs, began, f"{words.settle} s later")
+            if words.plot:
+                page(told_of, turns, words.plot)
         finally:
             for log in logs.values():
                 log.end()
@@ -244,6 +297,7 @@ def main():
     parser.add_argument("--clients", default="16,64,256,1024")
     parser.add_argument("--settle", type=int, default=0)
     parser.add_argument("--before")
+    parser.add_argument("--plot", type=pathlib.Path)
     words = parser.parse_args()
     folder = pathlib.Path(words.words[-1]).resolve()
     if len(words.words) == 2 and words.words[0] == "fetch":

@@ -1,12 +1,10 @@
 #!/usr/bin/env python3
-"""Draws what bench/program.sh or bench/core.sh measured, with gnuplot (Debian's gnuplot-nox).
+"""Draws what bench/core.sh or bench/peers.py measured, with gnuplot (Debian's gnuplot-nox).
 
-    plot.py program TABLE OUT.svg
     plot.py publication TABLE OUT.svg
+    plot.py peers TABLE OUT.svg
 
-TABLE is a file with the table as it is printed. `program`: microseconds a line, and of processor time a line, by submissions and fronts,
-for ctlog and for the plain Rust program. `publication`: milliseconds of a publication by entries, of which the table
-has a column for each build.
+TABLE is a file with the table. `publication`: milliseconds of a publication by entries, of which the table has a column for each build. `peers`: timestamps a second, and processor time an entry, by clients, a line for each log.
 """
 import pathlib
 import re
@@ -33,24 +31,6 @@ def block(name, points):
     return f"${name} << END\n" + "".join(" ".join(map(str, point)) + "\n" for point in points) + "END\n"
 
 
-def program(table, out):
-    """Two panels: time and processor time, by fronts, a line for each number of submissions and each program."""
-    data, series = {}, []
-    for cells in rows(table):
-        count, fronts, (seconds, plain_seconds, _), rates, (spent, plain_spent, _) = numbers(cells[0])[0], cells[1], *map(numbers, cells[2:5])
-        lines = seconds * rates[0]
-        for who, values in (("ctlog", (seconds, spent)), ("plain Rust", (plain_seconds, plain_spent))):
-            data.setdefault((count, who), []).append((fronts, *(1e6 * value / lines for value in values)))
-    text = HEAD + f"set output '{out}'\nset multiplot layout 1,2\nset xlabel 'fronts'\nset yrange [0:*]\n"
-    for place, ((count, who), points) in enumerate(data.items()):
-        text += block(f"points{place}", points)
-        series.append((f"$points{place}", f"{who}, {count:,.0f} submissions", 7 if who == "ctlog" else 6))
-    for column, title in ((2, "time, µs a line"), (3, "processor time, µs a line")):
-        shown = ", ".join(f"{name} using {column}:xticlabel(1) with linespoints pointtype {mark} title '{label}'" for name, label, mark in series)
-        text += f"set title '{title}'\nplot {shown}\n"
-    return text + "unset multiplot\n"
-
-
 def publication(table, out):
     """A line for each build or kind: milliseconds by entries, both on scales of powers of ten."""
     head = next(line for line in pathlib.Path(table).read_text().splitlines() if line.startswith("|")).strip("|").split("|")
@@ -66,8 +46,22 @@ def publication(table, out):
     return text + "plot " + ", ".join(series) + "\n"
 
 
+def peers(table, out):
+    """Two panels: timestamps a second and processor time an entry, by clients, a line for each log."""
+    data = {}
+    for clients, log, rate, _, spent, _ in rows(table):
+        data.setdefault(log, []).append((int(numbers(clients)[0]), numbers(rate)[0], numbers(spent)[0]))
+    text = HEAD + f"set output '{out}'\nset multiplot layout 1,2\nset xlabel 'clients'\nset logscale x 2\n"
+    for place, points in enumerate(data.values()):
+        text += block(f"points{place}", points)
+    for column, title, scale in ((2, "timestamps a second", "yrange [0:*]"), (3, "processor time, ms an entry", "logscale y; set yrange [0.1:*]")):
+        shown = ", ".join(f"$points{place} using 1:{column}:xticlabel(1) with linespoints pointtype {place + 4} title '{log}'" for place, log in enumerate(data))
+        text += f"set {scale}\nset title '{title}'\nplot {shown}\n"
+    return text + "unset multiplot\n"
+
+
 def main():
-    kinds = {"program": program, "publication": publication}
+    kinds = {"publication": publication, "peers": peers}
     if len(sys.argv) != 4 or sys.argv[1] not in kinds:
         sys.exit(__doc__)
     subprocess.run(["gnuplot"], input=kinds[sys.argv[1]](sys.argv[2], sys.argv[3]), text=True, check=True)

@@ -5,6 +5,7 @@ import pathlib
 import re
 import signal
 import socket
+import statistics
 import subprocess
 import sys
 import time
@@ -17,12 +18,28 @@ OUT = HERE.parent / "cmd" / "out"
 ORIGIN = "bench.example/log"
 TICK = os.sysconf("SC_CLK_TCK")
 SUMMARY = re.compile(r"^ctserve_(store|step)_seconds_(sum|count)\{(.*)\} (\S+)$", re.M)
+# The programs that ctserve asked before the proved code was linked into it (bench/old.sh), by the names of their settings.
+PROGRAMS = {"step": "cttile", "decider": "ctnode", "guard": "ctguard", "reader": "ctproof"}
 # How long a process may take to serve, in seconds.
 PATIENCE = 120
 
 
 def stop(why):
     sys.exit(f"{pathlib.Path(sys.argv[0]).name}: {why}")
+
+
+def machine():
+    """What the machine is."""
+    text = pathlib.Path("/proc/cpuinfo").read_text()
+    model = next((line.partition(": ")[2] for line in text.splitlines() if line.startswith("model name")), "an unknown processor")
+    sha = "with" if " sha_ni" in text else "without"
+    folder = os.environ.get("TMPDIR", "/tmp")
+    return f"{os.cpu_count()} processors, {model}, {sha} SHA instructions; {run('stat', '-f', '-c', '%T', folder).strip()} at {folder}"
+
+
+def ratio(own, others):
+    """The median of the turns' ratios."""
+    return statistics.median(one / max(other, 1e-9) for one, other in zip(own, others))
 
 
 def free_port():
@@ -111,25 +128,38 @@ def disk_used(folder):
     return int(run("du", "-s", "--block-size=1", folder).split()[0])
 
 
-class Log:
-    """A log of ctserve in a folder, which is made where it isn't there; out has the build of ctserve."""
+def words_of(out):
+    """The settings whose names differ among builds of ctserve."""
+    if (out / PROGRAMS["step"]).exists():
+        return {"most-connections-by-address": 5000, **{setting: out / name for setting, name in PROGRAMS.items()}}
+    return {"max-connections-per-address": 5000}
 
-    def __init__(self, folder, out=OUT, **settings):
+
+def keys(folder):
+    """Makes a folder with a log's key and with a root for it to accept."""
+    folder.mkdir()
+    for name in ("log", "root"):
+        run("openssl", "ecparam", "-name", "prime256v1", "-genkey", "-noout", "-out", folder / f"{name}.key")
+        os.chmod(folder / f"{name}.key", 0o600)
+    (folder / "log.pem").write_text(run("openssl", "ec", "-in", folder / "log.key", "-pubout"))
+    run("openssl", "req", "-x509", "-key", folder / "root.key", "-subj", "/CN=a root", "-days", 30, "-out", folder / "roots.pem")
+
+
+class Log:
+    """A log of ctserve in a folder, which is made where it isn't there; out has the build of ctserve. A log of several nodes has a Log of each, with a name and a create."""
+
+    def __init__(self, folder, out=OUT, name="", create=None, **settings):
         self.out, self.folder, self.port, self.operator = out, folder, free_port(), free_port()
         self.roots, new = folder / "roots.pem", not folder.exists()
         if new:
-            folder.mkdir()
-            for name in ("log", "root"):
-                run("openssl", "ecparam", "-name", "prime256v1", "-genkey", "-noout", "-out", folder / f"{name}.key")
-                os.chmod(folder / f"{name}.key", 0o600)
-            (folder / "log.pem").write_text(run("openssl", "ec", "-in", folder / "log.key", "-pubout"))
-            run("openssl", "req", "-x509", "-key", folder / "root.key", "-subj", "/CN=a root", "-days", 30, "-out", self.roots)
+            keys(folder)
         words = {"origin": ORIGIN, "listen": f"127.0.0.1:{self.port}", "operator-listen": f"127.0.0.1:{self.operator}", "signing-key": folder / "log.key",
-                 "roots": self.roots, "folder": folder / "log", "max-connections-per-address": 5000, **settings}  # fmt: skip
-        self.settings = folder / "bench.conf"
-        self.settings.write_text("".join(f"{name.replace('_', '-')} {value}\n" for name, value in words.items()))
-        self.url, self.said = f"http://127.0.0.1:{self.port}", folder / "ctserve.log"
-        self.start(*["--create"] if new else [])
+                 "roots": self.roots, "folder": folder / f"log{name}", **words_of(out)}  # fmt: skip
+        words.update({setting.replace("_", "-"): value for setting, value in settings.items()})
+        self.settings = folder / f"bench{name}.conf"
+        self.settings.write_text("".join(f"{setting} {value}\n" for setting, value in words.items() if value is not None))
+        self.url, self.said = f"http://127.0.0.1:{self.port}", folder / f"ctserve{name}.log"
+        self.start(*["--create"] if (new if create is None else create) else [])
 
     def start(self, *words):
         """Starts ctserve; the answer is the seconds until it serves."""
@@ -166,7 +196,7 @@ class Log:
 
 def load(log, clients, *words):
     """The results of ctload for a log: timestamps, over how many seconds, and the median and 99th percentile of the time to one, in seconds."""
-    command = [OUT / "ctload", "--nodes", log.url, "--roots", log.roots, "--answers", log.folder / "answers", "--repeats", 0, "--clients", clients, "--reload", log.reload()]
+    command = [OUT / "ctload", "--nodes", getattr(log, "urls", log.url), "--roots", log.roots, "--answers", log.folder / "answers", "--repeats", 0, "--clients", clients, "--reload", log.reload()]
     said = run(*command, *words)
     found = re.search(r"(\d+) answered in ([0-9.]+) s: .* median ([0-9.]+) s, 99th percentile ([0-9.]+) s[^\n]*$", said.strip())
     if not found:

@@ -15,11 +15,10 @@ import argparse
 import os
 import pathlib
 import signal
-import statistics
 import subprocess
 import tempfile
 
-from served import HERE, OUT, Log, free_port, listens, run, turn, until
+from served import HERE, OUT, Log, free_port, listens, machine, ratio, run, turn, until
 
 # How many submissions ctload makes before it begins, for each second: so many for each client, and at most so many.
 MADE_EACH, MADE = 100, 3000
@@ -50,18 +49,12 @@ class Ideal:
     def ids(self):
         return [self.process.pid]
 
+    def stored(self):
+        return self.folder / "log"
+
     def end(self):
         self.process.send_signal(signal.SIGTERM)
         self.process.wait()
-
-
-def machine():
-    """What the machine is."""
-    text = pathlib.Path("/proc/cpuinfo").read_text()
-    model = next((line.partition(": ")[2] for line in text.splitlines() if line.startswith("model name")), "an unknown processor")
-    sha = "with" if " sha_ni" in text else "without"
-    folder = os.environ.get("TMPDIR", "/tmp")
-    return f"{os.cpu_count()} processors, {model}, {sha} SHA instructions; {run('stat', '-f', '-c', '%T', folder).strip()} at {folder}"
 
 
 def steps(before, after):
@@ -95,8 +88,7 @@ def measure(logs, words):
             for name, log in list(logs.items())[:: 1 if number % 2 == 0 else -1]:
                 figures[name].append(row(name, count, log, words.seconds))
         for name in list(logs)[:-1]:
-            pairs = list(zip(figures[name], figures["ideal"]))
-            cells = (f"{statistics.median(getattr(own, of) / max(getattr(least, of), 1e-9) for own, least in pairs):.2f}" for of in ("rate", "median", "high", "processor", "written"))
+            cells = (f"{ratio(*([getattr(one, of) for one in figures[log]] for log in (name, 'ideal'))):.2f}" for of in ("rate", "median", "high", "processor", "written"))
             ratios.append(f"| {count:,} | {name} | {' | '.join(cells)} |")
     print("\n| Clients | Over ideal | Timestamps a second | Median | 99th percentile | Processor | Written |\n" + "|---" * 7 + "|\n" + "\n".join(ratios))
 

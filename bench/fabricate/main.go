@@ -9,15 +9,19 @@
 package main
 
 import (
-	"context"
 	"crypto/sha256"
 	"encoding/binary"
 	"fmt"
 	"math/bits"
 	"os"
 	"path/filepath"
+	"slices"
 	"strconv"
 	"sync"
+
+	"github.com/syndtr/goleveldb/leveldb"
+	"github.com/syndtr/goleveldb/leveldb/filter"
+	"github.com/syndtr/goleveldb/leveldb/opt"
 
 	"wagtenib/internal/stores"
 )
@@ -29,6 +33,11 @@ const (
 	certificate = 60
 	// workers is how many goroutines make tiles.
 	workers = 2
+	// newest is how many of the last entries the index gets in their own order, as from a node. Those before them it gets
+	// in the order of their keys, so that LevelDB has nothing to merge.
+	newest = 1_000_000
+	// indexBits is how many bits hold an entry's index while rows are put in order.
+	indexBits = 27
 )
 
 type hash = [32]byte
@@ -51,7 +60,9 @@ func entry(index, timestamp uint64) []byte {
 }
 
 // leafHash is MTH of the one leaf (RFC 6962, section 2.1): of MerkleTreeLeaf, which has version and type before the entry.
-func leafHash(entry []byte) hash { return sha256.Sum256(append([]byte{0, 0, 0}, entry...)) }
+func leafHash(entry []byte) hash {
+	return sha256.Sum256(append(make([]byte, 3, 128), entry...))
+}
 
 // identity is what the index knows an entry by: the hash of the entry's type and certificate.
 func identity(index uint64) hash {
@@ -121,7 +132,7 @@ type tree struct {
 
 // leaves writes the data tile and the hash tile of so many entries from a multiple of width on, and gives the hashes.
 func (t *tree) leaves(tile, wide int) (data []byte, hashes []hash) {
-	hashes = make([]hash, wide)
+	hashes, data = make([]hash, wide), make([]byte, 0, wide*(certificate+25))
 	for at := range hashes {
 		e := entry(uint64(width*tile+at), t.timestamp)
 		hashes[at] = leafHash(e)
@@ -202,20 +213,89 @@ func tiles(objects string, entries int, timestamp uint64) {
 	}
 }
 
-// index adds entries to the index in a folder.
-func index(folder string, entries, timestamp uint64) {
-	to, err := stores.OpenLevelDB(context.Background(), folder)
-	stop(err)
-	rows := make([]stores.Row, 0, stores.MaxRows)
-	for i := range entries {
-		rows = append(rows, stores.Row{Identity: identity(i), Leaf: leafHash(entry(i, timestamp)),
-			Place: stores.Place{Index: i, Timestamp: timestamp}})
-		if len(rows) == stores.MaxRows || i == entries-1 {
-			stop(to.Add(context.Background(), rows))
-			rows = rows[:0]
-		}
+// table is a table of the index: the letter with which its keys begin, and the hash of an entry that follows it.
+type table struct {
+	letter byte
+	of     func(index uint64) hash
+}
+
+// tables are those of internal/stores, in the order of their letters.
+func tables(timestamp uint64) []table {
+	return []table{{'i', identity}, {'l', func(index uint64) hash { return leafHash(entry(index, timestamp)) }}}
+}
+
+// options are those of internal/stores that say how files are made, with a buffer of this many bytes, and without syncs.
+func options(buffer int) *opt.Options {
+	return &opt.Options{WriteBuffer: buffer, CompactionTableSize: 2 << 20, CompactionTotalSize: 256 << 20,
+		CompactionL0Trigger: 8, WriteL0SlowdownTrigger: 64, WriteL0PauseTrigger: 128, CompactionGPOverlapsFactor: 40,
+		Filter: filter.NewBloomFilter(10), Compression: opt.NoCompression, DisableSeeksCompaction: true, NoSync: true}
+}
+
+// adder adds rows to LevelDB, many at once.
+type adder struct {
+	to        *leveldb.DB
+	timestamp uint64
+	batch     leveldb.Batch
+}
+
+// add adds a row for the entry at this index.
+func (a *adder) add(to table, index uint64) {
+	h := to.of(index)
+	value := binary.AppendUvarint(binary.AppendUvarint(make([]byte, 0, 16), index), a.timestamp)
+	a.batch.Put(append([]byte{to.letter}, h[:]...), value)
+	if a.batch.Len() == stores.MaxRows {
+		a.write()
 	}
+}
+
+func (a *adder) write() {
+	stop(a.to.Write(&a.batch, nil))
+	a.batch.Reset()
+}
+
+// inOrder adds the rows of the first entries in the order of their keys.
+func (a *adder) inOrder(to table, entries uint64) {
+	// Each has the first bits of the hash, followed by the index. LevelDB orders the few that have the same first bits.
+	rows := make([]uint64, entries)
+	for i := range entries {
+		h := to.of(i)
+		rows[i] = binary.BigEndian.Uint64(h[:])>>indexBits<<indexBits | i
+	}
+	slices.Sort(rows)
+	for _, row := range rows {
+		a.add(to, row&(1<<indexBits-1))
+	}
+	a.write()
+}
+
+// filled opens the index in a folder, has rows added, and closes it.
+func filled(folder string, timestamp uint64, buffer int, add func(a *adder)) {
+	to, err := leveldb.OpenFile(folder, options(buffer))
+	stop(err)
+	a := &adder{to: to, timestamp: timestamp}
+	add(a)
+	a.write()
 	stop(to.Close())
+}
+
+// index adds entries to the index in a folder, which does not exist yet.
+func index(folder string, entries, timestamp uint64) {
+	first := entries - min(entries, newest)
+	if first > 1<<indexBits {
+		stop(fmt.Errorf("%d entries are more than can be put in order", entries))
+	}
+	filled(folder, timestamp, 2<<20, func(a *adder) {
+		for _, one := range tables(timestamp) {
+			a.inOrder(one, first)
+		}
+	})
+	filled(folder, timestamp, 16<<20, func(a *adder) {
+		for i := first; i < entries; i++ {
+			for _, one := range tables(timestamp) {
+				a.add(one, i)
+			}
+		}
+	})
 }
 
 func number(word string) uint64 {
