@@ -133,6 +133,19 @@ func (j *judge) putHead(name, note string) {
 		j.breaks("a head is the list's", "%s has the root %x and not %x", name, head.Root[:4], root[:4])
 	}
 	j.judgeTime(head, name)
+	j.isNext(head, name)
+	if head.Timestamp > j.newest.Timestamp {
+		j.newest = head
+	}
+	if now := cells(j.w.stores.text); now != nil && head.Timestamp < now.timestamp {
+		j.stats.Late++
+	}
+	j.standing = append(j.standing, standing{head.Size, head.Timestamp, j.w.now})
+	j.stats.Heads++
+}
+
+// isNext judges whether a head that is put may come after the newest one.
+func (j *judge) isNext(head signer.Head, name string) {
 	// Witnesses remember trees, and not their timestamps. So if all else was rolled back to an earlier head of a tree that
 	// they saw, a head with more entries may be as early as one of that tree, or earlier.
 	isSmaller := head.Timestamp > j.newest.Timestamp && head.Size < j.newest.Size
@@ -145,14 +158,6 @@ func (j *judge) putHead(name, note string) {
 		j.breaks("heads do not go back", "%s is put after the head of %d entries at %d ms", name, j.newest.Size,
 			j.newest.Timestamp)
 	}
-	if head.Timestamp > j.newest.Timestamp {
-		j.newest = head
-	}
-	if now := cells(j.w.stores.text); now != nil && head.Timestamp < now.timestamp {
-		j.stats.Late++
-	}
-	j.standing = append(j.standing, standing{head.Size, head.Timestamp, j.w.now})
-	j.stats.Heads++
 }
 
 // putCheckpoint judges a checkpoint that is put: it is a signed head of the list, all of its tree is in the store, and
