@@ -7,6 +7,7 @@ import (
 	"fmt"
 	"sort"
 	"strings"
+	"time"
 
 	"wagtenib/internal/signer"
 	"wagtenib/internal/stores"
@@ -310,14 +311,19 @@ func (w *world) stopsAll() {
 	w.excuses.signed = w.excuses.signed || isWitnessed
 }
 
-// unputHead returns the head that the guard approved last if it is not in the store, and nil otherwise.
+// listedWithin is how long before the end of its swap a node may have listed the heads (maxUnlisted in internal/node).
+const listedWithin = 100 * time.Millisecond
+
+// unputHead returns the head that the guard approved last if it is not in the store, or was put so late that a node that
+// swaps may have listed the heads before, and nil otherwise.
 func (w *world) unputHead() *signer.Head {
 	guard, err := signer.ReadState(w.stores.guard)
 	if err != nil || guard.Last() == nil {
 		return nil
 	}
 	last := guard.Last()
-	if _, isPut := w.stores.objects[fmt.Sprintf("heads/%020d-%020d", last.Size, last.Timestamp)]; isPut {
+	_, isPut := w.stores.objects[fmt.Sprintf("heads/%020d-%020d", last.Size, last.Timestamp)]
+	if put := w.judge.standing; isPut && (len(put) == 0 || put[len(put)-1].at < w.now-listedWithin) {
 		return nil
 	}
 	return last
