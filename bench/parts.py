@@ -24,7 +24,7 @@ from speed import Ideal
 # The parts, by the names of functions of any of the calls, from the innermost on; the first that fits counts.
 PARTS = [(name, re.compile(pattern)) for name, pattern in (
     ("SHA-256 of the proved code", r"^(?!crypto|internal).*(Sha256|sha2::|sha256_)"),
-    ("the proved code otherwise", r"^(ct_\w+|shared|std\w*|core|alloc|libwagtenib|sha2|indexmap)::|wagtenib_|^(malloc|free|realloc|_int_\w+|__mem\w+)$"),
+    ("the proved code otherwise", r"^(ct_\w+|shared_\w+|std\w*|core|alloc|libwagtenib|sha2|indexmap)::|wagtenib_|^(malloc|free|realloc|_int_\w+|__mem\w+)$"),
     ("SHA-256 of Go", r"sha256"),
     ("ECDSA: chains checked and signatures made", r"^crypto/(ecdsa|elliptic)|^p256|nistec|/ecdsa|bigmod|drbg|^crypto/internal/fips140/(hmac|sha512)|^crypto/rand"),
     ("garbage collection and allocation", r"^runtime\.(gc|bgsweep|bgscavenge|sweep|scan|mallocgc|greyobject|markroot|newobject|makeslice|growslice|wbBufFlush|\(\*(mspan|mheap|mcache|mcentral|gcWork|sweepLocked))"),

@@ -266,8 +266,8 @@ func (l *Loop) learn(ctx context.Context) (*state, error) {
 		}
 	}
 	if l.config.Machine.Clock.Elapsed()-l.seen.heard > maxUnheard {
-		// A later text must not be forgotten if it cannot be looked back, and must be if it is refused: the lock may come
-		// back from there.
+		// A later text must not be forgotten if looking back fails. It must be forgotten if it is refused: the lock may
+		// come back from there.
 		l.seen.newest = k
 		if err := l.looksBack(ctx, k); err != nil {
 			if errors.Is(err, ErrRolledBack) {

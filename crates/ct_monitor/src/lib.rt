@@ -21,7 +21,7 @@
 //! - `calls` has the calls, and `answer` their results.
 //! - [`call_laws`] has the laws of many calls.
 //!
-//! Except for the calls, which use SHA-256, all of this holds for every hash function with digests of 32 bytes (`NodeHash`), including SHA-256. The meaning of the results is
+//! The calls use SHA-256. All else holds for every hash function with digests of 32 bytes (`NodeHash`). The meaning of the results is
 //! defined in `specs/`: `Followed` and `Observed` for the monitor, `FollowerState` for the follower, `Watched` and `Verdicts` for the
 //! watcher, `Audited` for the auditor.
 #![tactic(auto)]

@@ -1,6 +1,6 @@
 -- Many sequencers over one lock, which look each submission up in a deduplication index before they add it. H is any hash function on byte
 -- lists.
-use Rattle.std.specs.Prelude.{◌≡◌, ℕ, ◌≤◌, List, length, ◌++◌, map, flat_map, take, filter, All, AllPairs, Contains}
+use Rattle.std.specs.Prelude.{◌≡◌, ℕ, ◌≤◌, List, length, ◌++◌, map, flat_map, filter, All, AllPairs, Contains}
 use Rattle.ct_codec.specs.Submitted.{Submitted, identity_of}
 use Rattle.ct_step.specs.Growths.{IsState}
 use Rattle.ct_step.specs.History.{Attempt, AreAttempts, taken, CarryOn}

@@ -1,6 +1,6 @@
 -- Theorems about the replies. H is any hash function on byte lists, and for `ClaimsStandThere` one with digests of 32 bytes. The program's
 -- is SHA-256.
-use Rattle.std.specs.Prelude.{◌≡◌, ◌⊎◌, ◌+◌, ◌<◌, ◌≤◌, ℕ, Bool, if◌then◌else◌, List, [], ◌∷◌, length, map, filter, take, slice_get, slice_index_or, Some, All, AllPairs, Contains}
+use Rattle.std.specs.Prelude.{◌≡◌, ◌⊎◌, ◌+◌, ◌<◌, ◌≤◌, ℕ, Bool, if◌then◌else◌, List, [], ◌∷◌, length, map, filter, slice_get, slice_index_or, Some, All, AllPairs, Contains}
 use Rattle.ct_codec.specs.Submitted.{Submitted, entry_of, identity_of}
 use Rattle.ct_step.specs.StateLines.{IsStateLine, state_line_text}
 use Rattle.ct_step.specs.declared.line.StateLine.{StateLine}
