@@ -12,11 +12,11 @@ import (
 	"strings"
 	"testing"
 
-	"wagtenib/internal/finding"
 	"wagtenib/internal/testlog"
 	"wagtenib/internal/testutil"
 	"wagtenib/internal/watch"
-	"wagtenib/internal/watchstore"
+	"wagtenib/internal/watch/finding"
+	"wagtenib/internal/watch/watchstore"
 )
 
 // TestEvidence: a fork is shown by two signed heads and the log's key, and by no other key and no other files.

@@ -1,6 +1,6 @@
 // Command ctcheck judges a log from what it published in a folder or a bucket: ctcheck FOLDER|s3://.. KEY.PEM
 // [ANSWERS..]. KEY.PEM has the log's public key. A file of answers is one that ctload --answers wrote: each line is a
-// JSON object, as check.Answer has it. It says what it saw, or what is wrong, with status 1.
+// JSON object, as logcheck.Answer has it. It says what it saw, or what is wrong, with status 1.
 //
 // ctcheck evidence FOLDER KEY.PEM judges the evidence against a log that a monitor kept in a folder. It prints what the
 // files show, and what must be believed beside them. The status is 1 if they do not show what evidence.json says.
@@ -15,7 +15,7 @@ import (
 	"os"
 	"strings"
 
-	"wagtenib/internal/check"
+	"wagtenib/internal/logcheck"
 	"wagtenib/internal/stores"
 	"wagtenib/internal/version"
 )
@@ -102,36 +102,36 @@ func judgeEvidence(folder, keyFile string) (string, error) {
 	if err != nil {
 		return "", err
 	}
-	return check.Evidence(folder, key)
+	return logcheck.Evidence(folder, key)
 }
 
-func judge(folder, keyFile string, answerFiles []string) (check.Report, error) {
+func judge(folder, keyFile string, answerFiles []string) (logcheck.Report, error) {
 	key, err := readKey(keyFile)
 	if err != nil {
-		return check.Report{}, err
+		return logcheck.Report{}, err
 	}
-	var answers []check.Answer
+	var answers []logcheck.Answer
 	for _, name := range answerFiles {
 		if answers, err = readAnswers(name, answers); err != nil {
-			return check.Report{}, err
+			return logcheck.Report{}, err
 		}
 	}
 	if strings.HasPrefix(folder, "s3://") {
 		copied, err := os.MkdirTemp("", "ctcheck")
 		if err != nil {
-			return check.Report{}, err
+			return logcheck.Report{}, err
 		}
 		defer os.RemoveAll(copied)
 		if err := fetch(folder, copied); err != nil {
-			return check.Report{}, err
+			return logcheck.Report{}, err
 		}
 		folder = copied
 	}
-	report, err := check.Folder(folder, key, answers)
+	report, err := logcheck.Folder(folder, key, answers)
 	if err != nil {
 		return report, err
 	}
-	_, err = check.Precertificates(folder)
+	_, err = logcheck.Precertificates(folder)
 	return report, err
 }
 
@@ -150,7 +150,7 @@ func fetch(address, folder string) error {
 // maxLine is how long an answer's line may be.
 const maxLine = 1 << 20
 
-func readAnswers(name string, answers []check.Answer) ([]check.Answer, error) {
+func readAnswers(name string, answers []logcheck.Answer) ([]logcheck.Answer, error) {
 	file, err := os.Open(name)
 	if err != nil {
 		return nil, err
@@ -160,7 +160,7 @@ func readAnswers(name string, answers []check.Answer) ([]check.Answer, error) {
 	lines.Buffer(nil, maxLine)
 	number := 1
 	for ; lines.Scan(); number++ {
-		var a check.Answer
+		var a logcheck.Answer
 		var fields map[string]json.RawMessage
 		err := json.Unmarshal(lines.Bytes(), &a)
 		if err == nil {
@@ -181,7 +181,7 @@ func readAnswers(name string, answers []check.Answer) ([]check.Answer, error) {
 	return answers, nil
 }
 
-// missing returns the name of a field of check.Answer that a line lacks, or nothing. The line of a precertificate has
+// missing returns the name of a field of logcheck.Answer that a line lacks, or nothing. The line of a precertificate has
 // issuer_key_hash and tbs_certificate, and the line of a certificate has certificate.
 func missing(fields map[string]json.RawMessage) string {
 	names := []string{"log_id", "timestamp", "extensions", "signature", "certificate"}

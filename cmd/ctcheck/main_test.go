@@ -19,7 +19,7 @@ import (
 	"strings"
 	"testing"
 
-	"wagtenib/internal/check"
+	"wagtenib/internal/logcheck"
 	"wagtenib/internal/testutil"
 )
 
@@ -30,7 +30,7 @@ func TestMain(m *testing.M) { testutil.Main(m, main) }
 // log is one of one leaf, whose certificate is longer than a line of a scanner is by itself.
 type log struct {
 	folder, key string
-	answer      check.Answer
+	answer      logcheck.Answer
 }
 
 func newLog(t testing.TB) log {
@@ -59,7 +59,7 @@ func newLog(t testing.TB) log {
 	message = append(binary.BigEndian.AppendUint64(message, 1), root[:]...)
 	blob := append(binary.BigEndian.AppendUint64(append([]byte{}, name[:4]...), head), signed(message)...)
 	l := log{t.TempDir(), filepath.Join(t.TempDir(), "log.pem"),
-		check.Answer{Certificate: certificate, Timestamp: timestamp, Extensions: extensions,
+		logcheck.Answer{Certificate: certificate, Timestamp: timestamp, Extensions: extensions,
 			Signature: signed(leaf), LogID: id[:]}}
 	in := base64.StdEncoding
 	for name, content := range map[string][]byte{
@@ -76,7 +76,7 @@ func newLog(t testing.TB) log {
 }
 
 // file is one with these answers.
-func file(t testing.TB, answers ...check.Answer) string {
+func file(t testing.TB, answers ...logcheck.Answer) string {
 	path := filepath.Join(t.TempDir(), "answers")
 	var lines bytes.Buffer
 	for _, answer := range answers {
@@ -90,7 +90,7 @@ func file(t testing.TB, answers ...check.Answer) string {
 func TestJudge(t *testing.T) {
 	l := newLog(t)
 	report, err := judge(l.folder, l.key, []string{file(t, l.answer), file(t, l.answer, l.answer), file(t)})
-	if want := (check.Report{Heads: 1, Leaves: 1, Tiles: 2, Answers: 3}); err != nil || report != want {
+	if want := (logcheck.Report{Heads: 1, Leaves: 1, Tiles: 2, Answers: 3}); err != nil || report != want {
 		t.Fatalf("%+v, and not %+v: %v", report, want, err)
 	}
 	wrong := l.answer
@@ -166,7 +166,7 @@ func TestRefusesOtherAnswers(t *testing.T) {
 	precertificate.Certificate, precertificate.IssuerKeyHash = nil, make([]byte, 32)
 	precertificate.TBSCertificate = []byte{1}
 	for _, of := range []struct {
-		answer check.Answer
+		answer logcheck.Answer
 		names  []string
 	}{
 		{l.answer, []string{"log_id", "timestamp", "extensions", "signature", "certificate"}},

@@ -1,6 +1,6 @@
 // Command ctload submits certificates and precertificates of an authority of its own to the nodes of a log, and
 // measures how long they take. It adds its root to a file of roots before it begins, has a command tell the nodes, and
-// waits until each has that. Each timestamp is written as a line that ctcheck judges (check.Answer). A submission that
+// waits until each has that. Each timestamp is written as a line that ctcheck judges (logcheck.Answer). A submission that
 // isn't answered is sent again, to the next node, until it is.
 //
 // It ends after its time or at a signal, with status 1 where a submission was refused as wrong.
@@ -28,8 +28,8 @@ import (
 
 	"golang.org/x/sync/errgroup"
 
-	"wagtenib/internal/check"
 	"wagtenib/internal/httpserver/standin"
+	"wagtenib/internal/logcheck"
 	"wagtenib/internal/version"
 )
 
@@ -67,7 +67,7 @@ type results struct {
 type submission struct {
 	call string
 	body []byte
-	of   check.Answer
+	of   logcheck.Answer
 }
 
 const (
@@ -305,16 +305,16 @@ func (l *load) next(chance *rand.Rand) (submission, error) {
 func (l *load) make(chance *rand.Rand) (submission, error) {
 	if chance.Intn(3) > 0 {
 		der, err := l.authority.Issue(false, l.ends)
-		return submission{"add-chain", standin.Submission(der), check.Answer{Certificate: der}}, err
+		return submission{"add-chain", standin.Submission(der), logcheck.Answer{Certificate: der}}, err
 	}
 	der, tbs, err := l.authority.IssuePair(l.ends)
 	issuer := sha256.Sum256(l.authority.Root.RawSubjectPublicKeyInfo)
 	return submission{"add-pre-chain", standin.Submission(der),
-		check.Answer{IssuerKeyHash: issuer[:], TBSCertificate: tbs}}, err
+		logcheck.Answer{IssuerKeyHash: issuer[:], TBSCertificate: tbs}}, err
 }
 
 // submit asks node after node until one answers; nothing where the context ended before.
-func (l *load) submit(ctx context.Context, s submission, at int) (*check.Answer, error) {
+func (l *load) submit(ctx context.Context, s submission, at int) (*logcheck.Answer, error) {
 	for ; ctx.Err() == nil; at++ {
 		status, reply, err := l.post(ctx, l.nodes[at%len(l.nodes)]+"/ct/v1/"+s.call, s.body)
 		why := "no answer"
@@ -352,7 +352,7 @@ func (l *load) post(ctx context.Context, address string, body []byte) (int, []by
 }
 
 // answered reads a signed certificate timestamp (RFC 6962, section 4.1).
-func answered(s submission, reply []byte) (*check.Answer, error) {
+func answered(s submission, reply []byte) (*logcheck.Answer, error) {
 	var read struct {
 		Version    int    `json:"sct_version"`
 		ID         []byte `json:"id"`
@@ -369,7 +369,7 @@ func answered(s submission, reply []byte) (*check.Answer, error) {
 }
 
 // keep writes an answer down, with how long it took.
-func (l *load) keep(s submission, answer check.Answer, took time.Duration) error {
+func (l *load) keep(s submission, answer logcheck.Answer, took time.Duration) error {
 	l.mu.Lock()
 	defer l.mu.Unlock()
 	if l.count++; len(l.past) < maxPast {

@@ -18,8 +18,8 @@ import (
 	"testing"
 	"time"
 
-	"wagtenib/internal/check"
 	"wagtenib/internal/httpserver/standin"
+	"wagtenib/internal/logcheck"
 	"wagtenib/internal/testutil"
 )
 
@@ -72,7 +72,7 @@ func loadOf(t testing.TB, nodes ...*node) (*load, *bytes.Buffer) {
 	return l, &answers
 }
 
-var some = submission{"add-chain", []byte(`{"chain":[]}`), check.Answer{Certificate: []byte("a certificate")}}
+var some = submission{"add-chain", []byte(`{"chain":[]}`), logcheck.Answer{Certificate: []byte("a certificate")}}
 
 // TestSubmit: after an answer that a node is busy, late or broken, the next node is asked. A submission that is refused
 // as wrong is not repeated. Answers are stored with their entries.
@@ -82,7 +82,7 @@ func TestSubmit(t *testing.T) {
 	answers := newNode(t, right)
 	l, _ := loadOf(t, answers, busy, many)
 	answer, err := l.submit(limited(t), some, 1)
-	want := check.Answer{Certificate: []byte("a certificate"), Timestamp: 7, Extensions: []byte{3, 4},
+	want := logcheck.Answer{Certificate: []byte("a certificate"), Timestamp: 7, Extensions: []byte{3, 4},
 		Signature: []byte{5, 6}, LogID: []byte{1, 2}}
 	if err != nil || fmt.Sprint(*answer) != fmt.Sprint(want) {
 		t.Fatalf("%+v, %v", answer, err)
@@ -145,7 +145,7 @@ func (zeros) Seed(int64)   {}
 func TestNext(t *testing.T) {
 	l, _ := loadOf(t)
 	chance := rand.New(zeros{})
-	must(t, l.keep(some, check.Answer{}, time.Second))
+	must(t, l.keep(some, logcheck.Answer{}, time.Second))
 	s, err := l.next(chance)
 	if must(t, err); s.call != "add-pre-chain" || len(s.of.TBSCertificate) == 0 || len(s.of.IssuerKeyHash) != 32 ||
 		s.of.Certificate != nil {
@@ -186,7 +186,7 @@ func TestKeep(t *testing.T) {
 	for i := 0; i < maxPast+3; i++ {
 		one := some
 		one.call = fmt.Sprint(i)
-		must(t, l.keep(one, check.Answer{Timestamp: uint64(i)}, time.Duration(i)*time.Millisecond))
+		must(t, l.keep(one, logcheck.Answer{Timestamp: uint64(i)}, time.Duration(i)*time.Millisecond))
 	}
 	calls := map[string]bool{}
 	for _, one := range l.past {
@@ -204,7 +204,7 @@ func TestKeep(t *testing.T) {
 	// The newest latencies are kept too.
 	l.took, l.answers = make([]time.Duration, maxDuration), json.NewEncoder(io.Discard)
 	for i := 0; i < 3; i++ {
-		must(t, l.keep(some, check.Answer{}, time.Hour))
+		must(t, l.keep(some, logcheck.Answer{}, time.Hour))
 	}
 	hours := 0
 	for _, took := range l.took {
@@ -217,7 +217,7 @@ func TestKeep(t *testing.T) {
 	}
 	full := errors.New("the disk is full")
 	l.answers = json.NewEncoder(failing{full})
-	if err := l.keep(some, check.Answer{}, 0); !errors.Is(err, full) {
+	if err := l.keep(some, logcheck.Answer{}, 0); !errors.Is(err, full) {
 		t.Error(err)
 	}
 }

@@ -16,7 +16,7 @@ import (
 	"testing"
 	"time"
 
-	"wagtenib/internal/check"
+	"wagtenib/internal/logcheck"
 	"wagtenib/internal/testutil"
 )
 
@@ -66,7 +66,7 @@ func TestProgram(t *testing.T) {
 		t.Fatalf("%d lines, the first of which is %s", len(lines), lines[0])
 	}
 	for _, line := range lines[1:] {
-		var answer check.Answer
+		var answer logcheck.Answer
 		must(t, json.Unmarshal([]byte(line), &answer))
 		if answer.Timestamp != 7 || len(answer.Certificate) == 0 == (len(answer.TBSCertificate) == 0) {
 			t.Errorf("%s", line)

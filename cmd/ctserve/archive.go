@@ -13,8 +13,8 @@ import (
 	"syscall"
 	"time"
 
-	"wagtenib/internal/archive"
 	"wagtenib/internal/chains"
+	"wagtenib/internal/logarchive"
 	"wagtenib/internal/signature"
 	"wagtenib/internal/stores"
 	"wagtenib/internal/tile"
@@ -64,7 +64,7 @@ func runArchive(words []string, answers, faults io.Writer) error {
 	}
 	ctx, stop := signal.NotifyContext(context.Background(), syscall.SIGTERM, syscall.SIGINT)
 	defer stop()
-	head, err := archive.Make(ctx, given.folder, of, options)
+	head, err := logarchive.Make(ctx, given.folder, of, options)
 	if err != nil {
 		return err
 	}
@@ -74,7 +74,7 @@ func runArchive(words []string, answers, faults io.Writer) error {
 }
 
 // log returns which log is archived, and how it is read. The error says which flag is wrong.
-func (a *archiveFlags) log(address string) (of archive.Log, options archive.Options, err error) {
+func (a *archiveFlags) log(address string) (of logarchive.Log, options logarchive.Options, err error) {
 	if a.key == "" || a.folder == "" {
 		return of, options, errors.New("archive needs --key and --folder")
 	}
@@ -82,7 +82,7 @@ func (a *archiveFlags) log(address string) (of archive.Log, options archive.Opti
 	if !found {
 		return of, options, fmt.Errorf("URL %q is no address (write https://HOST/PATH)", address)
 	}
-	of = archive.Log{URL: address, Origin: a.origin}
+	of = logarchive.Log{URL: address, Origin: a.origin}
 	if of.Origin == "" {
 		of.Origin = strings.TrimSuffix(host, "/")
 	}
@@ -107,7 +107,7 @@ func (a *archiveFlags) log(address string) (of archive.Log, options archive.Opti
 
 // openArchive opens an archive as a log that takes no submissions.
 func openArchive(ctx context.Context, n node) (*opened, error) {
-	of, err := archive.Open(ctx, n.archive)
+	of, err := logarchive.Open(ctx, n.archive)
 	if err != nil {
 		return nil, err
 	}
@@ -141,7 +141,7 @@ func (s *settings) settleArchive() error {
 		s.notice = archiveNotice
 	}
 	var err error
-	n.origin, err = archive.OriginOf(n.archive)
+	n.origin, err = logarchive.OriginOf(n.archive)
 	return err
 }
 
@@ -157,7 +157,7 @@ func (s *settings) loadRoots() (*chains.Roots, error) {
 func checkArchive(n node) (string, error) {
 	ctx, cancel := context.WithTimeout(context.Background(), n.openWithin)
 	defer cancel()
-	of, err := archive.Open(ctx, n.archive)
+	of, err := logarchive.Open(ctx, n.archive)
 	if err != nil {
 		return "", err
 	}

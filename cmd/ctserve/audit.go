@@ -18,8 +18,8 @@ import (
 	"time"
 
 	"wagtenib/internal/chains"
+	"wagtenib/internal/compliance"
 	"wagtenib/internal/logclient"
-	"wagtenib/internal/probe"
 	"wagtenib/internal/settingsfile"
 	"wagtenib/internal/version"
 )
@@ -39,7 +39,7 @@ type auditFlags struct {
 	issuer, issuerKey, chains                         string
 	availability                                      float64
 	latency                                           time.Duration
-	schedule                                          probe.Schedule
+	schedule                                          compliance.Schedule
 }
 
 func (a *auditFlags) add(to *flag.FlagSet) {
@@ -81,12 +81,12 @@ func runAudit(words []string, answers, faults io.Writer) error {
 	if err != nil {
 		return fmt.Errorf("%w: %v", errUsage, err)
 	}
-	options.Notify = func(check string, fault probe.Fault) {
+	options.Notify = func(check string, fault compliance.Fault) {
 		fmt.Fprintf(faults, "%s %s: %s\n", fault.Time.UTC().Format(time.RFC3339), check, fault.Text)
 	}
 	ctx, stop := signal.NotifyContext(context.Background(), syscall.SIGTERM, syscall.SIGINT)
 	defer stop()
-	report, err := probe.Run(ctx, options)
+	report, err := compliance.Run(ctx, options)
 	if err != nil {
 		return err
 	}
@@ -112,7 +112,7 @@ func addressLast(words []string) []string {
 func isPercentage(number float64) bool { return number >= 0 && number <= 100 }
 
 // write writes the report into its two files.
-func (a *auditFlags) write(report probe.Report) error {
+func (a *auditFlags) write(report compliance.Report) error {
 	if a.report == "" {
 		return nil
 	}
@@ -127,9 +127,9 @@ func (a *auditFlags) write(report probe.Report) error {
 }
 
 // options returns what the flags say. The error says which of them is wrong.
-func (a *auditFlags) options(address string) (options probe.Options, err error) {
-	options = probe.Options{SubmissionURL: address, MonitoringURL: a.monitoring, Schedule: a.schedule,
-		Bounds: probe.Bounds{Availability: a.availability / 100, Latency: a.latency}}
+func (a *auditFlags) options(address string) (options compliance.Options, err error) {
+	options = compliance.Options{SubmissionURL: address, MonitoringURL: a.monitoring, Schedule: a.schedule,
+		Bounds: compliance.Bounds{Availability: a.availability / 100, Latency: a.latency}}
 	options.Schedule.Slow = time.Minute
 	if err := a.check(address); err != nil {
 		return options, err
@@ -172,7 +172,7 @@ func (a *auditFlags) check(address string) error {
 }
 
 // expects reads what a log list says of the log.
-func (a *auditFlags) expects(address string, options *probe.Options) error {
+func (a *auditFlags) expects(address string, options *compliance.Options) error {
 	if a.listEntry == "" {
 		return nil
 	}
@@ -180,7 +180,7 @@ func (a *auditFlags) expects(address string, options *probe.Options) error {
 	if err != nil {
 		return fmt.Errorf("--list-entry: %w", err)
 	}
-	expected, err := probe.ReadExpected(content)
+	expected, err := compliance.ReadExpected(content)
 	if err != nil {
 		return fmt.Errorf("--list-entry %s: %w", a.listEntry, err)
 	}
@@ -192,12 +192,12 @@ func (a *auditFlags) expects(address string, options *probe.Options) error {
 }
 
 // submitter returns what makes the chains.
-func (a *auditFlags) submitter() (probe.Submitter, error) {
+func (a *auditFlags) submitter() (compliance.Submitter, error) {
 	switch hasIssuer := a.issuer != "" || a.issuerKey != ""; {
 	case a.chains != "" && hasIssuer:
 		return nil, errors.New("--chains and --issuer are two kinds of chains (give one of them)")
 	case a.chains != "":
-		return asSubmitter(probe.NewFolder(a.chains))
+		return asSubmitter(compliance.NewFolder(a.chains))
 	case !hasIssuer:
 		return nil, errors.New("there is nothing to submit (give --issuer and --issuer-key, or --chains)")
 	case a.issuer == "" || a.issuerKey == "":
@@ -211,11 +211,11 @@ func (a *auditFlags) submitter() (probe.Submitter, error) {
 	if err != nil {
 		return nil, fmt.Errorf("--issuer-key: %w", err)
 	}
-	return asSubmitter(probe.NewAuthority(certificates, key))
+	return asSubmitter(compliance.NewAuthority(certificates, key))
 }
 
 // asSubmitter returns no submitter, and not one that is nil, if there is an error.
-func asSubmitter[S probe.Submitter](of S, err error) (probe.Submitter, error) {
+func asSubmitter[S compliance.Submitter](of S, err error) (compliance.Submitter, error) {
 	if err != nil {
 		return nil, err
 	}

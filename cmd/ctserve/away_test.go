@@ -9,7 +9,7 @@ import (
 	"testing"
 	"time"
 
-	"wagtenib/internal/check"
+	"wagtenib/internal/logcheck"
 	"wagtenib/internal/testutil"
 )
 
@@ -70,7 +70,7 @@ func TestReadsGoOn(t *testing.T) {
 			}
 			words := at.realWords(more...)
 			p := started(t, "", append(words, "--create")...)
-			var answers []check.Answer
+			var answers []logcheck.Answer
 			for until := time.Now().Add(testutil.Longest); len(answers) < 5; {
 				status, text, one := at.submitted(t, p)
 				if status == 200 {

@@ -27,7 +27,7 @@ import (
 
 	"golang.org/x/mod/sumdb/tlog"
 
-	"wagtenib/internal/check"
+	"wagtenib/internal/logcheck"
 	"wagtenib/internal/signer"
 	"wagtenib/internal/testbucket"
 	"wagtenib/internal/testutil"
@@ -431,7 +431,7 @@ func TestPublicFolder(t *testing.T) {
 	defer files.Close()
 	reader := &bucketReader{key: at.publicKey(), get: overHTTP(files.URL)}
 	words := at.words("--create", "--public-store", "--guard-state", "file:"+at.path("guard"))
-	var answers []check.Answer
+	var answers []logcheck.Answer
 	for range 4 {
 		p := started(t, "", words...)
 		for range 2 {
@@ -450,7 +450,7 @@ func TestPublicFolder(t *testing.T) {
 	of, err := signer.OpenKey(at.path("log.pem"))
 	testutil.Must(t, err)
 	defer of.Close()
-	report, err := check.Folder(at.path("log/objects"), of.Key(), answers)
+	report, err := logcheck.Folder(at.path("log/objects"), of.Key(), answers)
 	if err != nil || report.Leaves < len(answers) {
 		t.Errorf("%+v, %v", report, err)
 	}

@@ -13,8 +13,8 @@ import (
 	"testing"
 	"time"
 
-	"wagtenib/internal/check"
 	"wagtenib/internal/httpserver/standin"
+	"wagtenib/internal/logcheck"
 	"wagtenib/internal/signer"
 	"wagtenib/internal/testutil"
 )
@@ -57,7 +57,7 @@ func TestFullDisk(t *testing.T) {
 	words := at.realWords("--signing-key", at.path("log.pem"), "--guard-state", "file:"+at.path("log/guard"),
 		"--latest-head", at.path("log/latest-head"))
 	p := started(t, "", append(words, "--create")...)
-	var answers []check.Answer
+	var answers []logcheck.Answer
 	submit := func() (int, string) {
 		t.Helper()
 		status, text, one := at.submitted(t, p)
@@ -129,7 +129,7 @@ func TestFullDisk(t *testing.T) {
 	if err != nil {
 		t.Fatal(err)
 	}
-	report, err := check.Folder(filepath.Join(disk, "objects"), key.Key(), answers)
+	report, err := logcheck.Folder(filepath.Join(disk, "objects"), key.Key(), answers)
 	if err != nil || report.Answers < 8 || report.Repeats != 0 {
 		t.Errorf("%+v, %v", report, err)
 	}
@@ -171,7 +171,7 @@ func (at place) mount(t *testing.T) (disk string) {
 }
 
 // submitted submits a new certificate, and gives what was answered.
-func (at place) submitted(t *testing.T, p *program) (status int, text string, one check.Answer) {
+func (at place) submitted(t *testing.T, p *program) (status int, text string, one logcheck.Answer) {
 	t.Helper()
 	der, err := at.authority.Issue(false, time.Date(2027, 1, 1, 0, 0, 0, 0, time.UTC))
 	if err != nil {
@@ -189,13 +189,13 @@ func (at place) submitted(t *testing.T, p *program) (status int, text string, on
 	if err := json.Unmarshal([]byte(text), &read); err != nil {
 		t.Fatal(err)
 	}
-	return status, text, check.Answer{Certificate: der, LogID: read.ID, Timestamp: read.Timestamp,
+	return status, text, logcheck.Answer{Certificate: der, LogID: read.ID, Timestamp: read.Timestamp,
 		Extensions: read.Extensions, Signature: read.Signature}
 }
 
 // readsAll sees that all that readers ask is answered, by a head that has what was answered, and that the process
 // lives.
-func readsAll(t *testing.T, p *program, when string, answers []check.Answer) {
+func readsAll(t *testing.T, p *program, when string, answers []logcheck.Answer) {
 	t.Helper()
 	var head struct {
 		Size uint64 `json:"tree_size"`
@@ -217,7 +217,7 @@ func readsAll(t *testing.T, p *program, when string, answers []check.Answer) {
 }
 
 // leafOf is an answer's MerkleTreeLeaf, of a certificate (RFC 6962, section 3.4).
-func leafOf(a check.Answer) []byte {
+func leafOf(a logcheck.Answer) []byte {
 	leaf := append([]byte{0, 0}, make([]byte, 8)...)
 	for i := range leaf[2:] {
 		leaf[2+i] = byte(a.Timestamp >> (56 - 8*i))

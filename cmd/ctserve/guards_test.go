@@ -12,8 +12,8 @@ import (
 	"testing"
 	"time"
 
-	"wagtenib/internal/check"
 	"wagtenib/internal/httpserver/standin"
+	"wagtenib/internal/logcheck"
 	"wagtenib/internal/signer"
 	"wagtenib/internal/testutil"
 )
@@ -289,7 +289,7 @@ func TestSignerAtASocket(t *testing.T) {
 		t.Fatal(err)
 	}
 	// (what was refused without a signer, with another's, and until it was found again, may have come in all the same)
-	if report, err := check.Folder(at.path("log/objects"), opened.Key(), nil); err != nil || report.Leaves < 23 ||
+	if report, err := logcheck.Folder(at.path("log/objects"), opened.Key(), nil); err != nil || report.Leaves < 23 ||
 		report.Leaves > 25+refused || report.Repeats != 0 {
 		t.Errorf("%+v, %v", report, err)
 	}

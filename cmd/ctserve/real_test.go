@@ -12,11 +12,11 @@ import (
 	"testing"
 	"time"
 
-	"wagtenib/internal/check"
 	"wagtenib/internal/httpserver"
 	"wagtenib/internal/httpserver/standin"
-	"wagtenib/internal/softhsm"
+	"wagtenib/internal/logcheck"
 	"wagtenib/internal/testutil"
+	"wagtenib/internal/testutil/softhsm"
 )
 
 // realWords are those of a log on a folder.
@@ -160,7 +160,7 @@ func TestKeyInAToken(t *testing.T) {
 	if block == nil {
 		t.Fatalf("no key: %s", said)
 	}
-	var answers []check.Answer
+	var answers []logcheck.Answer
 	for i, create := range []string{"true", "false"} {
 		p := started(t, "", append(words, "--create="+create)...)
 		der, err := at.authority.Issue(false, time.Date(2027, 1, 1, 0, 0, 0, 0, time.UTC))
@@ -177,14 +177,14 @@ func TestKeyInAToken(t *testing.T) {
 		if err := json.Unmarshal([]byte(text), &read); err != nil || status != 200 {
 			t.Fatalf("start %d: %d %s", i, status, text)
 		}
-		answers = append(answers, check.Answer{Certificate: der, LogID: read.ID, Timestamp: read.Timestamp,
+		answers = append(answers, logcheck.Answer{Certificate: der, LogID: read.ID, Timestamp: read.Timestamp,
 			Extensions: read.Extensions, Signature: read.Signature})
 		p.signal(syscall.SIGTERM)
 		if status := p.ends(); status != 0 {
 			t.Fatalf("it ended with status %d", status)
 		}
 	}
-	if report, err := check.Folder(filepath.Join(at.path("log"), "objects"), block.Bytes, answers); err != nil ||
+	if report, err := logcheck.Folder(filepath.Join(at.path("log"), "objects"), block.Bytes, answers); err != nil ||
 		report.Leaves != 2 {
 		t.Errorf("%+v, %v", report, err)
 	}

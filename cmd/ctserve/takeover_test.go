@@ -8,7 +8,7 @@ import (
 	"testing"
 	"time"
 
-	"wagtenib/internal/check"
+	"wagtenib/internal/logcheck"
 	"wagtenib/internal/logservice"
 	"wagtenib/internal/signer"
 )
@@ -89,7 +89,7 @@ func (p *place) goesOn(words []string) {
 		p.t.Fatal(err)
 	}
 	defer key.Close()
-	if report, err := check.Folder(p.path("log/objects"), key.Key(), nil); err != nil || report.Leaves != 4 ||
+	if report, err := logcheck.Folder(p.path("log/objects"), key.Key(), nil); err != nil || report.Leaves != 4 ||
 		report.Repeats != 0 {
 		p.t.Errorf("%+v, %v", report, err)
 	}

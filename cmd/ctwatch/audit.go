@@ -10,12 +10,12 @@ import (
 	"path/filepath"
 	"strings"
 
-	"wagtenib/internal/alert"
-	"wagtenib/internal/audit"
 	"wagtenib/internal/logclient"
-	"wagtenib/internal/loglist"
 	"wagtenib/internal/version"
 	"wagtenib/internal/watch"
+	"wagtenib/internal/watch/alert"
+	"wagtenib/internal/watch/audit"
+	"wagtenib/internal/watch/loglist"
 )
 
 var _ = addCommand("audit", "CERTIFICATE asks logs whether they keep the promises (SCTs) in a certificate", runAudit)

@@ -22,7 +22,7 @@ import (
 	"testing"
 	"time"
 
-	"wagtenib/internal/check"
+	"wagtenib/internal/logcheck"
 	"wagtenib/internal/testlog"
 )
 
@@ -94,7 +94,7 @@ func TestAudits(t *testing.T) {
 	if status != statusAccused || !strings.Contains(out, ": NEVER: the leaf is not among the 300") {
 		t.Errorf("without the entry: status %d: %s%s", status, out, faults)
 	}
-	if _, err := check.Evidence(filepath.Join(evidence, "1"), log.PublicKey()); err != nil {
+	if _, err := logcheck.Evidence(filepath.Join(evidence, "1"), log.PublicKey()); err != nil {
 		t.Error(err)
 	}
 	log.Add(entry)
@@ -165,7 +165,7 @@ func TestCompares(t *testing.T) {
 		!strings.Contains(out, "1 are not, and 1 are signed by no log") {
 		t.Errorf("status %d: %s", status, out)
 	}
-	if _, err := check.Evidence(filepath.Join(evidence, "1"), log.PublicKey()); err != nil {
+	if _, err := logcheck.Evidence(filepath.Join(evidence, "1"), log.PublicKey()); err != nil {
 		t.Error(err)
 	}
 }

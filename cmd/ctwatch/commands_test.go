@@ -18,12 +18,12 @@ import (
 	"golang.org/x/net/html"
 
 	"wagtenib/bindings/go/wagtenib"
-	"wagtenib/internal/alert"
-	"wagtenib/internal/finding"
 	"wagtenib/internal/testcert"
 	"wagtenib/internal/testutil"
 	"wagtenib/internal/watch"
-	"wagtenib/internal/watchstore"
+	"wagtenib/internal/watch/alert"
+	"wagtenib/internal/watch/finding"
+	"wagtenib/internal/watch/watchstore"
 )
 
 // TestMain runs the tests, or the program itself.

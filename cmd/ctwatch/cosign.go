@@ -9,11 +9,11 @@ import (
 	"net/http"
 	"time"
 
-	"wagtenib/internal/alert"
-	"wagtenib/internal/audit"
 	"wagtenib/internal/stores"
 	"wagtenib/internal/watch"
-	"wagtenib/internal/watchstore"
+	"wagtenib/internal/watch/alert"
+	"wagtenib/internal/watch/audit"
+	"wagtenib/internal/watch/watchstore"
 	"wagtenib/internal/witness"
 )
 

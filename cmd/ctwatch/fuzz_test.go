@@ -11,9 +11,9 @@ import (
 	"testing"
 	"time"
 
-	"wagtenib/internal/finding"
 	"wagtenib/internal/testcert"
 	"wagtenib/internal/watch"
+	"wagtenib/internal/watch/finding"
 )
 
 // FuzzSettings: a file of settings is refused as a usage fault, or it has names that can be written again, times within

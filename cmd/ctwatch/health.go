@@ -6,8 +6,8 @@ import (
 	"io"
 	"time"
 
-	"wagtenib/internal/alert"
-	"wagtenib/internal/watchstore"
+	"wagtenib/internal/watch/alert"
+	"wagtenib/internal/watch/watchstore"
 )
 
 var _ = addCommand("health", "prints a line on how it goes, and ends with a status for cron", runHealth)

@@ -18,10 +18,10 @@ import (
 
 	"golang.org/x/net/html"
 
-	"wagtenib/internal/alert"
 	"wagtenib/internal/testcert"
 	"wagtenib/internal/testutil"
-	"wagtenib/internal/watchstore"
+	"wagtenib/internal/watch/alert"
+	"wagtenib/internal/watch/watchstore"
 )
 
 // hostileTexts are names that a CA might certify, or a log list might give a log. Each would do something on a

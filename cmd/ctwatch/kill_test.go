@@ -13,10 +13,10 @@ import (
 	"testing"
 	"time"
 
-	"wagtenib/internal/alert"
-	"wagtenib/internal/check"
+	"wagtenib/internal/logcheck"
 	"wagtenib/internal/testcert"
 	"wagtenib/internal/testutil"
+	"wagtenib/internal/watch/alert"
 )
 
 // A long run is: go test ./cmd/ctwatch -run Killed -v -args -kills 200
@@ -98,7 +98,7 @@ func judgeFork(t *testing.T, folder string, key []byte) {
 	if status != 0 || !strings.Contains(out, "fork") {
 		t.Fatalf("the evidence: status %d: %s%s", status, out, faults)
 	}
-	if shown, err := check.Evidence(evidence, key); err != nil || !strings.Contains(shown, "two roots") {
+	if shown, err := logcheck.Evidence(evidence, key); err != nil || !strings.Contains(shown, "two roots") {
 		t.Errorf("the judge says %q, %v", shown, err)
 	}
 }

@@ -13,13 +13,13 @@ import (
 	"sync"
 	"time"
 
-	"wagtenib/internal/alert"
 	"wagtenib/internal/httpserver"
 	"wagtenib/internal/logclient"
-	"wagtenib/internal/loglist"
 	"wagtenib/internal/version"
 	"wagtenib/internal/watch"
-	"wagtenib/internal/watchstore"
+	"wagtenib/internal/watch/alert"
+	"wagtenib/internal/watch/loglist"
+	"wagtenib/internal/watch/watchstore"
 )
 
 // The bounds of what settings name.

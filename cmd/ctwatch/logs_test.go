@@ -5,8 +5,8 @@ import (
 	"testing"
 	"time"
 
-	"wagtenib/internal/loglist"
 	"wagtenib/internal/watch"
+	"wagtenib/internal/watch/loglist"
 )
 
 // TestListSilence: a list that cannot be read for a day causes an alert, another one a day later, and none after it was

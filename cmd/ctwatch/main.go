@@ -19,7 +19,7 @@ import (
 
 	"wagtenib/internal/settingsfile"
 	"wagtenib/internal/version"
-	"wagtenib/internal/watchstore"
+	"wagtenib/internal/watch/watchstore"
 )
 
 // The statuses with which ctwatch ends.

@@ -11,10 +11,10 @@ import (
 	"testing"
 	"time"
 
-	"wagtenib/internal/alert"
 	"wagtenib/internal/testcert"
 	"wagtenib/internal/testlog"
 	"wagtenib/internal/testutil"
+	"wagtenib/internal/watch/alert"
 )
 
 // A long run is: go test ./cmd/ctwatch -run ManyFindings -v -args -told 30000

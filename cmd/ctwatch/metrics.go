@@ -5,9 +5,9 @@ import (
 
 	"github.com/prometheus/client_golang/prometheus"
 
-	"wagtenib/internal/alert"
 	"wagtenib/internal/version"
-	"wagtenib/internal/watchstore"
+	"wagtenib/internal/watch/alert"
+	"wagtenib/internal/watch/watchstore"
 )
 
 // collector gives Prometheus what the store knows.

@@ -5,8 +5,8 @@ import (
 	"path/filepath"
 
 	"wagtenib/internal/logclient"
-	"wagtenib/internal/mirror"
 	"wagtenib/internal/watch"
+	"wagtenib/internal/watch/mirror"
 )
 
 // mirrors returns what keeps a copy of each tiled log below a folder, or nil if the folder is empty. The folder of a

@@ -5,7 +5,7 @@ import (
 	"fmt"
 	"io"
 
-	"wagtenib/internal/finding"
+	"wagtenib/internal/watch/finding"
 )
 
 var _ = addCommand("names", "FILE checks a watch list, and prints what it covers", runNames)

@@ -6,9 +6,9 @@ import (
 	"io"
 	"strings"
 
-	"wagtenib/internal/alert"
 	"wagtenib/internal/logclient"
 	"wagtenib/internal/version"
+	"wagtenib/internal/watch/alert"
 )
 
 // outputSettings say where alerts go.

@@ -15,10 +15,10 @@ import (
 	"github.com/prometheus/client_golang/prometheus"
 	"github.com/prometheus/client_golang/prometheus/promhttp"
 
-	"wagtenib/internal/alert"
-	"wagtenib/internal/finding"
 	"wagtenib/internal/httpserver"
-	"wagtenib/internal/watchstore"
+	"wagtenib/internal/watch/alert"
+	"wagtenib/internal/watch/finding"
+	"wagtenib/internal/watch/watchstore"
 )
 
 //go:embed page.html

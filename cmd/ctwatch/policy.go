@@ -5,8 +5,8 @@ import (
 	"fmt"
 	"os"
 
-	"wagtenib/internal/audit"
 	"wagtenib/internal/watch"
+	"wagtenib/internal/watch/audit"
 )
 
 // policyFlags are the flags of a policy of witnesses.

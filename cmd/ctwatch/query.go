@@ -13,9 +13,9 @@ import (
 	"strings"
 	"time"
 
-	"wagtenib/internal/alert"
-	"wagtenib/internal/finding"
-	"wagtenib/internal/watchstore"
+	"wagtenib/internal/watch/alert"
+	"wagtenib/internal/watch/finding"
+	"wagtenib/internal/watch/watchstore"
 )
 
 var (

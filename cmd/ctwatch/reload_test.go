@@ -10,9 +10,9 @@ import (
 	"syscall"
 	"testing"
 
-	"wagtenib/internal/alert"
 	"wagtenib/internal/testcert"
 	"wagtenib/internal/testutil"
+	"wagtenib/internal/watch/alert"
 )
 
 // TestReadsSettingsAgain: after a SIGHUP, ctwatch goes on with the settings that the file then has. If they are

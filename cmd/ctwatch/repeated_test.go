@@ -9,9 +9,9 @@ import (
 	"strings"
 	"testing"
 
-	"wagtenib/internal/alert"
 	"wagtenib/internal/testcert"
-	"wagtenib/internal/watchstore"
+	"wagtenib/internal/watch/alert"
+	"wagtenib/internal/watch/watchstore"
 )
 
 // TestShowsRepeatedNamesOnce: the common name of a certificate repeats a name of its subjectAltName. Each output, the

@@ -15,11 +15,11 @@ import (
 
 	"github.com/coreos/go-systemd/v22/daemon"
 
-	"wagtenib/internal/alert"
-	"wagtenib/internal/finding"
 	"wagtenib/internal/httpserver"
 	"wagtenib/internal/watch"
-	"wagtenib/internal/watchstore"
+	"wagtenib/internal/watch/alert"
+	"wagtenib/internal/watch/finding"
+	"wagtenib/internal/watch/watchstore"
 )
 
 var _ = addCommand("run", "follows logs, and alerts to certificates for the watched names", runWatch)

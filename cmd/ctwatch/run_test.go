@@ -14,9 +14,9 @@ import (
 	"testing"
 	"time"
 
-	"wagtenib/internal/alert"
 	"wagtenib/internal/testcert"
 	"wagtenib/internal/testlog"
+	"wagtenib/internal/watch/alert"
 )
 
 // served is a log of a test, which answers by both interfaces.

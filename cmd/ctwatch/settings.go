@@ -11,10 +11,10 @@ import (
 	"strings"
 	"time"
 
-	"wagtenib/internal/finding"
 	"wagtenib/internal/settingsfile"
 	"wagtenib/internal/watch"
-	"wagtenib/internal/watchstore"
+	"wagtenib/internal/watch/finding"
+	"wagtenib/internal/watch/watchstore"
 )
 
 // fileRules are those of the file of settings.

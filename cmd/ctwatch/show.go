@@ -18,9 +18,9 @@ import (
 	"golang.org/x/crypto/cryptobyte/asn1"
 
 	"wagtenib/bindings/go/wagtenib"
-	"wagtenib/internal/alert"
-	"wagtenib/internal/finding"
 	"wagtenib/internal/watch"
+	"wagtenib/internal/watch/alert"
+	"wagtenib/internal/watch/finding"
 )
 
 var _ = addCommand("show", "LOG INDEX prints an entry of a log, and checks that the log's tree has it", runShow)

@@ -6,9 +6,9 @@ import (
 	"sync/atomic"
 	"time"
 
-	"wagtenib/internal/decider"
 	"wagtenib/internal/logapi"
 	"wagtenib/internal/node"
+	"wagtenib/internal/node/decider"
 )
 
 // counts counts what the node does, for metrics: a node.Observer.

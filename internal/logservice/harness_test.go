@@ -19,8 +19,8 @@ import (
 	"time"
 
 	"wagtenib/internal/chains"
-	"wagtenib/internal/check"
 	"wagtenib/internal/logapi"
+	"wagtenib/internal/logcheck"
 	"wagtenib/internal/logservice"
 	"wagtenib/internal/signer"
 	"wagtenib/internal/stores"
@@ -148,13 +148,13 @@ func entryOf(i int) logapi.Entry {
 // answers are what clients got.
 type answers struct {
 	mu  sync.Mutex
-	all []check.Answer
+	all []logcheck.Answer
 }
 
 func (a *answers) add(entry logapi.Entry, place logapi.Place) {
 	a.mu.Lock()
 	defer a.mu.Unlock()
-	one := check.Answer{Certificate: entry.Certificate, Timestamp: place.Timestamp, Extensions: place.Extensions,
+	one := logcheck.Answer{Certificate: entry.Certificate, Timestamp: place.Timestamp, Extensions: place.Extensions,
 		Signature: place.Signature, LogID: place.LogID[:]}
 	if entry.Type == chains.PrecertEntry {
 		one.IssuerKeyHash, one.TBSCertificate = entry.IssuerKeyHash[:], entry.TBSCertificate
@@ -191,7 +191,7 @@ func (a *answers) submit(t testing.TB, l logapi.Log, from, to int) {
 func (p *place) right(a *answers) int {
 	p.t.Helper()
 	for {
-		report, err := check.Folder(p.path("objects"), p.key.Key(), a.all)
+		report, err := logcheck.Folder(p.path("objects"), p.key.Key(), a.all)
 		if errors.Is(err, fs.ErrNotExist) || errors.Is(err, stores.ErrAbsent) {
 			// The janitor deleted something meanwhile.
 			continue

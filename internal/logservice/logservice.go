@@ -13,12 +13,12 @@ import (
 
 	"golang.org/x/sync/errgroup"
 
-	"wagtenib/internal/decider"
-	"wagtenib/internal/janitor"
 	"wagtenib/internal/logapi"
 	"wagtenib/internal/node"
+	"wagtenib/internal/node/decider"
+	"wagtenib/internal/node/janitor"
+	"wagtenib/internal/node/step"
 	"wagtenib/internal/signer"
-	"wagtenib/internal/step"
 	"wagtenib/internal/stores"
 	"wagtenib/internal/tile"
 	"wagtenib/internal/witness"

@@ -11,7 +11,7 @@ import (
 	"wagtenib/internal/chains"
 	"wagtenib/internal/httpserver"
 	"wagtenib/internal/node"
-	"wagtenib/internal/step"
+	"wagtenib/internal/node/step"
 	"wagtenib/internal/stores"
 	"wagtenib/internal/testutil"
 	"wagtenib/internal/tile"

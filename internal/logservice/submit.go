@@ -9,7 +9,7 @@ import (
 	"wagtenib/internal/chains"
 	"wagtenib/internal/logapi"
 	"wagtenib/internal/node"
-	"wagtenib/internal/step"
+	"wagtenib/internal/node/step"
 	"wagtenib/internal/tile"
 )
 

@@ -10,8 +10,8 @@ import (
 
 	"golang.org/x/mod/sumdb/note"
 
+	"wagtenib/internal/node/step"
 	"wagtenib/internal/signer"
-	"wagtenib/internal/step"
 	"wagtenib/internal/stores"
 	"wagtenib/internal/witness"
 )

@@ -6,9 +6,9 @@ import (
 	"fmt"
 	"time"
 
-	"wagtenib/internal/decider"
+	"wagtenib/internal/node/decider"
+	"wagtenib/internal/node/step"
 	"wagtenib/internal/signer"
-	"wagtenib/internal/step"
 	"wagtenib/internal/stores"
 )
 

@@ -8,9 +8,9 @@ import (
 	"time"
 
 	"wagtenib/internal/chains"
-	"wagtenib/internal/decider"
+	"wagtenib/internal/node/decider"
+	"wagtenib/internal/node/step"
 	"wagtenib/internal/signer"
-	"wagtenib/internal/step"
 	"wagtenib/internal/stores"
 	"wagtenib/internal/tile"
 )

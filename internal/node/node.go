@@ -10,9 +10,9 @@ import (
 
 	"golang.org/x/mod/sumdb/note"
 
-	"wagtenib/internal/decider"
+	"wagtenib/internal/node/decider"
+	"wagtenib/internal/node/step"
 	"wagtenib/internal/signer"
-	"wagtenib/internal/step"
 	"wagtenib/internal/stores"
 	"wagtenib/internal/tile"
 	"wagtenib/internal/witness"

@@ -8,8 +8,8 @@ import (
 
 	"golang.org/x/mod/sumdb/tlog"
 
-	"wagtenib/internal/decider"
-	"wagtenib/internal/step"
+	"wagtenib/internal/node/decider"
+	"wagtenib/internal/node/step"
 	"wagtenib/internal/stores"
 	"wagtenib/internal/tile"
 )

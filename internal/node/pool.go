@@ -5,7 +5,7 @@ import (
 	"fmt"
 	"sync"
 
-	"wagtenib/internal/step"
+	"wagtenib/internal/node/step"
 	"wagtenib/internal/stores"
 )
 

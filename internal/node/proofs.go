@@ -8,8 +8,8 @@ import (
 
 	"golang.org/x/mod/sumdb/tlog"
 
+	"wagtenib/internal/node/step"
 	"wagtenib/internal/signer"
-	"wagtenib/internal/step"
 	"wagtenib/internal/stores"
 	"wagtenib/internal/tile"
 )

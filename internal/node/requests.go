@@ -5,7 +5,7 @@ import (
 	"errors"
 	"fmt"
 
-	"wagtenib/internal/step"
+	"wagtenib/internal/node/step"
 	"wagtenib/internal/stores"
 	"wagtenib/internal/tile"
 )

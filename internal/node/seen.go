@@ -7,8 +7,8 @@ import (
 	"time"
 
 	"wagtenib/bindings/go/wagtenib"
+	"wagtenib/internal/node/step"
 	"wagtenib/internal/signer"
-	"wagtenib/internal/step"
 	"wagtenib/internal/stores"
 )
 

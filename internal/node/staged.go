@@ -6,8 +6,8 @@ import (
 	"errors"
 	"fmt"
 
-	"wagtenib/internal/decider"
-	"wagtenib/internal/step"
+	"wagtenib/internal/node/decider"
+	"wagtenib/internal/node/step"
 	"wagtenib/internal/stores"
 )
 

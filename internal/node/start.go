@@ -5,7 +5,7 @@ import (
 	"errors"
 	"fmt"
 
-	"wagtenib/internal/decider"
+	"wagtenib/internal/node/decider"
 	"wagtenib/internal/signer"
 	"wagtenib/internal/stores"
 	"wagtenib/internal/tile"

@@ -6,7 +6,7 @@ import (
 	"fmt"
 	"time"
 
-	"wagtenib/internal/decider"
+	"wagtenib/internal/node/decider"
 	"wagtenib/internal/stores"
 )
 

@@ -13,7 +13,7 @@ import (
 
 	"golang.org/x/mod/sumdb/note"
 
-	"wagtenib/internal/step"
+	"wagtenib/internal/node/step"
 	"wagtenib/internal/witness"
 )
 

@@ -9,7 +9,7 @@ import (
 	"strings"
 	"testing"
 
-	"wagtenib/internal/softhsm"
+	"wagtenib/internal/testutil/softhsm"
 )
 
 // TestToken: a key in a token makes signatures that openssl accepts. A key that does not exist is an error.

@@ -7,7 +7,7 @@ import (
 	"time"
 
 	"wagtenib/internal/node"
-	"wagtenib/internal/step"
+	"wagtenib/internal/node/step"
 )
 
 // certificateOf returns the certificate of a number. Nobody here reads it, so any bytes serve.

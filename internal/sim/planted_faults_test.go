@@ -125,50 +125,50 @@ var all = []planted{
 		{"witnesses.go", "			l.witnessed[which] = old\n", ""},
 	}},
 	{"a partial tile goes at once", []edit{
-		{"janitor/pass.go", "newest.Head, now, keep.Tiles)", "newest.Head, now, 0)"},
+		{"node/janitor/pass.go", "newest.Head, now, keep.Tiles)", "newest.Head, now, 0)"},
 	}},
 	{"the partial tiles of the newest head's full ones go", []edit{
-		{"janitor/pass.go",
+		{"node/janitor/pass.go",
 			"		for full := tile.Count(at-1, j.tiles.head.Size); left",
 			"		for full := tile.Count(at-1, newest.Head.Size); left",
 		},
 	}},
 	{"a full tile is not compared", []edit{
-		{"janitor/pass.go",
+		{"node/janitor/pass.go",
 			"	if err := j.whole(ctx, full, newest); err != nil {",
 			"	if err := error(nil); err != nil {",
 		},
 	}},
 	{"an old head goes at once", []edit{
-		{"janitor/pass.go", "newest.Head, now, keep.Heads)", "newest.Head, now, 0)"},
+		{"node/janitor/pass.go", "newest.Head, now, keep.Heads)", "newest.Head, now, 0)"},
 	}},
 	{"heads are thinned at once", []edit{
-		{"janitor/pass.go", "newest.Head, now, keep.Thin)", "newest.Head, now, 0)"},
+		{"node/janitor/pass.go", "newest.Head, now, keep.Thin)", "newest.Head, now, 0)"},
 	}},
 	{"all but the newest heads are thinned", []edit{
-		{"janitor/heads.go", "one/apart == two/apart", "one < two"},
+		{"node/janitor/heads.go", "one/apart == two/apart", "one < two"},
 	}},
 	{"the decider is not asked for a staged batch", []edit{
-		{"janitor/pass.go",
+		{"node/janitor/pass.go",
 			"		if next.Do != decider.Delete || next.Bundle != name {",
 			"		if next == nil {",
 		},
 	}},
 	{"no partial tile is deleted", []edit{
-		{"janitor/pass.go", "	if err != nil || len(partials) == 0 {", "	if true {"},
+		{"node/janitor/pass.go", "	if err != nil || len(partials) == 0 {", "	if true {"},
 	}},
 	{"no head is deleted", []edit{
-		{"janitor/heads.go", "		if name >= old && !(isThin", "		if name >= old || !(isThin"},
-		{"janitor/heads.go", "j.stays(first)", "name == first"},
+		{"node/janitor/heads.go", "		if name >= old && !(isThin", "		if name >= old || !(isThin"},
+		{"node/janitor/heads.go", "j.stays(first)", "name == first"},
 	}},
 	{"heads are thinned long after the newest one was looked for", []edit{
-		{"janitor/heads.go", "{ return j.config.Keep.Heads - j.config.Keep.Call }", "{ return time.Hour }"},
+		{"node/janitor/heads.go", "{ return j.config.Keep.Heads - j.config.Keep.Call }", "{ return time.Hour }"},
 	}},
 	{"heads are thinned by what the node knows", []edit{
-		{"janitor/heads.go", "	later, err := j.list(ctx, headsPrefix, newest)", "	later, err := []string{}, error(nil)"},
+		{"node/janitor/heads.go", "	later, err := j.list(ctx, headsPrefix, newest)", "	later, err := []string{}, error(nil)"},
 	}},
 	{"no staged batch is listed", []edit{
-		{"janitor/pass.go", "	if newest.Stepping == nil || now < j.staged.due {", "	if true {"},
+		{"node/janitor/pass.go", "	if newest.Stepping == nil || now < j.staged.due {", "	if true {"},
 	}},
 	{"a deleted partial tile is damage", []edit{
 		{"proofs.go",

@@ -81,7 +81,7 @@ func (c *copies) plant(t *testing.T, at int, p planted) {
 	t.Helper()
 	name := fmt.Sprintf("p%02d", at)
 	edits := p.edits
-	for _, of := range []string{"node", "janitor", "sim"} {
+	for _, of := range []string{"node", "node/janitor", "sim"} {
 		sources, err := filepath.Glob(filepath.Join("..", of, "*.go"))
 		if err != nil {
 			t.Fatal(err)
@@ -104,7 +104,7 @@ func (c *copies) plant(t *testing.T, at int, p planted) {
 				}
 				text = strings.Replace(text, e.old, e.new, 1)
 			}
-			for _, copied := range []string{"node", "janitor"} {
+			for _, copied := range []string{"node", "node/janitor"} {
 				text = strings.ReplaceAll(text, fmt.Sprintf("%q", "wagtenib/internal/"+copied),
 					fmt.Sprintf("%q", "wagtenib/internal/planted/"+name+"/"+copied))
 			}
@@ -139,7 +139,7 @@ func (c *copies) finish(t *testing.T) string {
 	t.Helper()
 	c.write(t, "planted_test.go", "package planted\n\nimport (\n\t\"os\"\n\t\"strconv\"\n\t\"testing\"\n\n"+
 		c.imports.String()+
-		"\n\t\"wagtenib/internal/sim\"\n\t\"wagtenib/internal/decider\"\n\t\"wagtenib/internal/step\"\n)\n"+runner+
+		"\n\t\"wagtenib/internal/sim\"\n\t\"wagtenib/internal/node/decider\"\n\t\"wagtenib/internal/node/step\"\n)\n"+runner+
 		"\nfunc TestAll(t *testing.T) {\n"+c.cases.String()+"}\n")
 	c.write(t, "planted.go", "package planted\n")
 	overlay, err := json.Marshal(map[string]any{"Replace": c.replaced})

@@ -10,10 +10,10 @@ import (
 	"testing"
 	"time"
 
-	"wagtenib/internal/decider"
 	"wagtenib/internal/node"
+	"wagtenib/internal/node/decider"
+	"wagtenib/internal/node/step"
 	"wagtenib/internal/sim"
-	"wagtenib/internal/step"
 )
 
 // proved are the proved decisions.

@@ -7,7 +7,7 @@ import (
 	"strings"
 	"time"
 
-	"wagtenib/internal/janitor"
+	"wagtenib/internal/node/janitor"
 )
 
 // keep is for how long what is not needed any more stays in a history with janitors.

@@ -10,8 +10,8 @@ import (
 	"strings"
 	"time"
 
-	"wagtenib/internal/janitor"
 	"wagtenib/internal/node"
+	"wagtenib/internal/node/janitor"
 	"wagtenib/internal/signer"
 	"wagtenib/internal/stores"
 )

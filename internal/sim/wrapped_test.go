@@ -5,10 +5,10 @@ import (
 	"testing"
 	"time"
 
-	"wagtenib/internal/decider"
 	"wagtenib/internal/node"
+	"wagtenib/internal/node/decider"
+	"wagtenib/internal/node/step"
 	"wagtenib/internal/sim"
-	"wagtenib/internal/step"
 )
 
 // wrapped is the proved decider, and changes what it says.

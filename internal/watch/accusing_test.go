@@ -14,7 +14,7 @@ import (
 	"testing"
 	"time"
 
-	"wagtenib/internal/check"
+	"wagtenib/internal/logcheck"
 	"wagtenib/internal/logclient"
 	"wagtenib/internal/testlog"
 	"wagtenib/internal/watch"
@@ -42,7 +42,7 @@ func wantsShown(t *testing.T, k *keeper, log watch.Log) {
 	t.Helper()
 	for _, evidence := range k.accused[log.ID] {
 		folder := writeEvidence(t, evidence)
-		shown, err := check.Evidence(folder, log.PublicKey)
+		shown, err := logcheck.Evidence(folder, log.PublicKey)
 		if err != nil || shown == "" {
 			t.Errorf("%s: the judge says %q, %v", evidence.Verdict, shown, err)
 		}
@@ -59,7 +59,7 @@ func wantsShown(t *testing.T, k *keeper, log watch.Log) {
 		if bytes.Equal(changed, content) || os.WriteFile(head, changed, 0o600) != nil {
 			t.Fatal("the head cannot be changed")
 		}
-		if _, err := check.Evidence(folder, log.PublicKey); !errors.Is(err, check.ErrEvidence) {
+		if _, err := logcheck.Evidence(folder, log.PublicKey); !errors.Is(err, logcheck.ErrEvidence) {
 			t.Errorf("%s: the judge takes a changed head: %v", evidence.Verdict, err)
 		}
 	}
@@ -84,7 +84,7 @@ func showsNoOther(t *testing.T, folder string, evidence watch.Evidence, key []by
 		if bytes.Equal(changed, own) || os.WriteFile(about, changed, 0o600) != nil {
 			t.Fatal("the verdict cannot be changed")
 		}
-		if shown, err := check.Evidence(folder, key); !errors.Is(err, check.ErrEvidence) {
+		if shown, err := logcheck.Evidence(folder, key); !errors.Is(err, logcheck.ErrEvidence) {
 			t.Errorf("the evidence of %q shows %q: %s, %v", evidence.Verdict, verdict, shown, err)
 		}
 	}

@@ -1,0 +1,253 @@
+// Package logarchive keeps a log of RFC 6962 that ends as tiles in a folder (C2SP tlog-tiles, static-ct-api), with the
+// last head that the log signed, and serves them.
+//
+// The entries are those of the log, byte by byte: their leaves are not made again, so the tree has the root that the
+// log signed. The proved library reads each leaf and each data tile, computes the roots, and checks the consistency
+// proofs. Entries are only written after the log has proved that they are the beginning of the signed tree. So the
+// folder has nothing that would have to be taken back, and whatever stops a run, the next one goes on.
+package logarchive
+
+import (
+	"bytes"
+	"context"
+	"encoding/json"
+	"errors"
+	"fmt"
+	"os"
+	"path/filepath"
+	"strconv"
+	"strings"
+	"syscall"
+
+	"wagtenib/bindings/go/wagtenib"
+	"wagtenib/internal/signature"
+	"wagtenib/internal/stores"
+)
+
+// The reasons for which nothing more is archived, or served. Each is found by errors.Is.
+var (
+	// ErrFolder means that a folder is the archive of another log, or of none.
+	ErrFolder = errors.New("archive: the folder is not an archive of this log")
+	// ErrInUse means that another process writes into the folder.
+	ErrInUse = errors.New("archive: another process writes into the folder")
+	// ErrIncomplete means that the folder has not all entries of a head yet.
+	ErrIncomplete = errors.New("archive: the archive is not complete (run ctserve archive until it ends with status 0)")
+	// ErrFork means that the log signed two heads that are not of one list of entries. The folder has both.
+	ErrFork = errors.New("archive: the log has signed a fork")
+	// ErrInconsistent means that the log does not prove that a head which it signed continues the head before. The
+	// folder has both.
+	ErrInconsistent = errors.New("archive: the log does not prove that its heads are of one history")
+	// ErrBehind means that the log answers an older head than the one that is archived.
+	ErrBehind = errors.New("archive: the log answers an older head than the one that is archived")
+	// ErrEmpty means that the log has no entries.
+	ErrEmpty = errors.New("archive: the log has no entries")
+	// ErrEntry means that an answer to get-entries has something that is no entry of a log.
+	ErrEntry = errors.New("archive: not an entry of a log")
+	// ErrOther means that the entries that the log answers are not those that it signed.
+	ErrOther = errors.New("archive: the log's entries do not have the root that it signed")
+	// ErrUnproved means that the log does not prove that its entries are the beginning of the tree that it signed: the
+	// entries are others, or the proof is wrong or missing.
+	ErrUnproved = errors.New("archive: the log does not prove that its entries are those that it signed")
+	// ErrDamaged means that the folder does not have what was written to it.
+	ErrDamaged = errors.New("archive: the folder is damaged (put it back from a backup, or make it again)")
+)
+
+// Log is the log of an archive.
+type Log struct {
+	// Origin is the name in the checkpoint. A log of RFC 6962 has none, so the operator of the archive chooses it.
+	Origin string `json:"origin"`
+	// URL is where the log answers its calls: the base of ct/v1/.
+	URL string `json:"url"`
+	// PublicKey is the log's key, a SubjectPublicKeyInfo in DER.
+	PublicKey []byte `json:"key"`
+}
+
+// The files of an archive. Its tiles and issuers, and its checkpoint, are in the folder objects.
+const (
+	logName       = "log.json"
+	wantedName    = "wanted-head.json" // the answer to get-sth that is being archived
+	signedName    = "signed-head.json" // the answer to get-sth of which the archive has all entries
+	otherName     = "other-head.json"  // an answer to get-sth that contradicts one of these
+	progressName  = "progress"         // how many entries are there
+	obsoleteName  = "obsolete"         // partial tiles to delete, a name on each line
+	indexName     = "index"
+	objectsName   = "objects"
+	checkpointAt  = objectsName + "/checkpoint"
+	maxObject     = 64 << 20 // bytes
+	maxCheckpoint = 1 << 20  // bytes
+)
+
+// folder is the folder of an archive, for one process that writes.
+type folder struct {
+	path    string
+	objects stores.Objects
+	index   *leafIndex
+	lock    *os.File
+	writing func(name string)
+}
+
+// openFolder opens the folder of an archive to write. It makes the folder if there is none.
+func openFolder(ctx context.Context, path string, of Log, writing func(string)) (*folder, error) {
+	if writing == nil {
+		writing = func(string) {}
+	}
+	f := &folder{path: path, writing: writing}
+	if err := f.open(ctx, of); err != nil {
+		f.close()
+		return nil, err
+	}
+	return f, nil
+}
+
+// open opens what the folder has. After an error some of it is open.
+func (f *folder) open(ctx context.Context, of Log) (err error) {
+	if err := stores.MakeFolder(f.path); err != nil {
+		return err
+	}
+	if f.lock, err = os.Open(f.path); err != nil {
+		return fmt.Errorf("archive: %w", err)
+	}
+	if err := syscall.Flock(int(f.lock.Fd()), syscall.LOCK_EX|syscall.LOCK_NB); err != nil {
+		return fmt.Errorf("%w: %s", ErrInUse, f.path)
+	}
+	for _, name := range []string{logName, wantedName, signedName, otherName, progressName, obsoleteName,
+		checkpointAt} {
+		if err := stores.DropHalfKept(filepath.Join(f.path, filepath.FromSlash(name))); err != nil {
+			return fmt.Errorf("archive: %w", err)
+		}
+	}
+	if err := f.belongsTo(of); err != nil {
+		return err
+	}
+	if f.objects, err = stores.OpenFolder(filepath.Join(f.path, objectsName)); err != nil {
+		return fmt.Errorf("archive: %w", err)
+	}
+	f.index, err = openLeafIndex(ctx, filepath.Join(f.path, indexName))
+	return err
+}
+
+// close closes what is open. Everything that was written is on the disk by then.
+func (f *folder) close() {
+	if f.index != nil {
+		_ = f.index.close()
+	}
+	if f.objects != nil {
+		_ = f.objects.Close()
+	}
+	if f.lock != nil {
+		_ = f.lock.Close()
+	}
+}
+
+// belongsTo compares the log of the folder with this one, or keeps it in an empty folder. The log may have moved to
+// another URL.
+func (f *folder) belongsTo(of Log) error {
+	kept, err := readLog(f.path)
+	if errors.Is(err, stores.ErrAbsent) {
+		others, err := os.ReadDir(f.path)
+		if err != nil {
+			return fmt.Errorf("archive: %w", err)
+		}
+		if len(others) > 0 {
+			return fmt.Errorf("%w: %s has other files (name an empty folder)", ErrFolder, f.path)
+		}
+		content, err := json.MarshalIndent(of, "", "  ")
+		if err != nil {
+			return fmt.Errorf("archive: %w", err)
+		}
+		return f.keep(logName, append(content, '\n'))
+	}
+	if err != nil {
+		return err
+	}
+	if kept.Origin != of.Origin || !bytes.Equal(kept.PublicKey, of.PublicKey) {
+		return fmt.Errorf("%w: %s is of %s, with another key or origin (name another folder)", ErrFolder, f.path,
+			kept.Origin)
+	}
+	return nil
+}
+
+// readLog returns the log of an archive. The error wraps stores.ErrAbsent or ErrFolder.
+func readLog(path string) (of Log, err error) {
+	content, err := stores.KeptFile(filepath.Join(path, logName))
+	if err != nil {
+		return of, err
+	}
+	err = json.Unmarshal(content, &of)
+	if err == nil && (of.Origin == "" || len(of.PublicKey) == 0) {
+		err = errors.New("it has no origin or no key")
+	}
+	if err != nil {
+		return of, fmt.Errorf("%w: %s: %v (put it back from a backup)", ErrFolder, filepath.Join(path, logName), err)
+	}
+	return of, nil
+}
+
+// keep replaces a file of the folder.
+func (f *folder) keep(name string, content []byte) error {
+	f.writing(name)
+	if err := stores.ShowFile(filepath.Join(f.path, filepath.FromSlash(name)), content); err != nil {
+		return fmt.Errorf("archive: %w", err)
+	}
+	return nil
+}
+
+// put puts an object, whose name follows from the log's entries alone.
+func (f *folder) put(ctx context.Context, name string, content []byte) error {
+	f.writing(objectsName + "/" + name)
+	err := f.objects.Put(ctx, name, content)
+	if errors.Is(err, stores.ErrOther) {
+		return fmt.Errorf("%w: %s", ErrDamaged, name)
+	}
+	if err != nil {
+		return fmt.Errorf("archive: %w", err)
+	}
+	return nil
+}
+
+// get reads an object that was put.
+func (f *folder) get(ctx context.Context, name string) ([]byte, error) {
+	content, err := f.objects.Get(ctx, name, maxObject)
+	if errors.Is(err, stores.ErrAbsent) {
+		return nil, fmt.Errorf("%w: %s is missing", ErrDamaged, name)
+	}
+	if err != nil {
+		return nil, fmt.Errorf("archive: %w", err)
+	}
+	return content, nil
+}
+
+// progress returns how many entries are there.
+func (f *folder) progress() (uint64, error) {
+	content, err := stores.KeptFile(filepath.Join(f.path, progressName))
+	if errors.Is(err, stores.ErrAbsent) {
+		return 0, nil
+	}
+	if err != nil {
+		return 0, fmt.Errorf("archive: %w", err)
+	}
+	entries, err := strconv.ParseUint(strings.TrimSuffix(string(content), "\n"), 10, 64)
+	if err != nil {
+		return 0, fmt.Errorf("%w: %s: %v", ErrDamaged, progressName, err)
+	}
+	return entries, nil
+}
+
+// head is a head of the log, and the answer to get-sth that has it.
+type head struct {
+	wagtenib.TreeHead
+	answer []byte
+}
+
+// keptHead returns a head of a file in an archive's folder. The error wraps stores.ErrAbsent or ErrDamaged.
+func keptHead(path, name string, of Log) (head, error) {
+	answer, err := stores.KeptFile(filepath.Join(path, name))
+	if err != nil {
+		return head{}, err
+	}
+	kept, err := signature.OpenSTH(answer, of.PublicKey)
+	if err != nil {
+		return head{}, fmt.Errorf("%w: %s: %v", ErrDamaged, filepath.Join(path, name), err)
+	}
+	return head{kept, answer}, nil
+}

@@ -1,0 +1,351 @@
+package logarchive
+
+import (
+	"context"
+	"errors"
+	"fmt"
+	"os"
+	"path/filepath"
+	"strings"
+
+	"golang.org/x/mod/sumdb/tlog"
+
+	"wagtenib/bindings/go/wagtenib"
+	"wagtenib/internal/logclient"
+	"wagtenib/internal/signature"
+	"wagtenib/internal/stores"
+	"wagtenib/internal/tile"
+)
+
+// Options say how a log is read.
+type Options struct {
+	Client logclient.Options
+	// MaxTiles is how many data tiles are in memory at most before they are proved and written; 16 if it is 0.
+	MaxTiles int
+	// Progress is called after each part that was written, with the number of entries in the folder and in the head. It
+	// may be nil.
+	Progress func(entries, size uint64)
+	// Writing is called before each write, with the name of what is written. It is for tests, and may be nil.
+	Writing func(name string)
+}
+
+// maker makes an archive.
+type maker struct {
+	*folder
+	of      Log
+	client  *logclient.Client
+	options Options
+	entries uint64 // that are in the folder
+	edge    *tile.Edge
+}
+
+// Make archives a log in a folder, up to the newest head that the log signed, and returns that head. It continues what
+// an earlier run began. If the log has grown since, the archive grows.
+func Make(ctx context.Context, path string, of Log, options Options) (wagtenib.TreeHead, error) {
+	client, err := logclient.New(of.URL, options.Client)
+	if err != nil {
+		return wagtenib.TreeHead{}, err
+	}
+	f, err := openFolder(ctx, path, of, options.Writing)
+	if err != nil {
+		return wagtenib.TreeHead{}, err
+	}
+	defer f.close()
+	m := &maker{folder: f, of: of, client: client, options: options}
+	if m.entries, err = f.progress(); err != nil {
+		return wagtenib.TreeHead{}, err
+	}
+	wanted, err := m.agree(ctx)
+	if err != nil {
+		return wagtenib.TreeHead{}, err
+	}
+	if err := m.hasIndex(ctx); err != nil {
+		return wagtenib.TreeHead{}, err
+	}
+	if m.entries < wanted.TreeSize {
+		if err := m.read(ctx, wanted.TreeHead); err != nil {
+			return wagtenib.TreeHead{}, err
+		}
+	}
+	return wanted.TreeHead, m.finish(ctx, wanted)
+}
+
+// agree returns the head to archive: the newest one of the log, if it continues the one that is being archived.
+func (m *maker) agree(ctx context.Context) (head, error) {
+	answer, err := m.client.STH(ctx)
+	if err != nil {
+		return head{}, err
+	}
+	opened, err := signature.OpenSTH(answer, m.of.PublicKey)
+	if err != nil {
+		return head{}, fmt.Errorf("archive: get-sth: %w", err)
+	}
+	now := head{opened, answer}
+	if now.TreeSize == 0 {
+		return head{}, ErrEmpty
+	}
+	kept, err := m.wanted()
+	switch {
+	case errors.Is(err, stores.ErrAbsent):
+		return now, m.keep(wantedName, answer)
+	case err != nil:
+		return head{}, err
+	case now.TreeSize == kept.TreeSize && now.Root != kept.Root:
+		return head{}, m.accuse(ErrFork, now, kept, nil)
+	case now.TreeSize < kept.TreeSize:
+		return head{}, m.older(ctx, now, kept)
+	case now.TreeSize > kept.TreeSize:
+		if err := m.prove(ctx, kept.TreeSize, kept.Root, now.TreeHead); err != nil {
+			if errors.Is(err, ErrUnproved) {
+				err = m.accuse(ErrInconsistent, now, kept, err)
+			}
+			return head{}, err
+		}
+	case now.Timestamp <= kept.Timestamp:
+		return kept, nil
+	}
+	return now, m.keep(wantedName, answer)
+}
+
+// wanted returns the head that is being archived. If an operator gave that up, it is the head of which the archive has
+// all entries. The error wraps stores.ErrAbsent if there is neither.
+func (m *maker) wanted() (head, error) {
+	kept, err := keptHead(m.path, wantedName, m.of)
+	if !errors.Is(err, stores.ErrAbsent) {
+		return kept, err
+	}
+	if kept, err = keptHead(m.path, signedName, m.of); err != nil {
+		return head{}, err
+	}
+	return kept, m.keep(wantedName, kept.answer)
+}
+
+// accuse keeps a head that contradicts the one that is being archived, and returns the error.
+func (m *maker) accuse(kind error, now, kept head, why error) error {
+	err := fmt.Errorf("%w: %s has its head of %d entries, and %s the one of %d", kind,
+		filepath.Join(m.path, wantedName), kept.TreeSize, filepath.Join(m.path, otherName), now.TreeSize)
+	if why != nil {
+		err = fmt.Errorf("%w: %v", err, why)
+	}
+	return errors.Join(err, m.keep(otherName, now.answer))
+}
+
+// older returns the error of a head that has fewer entries than the one that is being archived. It is a fork if the
+// folder has the tree of that size, with another root.
+func (m *maker) older(ctx context.Context, now, kept head) error {
+	signed, err := keptHead(m.path, signedName, m.of)
+	if err == nil && now.TreeSize <= signed.TreeSize {
+		prover := tile.NewProver(m.objects.Get, 1)
+		root, err := prover.Root(ctx, now.TreeSize, signed.TreeSize)
+		if err != nil {
+			return fmt.Errorf("archive: %w", err)
+		}
+		if root != now.Root {
+			return m.accuse(ErrFork, now, kept, nil)
+		}
+	}
+	return fmt.Errorf("%w: %d entries, and %d", ErrBehind, now.TreeSize, kept.TreeSize)
+}
+
+// prove has the log prove that its first entries, which have this root, are the beginning of a head's tree.
+func (m *maker) prove(ctx context.Context, size uint64, root wagtenib.Hash, of wagtenib.TreeHead) error {
+	proof, err := m.client.Consistency(ctx, size, of.TreeSize)
+	if errors.Is(err, logclient.ErrStatus) || errors.Is(err, logclient.ErrNotFound) ||
+		errors.Is(err, logclient.ErrNonsense) {
+		return fmt.Errorf("%w: from %d to %d entries: %w", ErrUnproved, size, of.TreeSize, err)
+	}
+	if err != nil {
+		return err
+	}
+	if err := wagtenib.VerifyConsistency(size, of.TreeSize, root, of.Root, proof); err != nil {
+		return fmt.Errorf("%w: from %d to %d entries: %w", ErrUnproved, size, of.TreeSize, err)
+	}
+	return nil
+}
+
+// read reads the entries that are missing, and writes each part after it was proved.
+func (m *maker) read(ctx context.Context, wanted wagtenib.TreeHead) error {
+	start := m.entries - m.entries%tile.Width
+	put := func(name string, content []byte) error { return m.put(ctx, name, content) }
+	edge, err := tile.EdgeAt(start/tile.Width, func(of tlog.Tile) ([]wagtenib.Hash, error) {
+		return m.above(ctx, of)
+	}, put)
+	if err != nil {
+		return err
+	}
+	m.edge = edge
+	most := m.options.MaxTiles
+	if most == 0 {
+		most = maxChunkTiles
+	}
+	part := newChunk(start)
+	return m.client.Entries(ctx, start, wanted.TreeSize, func(page logclient.Page, _ bool) error {
+		if err := part.add(page); err != nil {
+			return err
+		}
+		if !part.isFull(most) && part.end() < wanted.TreeSize {
+			return nil
+		}
+		err := m.write(ctx, part, wanted)
+		part = newChunk(part.end())
+		return err
+	})
+}
+
+// above returns the hashes of a partial hash tile, out of the full tiles below it.
+func (m *maker) above(ctx context.Context, of tlog.Tile) ([]wagtenib.Hash, error) {
+	hashes := make([]wagtenib.Hash, of.W)
+	for i := range hashes {
+		below := tile.Full(of.L-1, uint64(of.N)*tile.Width+uint64(i))
+		content, err := m.get(ctx, tile.Name(below))
+		if err != nil {
+			return nil, err
+		}
+		row, err := tile.HashesIn(below, content)
+		if err != nil {
+			return nil, fmt.Errorf("%w: %w", ErrDamaged, err)
+		}
+		hashes[i] = tile.PerfectRoot(row)
+	}
+	return hashes, nil
+}
+
+// write writes a part of the entries, if they are the signed tree's.
+func (m *maker) write(ctx context.Context, part *chunk, wanted wagtenib.TreeHead) error {
+	root, end := part.root(m.edge.Subtrees()), part.end()
+	if end < wanted.TreeSize {
+		if err := m.prove(ctx, end, root, wanted); err != nil {
+			return err
+		}
+	} else if root != wanted.Root {
+		return fmt.Errorf("%w: the root of %d entries is %x, and the log signed %x", ErrOther, end, root, wanted.Root)
+	}
+	if err := part.write(ctx, m.folder, m.edge); err != nil {
+		return err
+	}
+	if end == wanted.TreeSize {
+		if _, err := m.edge.End(); err != nil {
+			return err
+		}
+		if err := m.hasRoot(ctx, wanted); err != nil {
+			return err
+		}
+	}
+	m.entries = end
+	if err := m.keep(progressName, fmt.Appendf(nil, "%d\n", end)); err != nil {
+		return err
+	}
+	if m.options.Progress != nil {
+		m.options.Progress(end, wanted.TreeSize)
+	}
+	return nil
+}
+
+// hasRoot compares the root of the hash tiles in the folder with the head's.
+func (m *maker) hasRoot(ctx context.Context, of wagtenib.TreeHead) error {
+	root, err := tile.NewProver(m.objects.Get, 1).Root(ctx, of.TreeSize, of.TreeSize)
+	if err != nil {
+		return fmt.Errorf("archive: %w", err)
+	}
+	if root != of.Root {
+		return fmt.Errorf("%w: its tiles have the root %x, and the log signed %x", ErrDamaged, root, of.Root)
+	}
+	return nil
+}
+
+// finish publishes the head, after all its tiles are there. The partial tiles that only the head before has go after
+// that: until then, a server that opens the archive has to find them.
+func (m *maker) finish(ctx context.Context, of head) error {
+	if err := m.hasRoot(ctx, of.TreeHead); err != nil {
+		return err
+	}
+	signed, err := keptHead(m.path, signedName, m.of)
+	if err != nil && !errors.Is(err, stores.ErrAbsent) {
+		return err
+	}
+	checkpoint, err := signature.CheckpointOfSTH(of.answer, m.of.Origin, m.of.PublicKey)
+	if err != nil {
+		return fmt.Errorf("archive: %w", err)
+	}
+	// (a run that was stopped may have left some)
+	if err := m.dropObsolete(ctx, signed.TreeSize); err != nil {
+		return err
+	}
+	if names := tile.PartialOnly(signed.TreeSize, of.TreeSize); len(names) > 0 {
+		if err := m.keep(obsoleteName, []byte(strings.Join(names, "\n")+"\n")); err != nil {
+			return err
+		}
+	}
+	if err := m.keep(checkpointAt, checkpoint); err != nil {
+		return err
+	}
+	if err := m.keep(signedName, of.answer); err != nil {
+		return err
+	}
+	return m.dropObsolete(ctx, of.TreeSize)
+}
+
+// dropObsolete deletes the partial tiles that the folder names as obsolete, unless a tree of this size has them.
+func (m *maker) dropObsolete(ctx context.Context, size uint64) error {
+	path := filepath.Join(m.path, obsoleteName)
+	content, err := stores.KeptFile(path)
+	if errors.Is(err, stores.ErrAbsent) {
+		return nil
+	}
+	if err != nil {
+		return fmt.Errorf("archive: %w", err)
+	}
+	for _, name := range strings.Fields(string(content)) {
+		if of, isTile := tile.Parse(name); !isTile || tile.WidthIn(of, size) == of.W {
+			continue
+		}
+		m.writing(objectsName + "/" + name)
+		if err := m.objects.Delete(ctx, name); err != nil {
+			return fmt.Errorf("archive: %w", err)
+		}
+	}
+	m.writing(obsoleteName)
+	if err := os.Remove(path); err != nil {
+		return fmt.Errorf("archive: %w", err)
+	}
+	return nil
+}
+
+// hasIndex builds the index again from the hash tiles, unless it has the last entry of the folder.
+func (m *maker) hasIndex(ctx context.Context) error {
+	if m.entries == 0 {
+		return nil
+	}
+	last := tile.Data(m.entries-1, m.entries)
+	hashes, err := m.leafHashes(ctx, last)
+	if err != nil {
+		return err
+	}
+	if _, has, err := m.index.find(ctx, hashes[len(hashes)-1]); err != nil || has {
+		return err
+	}
+	for at := uint64(0); at < m.entries; at += tile.Width {
+		hashes, err := m.leafHashes(ctx, tile.Data(at, m.entries))
+		if err != nil {
+			return err
+		}
+		if err := m.addToIndex(ctx, at, hashes); err != nil {
+			return err
+		}
+	}
+	return nil
+}
+
+// leafHashes returns the hashes of the leaves of a data tile, out of the lowest hash tile.
+func (m *maker) leafHashes(ctx context.Context, of tlog.Tile) ([]wagtenib.Hash, error) {
+	of.L = 0
+	content, err := m.get(ctx, tile.Name(of))
+	if err != nil {
+		return nil, err
+	}
+	hashes, err := tile.HashesIn(of, content)
+	if err != nil {
+		return nil, fmt.Errorf("%w: %w", ErrDamaged, err)
+	}
+	return hashes, nil
+}

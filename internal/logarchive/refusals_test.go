@@ -1,0 +1,307 @@
+package logarchive_test
+
+import (
+	"encoding/json"
+	"errors"
+	"fmt"
+	"net/http"
+	"os"
+	"path/filepath"
+	"strconv"
+	"strings"
+	"testing"
+
+	"wagtenib/internal/logapi"
+	"wagtenib/internal/logarchive"
+	"wagtenib/internal/logclient"
+	"wagtenib/internal/signature"
+	"wagtenib/internal/stores"
+	"wagtenib/internal/testlog"
+	"wagtenib/internal/testutil"
+)
+
+// answers has a log answer one call by a function, which may answer nothing.
+func answers(of *testlog.Log, call string, how func(w http.ResponseWriter, r *http.Request) bool) {
+	of.Intercept(func(w http.ResponseWriter, r *http.Request) bool {
+		return r.URL.Path == "/ct/v1/"+call && how(w, r)
+	})
+}
+
+// asEntries has a log answer an entry as a function changes it.
+func asEntries(of *testlog.Log, index uint64, change func(leaf, extra []byte) (any, bool)) {
+	answers(of, "get-entries", func(w http.ResponseWriter, r *http.Request) bool {
+		start, err := strconv.ParseUint(r.URL.Query().Get("start"), 10, 64)
+		end, failed := strconv.ParseUint(r.URL.Query().Get("end"), 10, 64)
+		if err != nil || failed != nil || index < start || index > end {
+			return false
+		}
+		var answer struct {
+			Entries []any `json:"entries"`
+		}
+		honest := of.Fork(of.Size())
+		honest.Publish(of.Size(), 1)
+		for at := start; at <= end; at++ {
+			var one struct {
+				Entries []struct {
+					Leaf  []byte `json:"leaf_input"`
+					Extra []byte `json:"extra_data"`
+				} `json:"entries"`
+			}
+			recorded := record(honest, fmt.Sprintf("/ct/v1/get-entries?start=%d&end=%d", at, at))
+			if err := json.Unmarshal(recorded, &one); err != nil {
+				return false
+			}
+			leaf, extra := one.Entries[0].Leaf, one.Entries[0].Extra
+			if at != index {
+				answer.Entries = append(answer.Entries, map[string][]byte{"leaf_input": leaf, "extra_data": extra})
+			} else if changed, there := change(leaf, extra); there {
+				answer.Entries = append(answer.Entries, changed)
+			}
+		}
+		return json.NewEncoder(w).Encode(answer) == nil
+	})
+}
+
+// entry is an entry of get-entries.
+func entry(leaf, extra []byte) map[string][]byte {
+	return map[string][]byte{"leaf_input": leaf, "extra_data": extra}
+}
+
+// The lies of a log of 600 entries about which 300 were archived before, and what they are refused by.
+var lies = map[string]struct {
+	tell func(t *testing.T, w *world)
+	due  error
+}{
+	"another root": {func(_ *testing.T, w *world) {
+		w.log.PublishRoot(600, 2_000_700, [32]byte{1})
+	}, logarchive.ErrInconsistent},
+	"a fork": {func(t *testing.T, w *world) {
+		w.fork(t, 250, 300)
+	}, logarchive.ErrFork},
+	"a longer fork": {func(t *testing.T, w *world) {
+		w.fork(t, 250, 600)
+	}, logarchive.ErrInconsistent},
+	"an older fork": {func(t *testing.T, w *world) {
+		w.fork(t, 100, 200)
+	}, logarchive.ErrFork},
+	"an older head": {func(_ *testing.T, w *world) { w.log.Publish(200, 2_000_200) }, logarchive.ErrBehind},
+	"no entries":    {func(_ *testing.T, w *world) { w.log.Publish(0, 2_000_200) }, logarchive.ErrEmpty},
+	"a head of another key": {func(t *testing.T, w *world) {
+		other, err := testlog.New(origin)
+		testutil.Must(t, err)
+		other.PublishRoot(600, 2_000_700, w.log.Root(600))
+		answers(w.log, "get-sth", func(rw http.ResponseWriter, _ *http.Request) bool {
+			_, err := rw.Write(record(other, "/ct/v1/get-sth"))
+			return err == nil
+		})
+	}, signature.ErrSigner},
+	"a head that is none": {func(_ *testing.T, w *world) {
+		answers(w.log, "get-sth", func(rw http.ResponseWriter, _ *http.Request) bool {
+			_, err := rw.Write([]byte(`{"tree_size":600}`))
+			return err == nil
+		})
+	}, signature.ErrForm},
+	"another certificate": {func(_ *testing.T, w *world) {
+		asEntries(w.log, 400, func(leaf, extra []byte) (any, bool) {
+			leaf[len(leaf)-4] ^= 1
+			return entry(leaf, extra), true
+		})
+	}, logarchive.ErrUnproved},
+	"another last certificate": {func(_ *testing.T, w *world) {
+		asEntries(w.log, 599, func(leaf, extra []byte) (any, bool) {
+			leaf[len(leaf)-4] ^= 1
+			return entry(leaf, extra), true
+		})
+	}, logarchive.ErrOther},
+	"an entry is left out": {func(_ *testing.T, w *world) {
+		asEntries(w.log, 400, func([]byte, []byte) (any, bool) { return nil, false })
+	}, logarchive.ErrUnproved},
+	"no entries any more": {func(_ *testing.T, w *world) {
+		answers(w.log, "get-entries", func(rw http.ResponseWriter, _ *http.Request) bool {
+			_, err := rw.Write([]byte(`{"entries":[]}`))
+			return err == nil
+		})
+	}, logclient.ErrNonsense},
+	"a leaf that is none": {func(_ *testing.T, w *world) {
+		asEntries(w.log, 400, func(leaf, extra []byte) (any, bool) { return entry(leaf[:12], extra), true })
+	}, logarchive.ErrEntry},
+	"a chain that is cut off": {func(_ *testing.T, w *world) {
+		asEntries(w.log, 400, func(leaf, extra []byte) (any, bool) { return entry(leaf, extra[:len(extra)-1]), true })
+	}, logarchive.ErrEntry},
+	"bytes after a chain": {func(_ *testing.T, w *world) {
+		asEntries(w.log, 400, func(leaf, extra []byte) (any, bool) { return entry(leaf, append(extra, 0)), true })
+	}, logarchive.ErrEntry},
+	"no proof": {func(_ *testing.T, w *world) {
+		answers(w.log, "get-sth-consistency", func(rw http.ResponseWriter, r *http.Request) bool {
+			rw.WriteHeader(http.StatusBadRequest)
+			return true
+		})
+	}, logarchive.ErrInconsistent},
+	"a wrong proof between heads and entries": {func(_ *testing.T, w *world) {
+		answers(w.log, "get-sth-consistency", func(rw http.ResponseWriter, r *http.Request) bool {
+			if r.URL.Query().Get("first") == "300" {
+				return false
+			}
+			_, err := rw.Write([]byte(`{"consistency":["` + base64Of(32) + `"]}`))
+			return err == nil
+		})
+	}, logarchive.ErrUnproved},
+}
+
+// A log that lies is refused by name. What was archived before stays as it was, and as soon as the log is honest again,
+// the archive goes on.
+func TestRefusesALogThatLies(t *testing.T) {
+	for what, of := range lies {
+		t.Run(what, func(t *testing.T) {
+			w := newWorld(t, 300)
+			testutil.Must(t, w.make())
+			before := filesIn(t, w.folder)
+			w.grow(300)
+			of.tell(t, w)
+			if err := w.make(); !errors.Is(err, of.due) || strings.Contains(err.Error(), "nil") {
+				t.Errorf("%v, and %v is due", err, of.due)
+			}
+			after := filesIn(t, w.folder)
+			for name, content := range before {
+				isGrown := name == "progress" && after[name] == "512\n" && errors.Is(of.due, logarchive.ErrOther)
+				if after[name] != content && name != "wanted-head.json" && !isGrown {
+					t.Errorf("%s is not as it was", name)
+				}
+			}
+			if _, isKept := after["other-head.json"]; isKept != (errors.Is(of.due, logarchive.ErrFork) ||
+				errors.Is(of.due, logarchive.ErrInconsistent)) {
+				t.Errorf("a head that contradicts the archive is kept: %v", isKept)
+			}
+			for name := range after {
+				// (what was proved before the lie may stay)
+				if _, ok := before[name]; !ok && name != "other-head.json" && !errors.Is(of.due, logarchive.ErrOther) {
+					t.Errorf("%s was written", name)
+				}
+			}
+			w.log.Intercept(nil)
+			w.log.Publish(600, 2_000_800)
+			w.wantsServed(300)
+			testutil.Must(t, w.make())
+			w.wantsArchived()
+		})
+	}
+}
+
+// A head that the log signed and cannot keep is refused until the operator gives it up by deleting it.
+func TestRootThatIsNoTrees(t *testing.T) {
+	w := newWorld(t, 300)
+	w.log.PublishRoot(300, 2_000_300, [32]byte{1})
+	if err := w.make(); !errors.Is(err, logarchive.ErrUnproved) {
+		t.Errorf("%v", err)
+	}
+	w.log.Publish(300, 2_000_301)
+	if err := w.make(); !errors.Is(err, logarchive.ErrFork) {
+		t.Errorf("%v", err)
+	}
+	testutil.Must(t, os.Remove(filepath.Join(w.folder, "wanted-head.json")))
+	testutil.Must(t, os.Remove(filepath.Join(w.folder, "other-head.json")))
+	testutil.Must(t, w.make())
+	w.wantsArchived()
+	// The head of which the archive has all entries is not given up so.
+	testutil.Must(t, os.Remove(filepath.Join(w.folder, "wanted-head.json")))
+	w.log.Publish(200, 2_000_302)
+	if err := w.make(); !errors.Is(err, logarchive.ErrBehind) {
+		t.Errorf("%v", err)
+	}
+	w.log.Publish(300, 2_000_303)
+	testutil.Must(t, w.make())
+	w.wantsArchived()
+}
+
+// A folder of another log, of another origin, with other files, or in use is refused.
+func TestRefusesAnotherFolder(t *testing.T) {
+	w, other := newWorld(t, 20), newWorld(t, 20)
+	testutil.Must(t, w.make())
+	before := filesIn(t, w.folder)
+	other.folder = w.folder
+	if err := other.make(); !errors.Is(err, logarchive.ErrFolder) {
+		t.Errorf("another log: %v", err)
+	}
+	of := w.of()
+	of.Origin = "elsewhere.example"
+	if _, err := logarchive.Make(testutil.Limited(t, testutil.Longest), w.folder, of,
+		options()); !errors.Is(err, logarchive.ErrFolder) {
+		t.Errorf("another origin: %v", err)
+	}
+	wantsSame(t, before, filesIn(t, w.folder))
+	w.folder = t.TempDir()
+	testutil.Must(t, os.WriteFile(filepath.Join(w.folder, "letter"), []byte("Dear"), 0o600))
+	if err := w.make(); !errors.Is(err, logarchive.ErrFolder) || !strings.HasSuffix(err.Error(), "(name an empty folder)") {
+		t.Errorf("a folder with a letter: %v", err)
+	}
+	w.folder = t.TempDir()
+	testutil.Must(t, os.WriteFile(filepath.Join(w.folder, "log.json"), []byte("{}"), 0o600))
+	if err := w.make(); !errors.Is(err, logarchive.ErrFolder) ||
+		!strings.Contains(err.Error(), "it has no origin or no key") {
+		t.Errorf("a folder of no log: %v", err)
+	}
+	w.folder = filepath.Join(t.TempDir(), "archive")
+	settings := options()
+	settings.Progress = func(uint64, uint64) {
+		if err := w.make(); !errors.Is(err, logarchive.ErrInUse) {
+			t.Errorf("a folder in use: %v", err)
+		}
+	}
+	_, err := logarchive.Make(testutil.Limited(t, testutil.Longest), w.folder, w.of(), settings)
+	testutil.Must(t, err)
+}
+
+// An index that is lost is refused, and is built again by the next run.
+func TestIndexIsBuiltAgain(t *testing.T) {
+	w := newWorld(t, 600)
+	testutil.Must(t, w.make())
+	lost, err := filepath.Glob(filepath.Join(w.folder, "index*"))
+	testutil.Must(t, err)
+	for _, path := range lost {
+		testutil.Must(t, os.Remove(path))
+	}
+	if _, err := logarchive.Open(testutil.Limited(t, testutil.Longest), w.folder); !errors.Is(err, logarchive.ErrDamaged) {
+		t.Errorf("%v", err)
+	}
+	testutil.Must(t, w.make())
+	w.wantsArchived()
+}
+
+// Objects that are not those of the tree are not served, and others are.
+func TestServesNoDamage(t *testing.T) {
+	w := newWorld(t, 600)
+	testutil.Must(t, w.make())
+	ctx := testutil.Limited(t, testutil.Longest)
+	served, err := logarchive.Open(ctx, w.folder)
+	testutil.Must(t, err)
+	defer served.Close()
+	for name, due := range map[string]error{"tile/data/000": logapi.ErrStore, "tile/0/001": logapi.ErrStore,
+		"tile/data/002.p/88": logapi.ErrStore, "tile/data/001": nil, "tile/data/002.p/87": stores.ErrAbsent,
+		"tile/data/003": stores.ErrAbsent, "checkpoint": stores.ErrName, "../signed-head.json": stores.ErrName} {
+		if errors.Is(due, logapi.ErrStore) {
+			path := filepath.Join(w.folder, "objects", filepath.FromSlash(name))
+			content, err := os.ReadFile(path)
+			testutil.Must(t, err)
+			content[3] ^= 1 // (of a data tile, a byte of a timestamp: a hash covers it)
+			testutil.Must(t, os.WriteFile(path, content, 0o600))
+		}
+		content, err := served.Object(ctx, name, 1<<20)
+		if !errors.Is(err, due) || (err == nil) != (content != nil) {
+			t.Errorf("%s: %d bytes, %v, and %v is due", name, len(content), err, due)
+		}
+	}
+}
+
+// fork has the log answer with another history from an index on.
+func (w *world) fork(t *testing.T, from, size uint64) {
+	t.Helper()
+	other := w.log.Fork(from)
+	for other.Size() < size {
+		other.Add(testlog.Entry{Timestamp: 5_000_000, Certificate: fmt.Appendf(nil, "other %d", other.Size())})
+	}
+	other.Publish(size, 3_000_000)
+	w.log.Intercept(func(rw http.ResponseWriter, r *http.Request) bool {
+		other.ServeHTTP(rw, r)
+		return true
+	})
+}

@@ -1,0 +1,217 @@
+package logarchive
+
+import (
+	"bytes"
+	"context"
+	"errors"
+	"fmt"
+	"path/filepath"
+	"strings"
+	"time"
+
+	"wagtenib/bindings/go/wagtenib"
+	"wagtenib/internal/logapi"
+	"wagtenib/internal/signature"
+	"wagtenib/internal/signer"
+	"wagtenib/internal/stores"
+	"wagtenib/internal/tile"
+)
+
+// Served is an archive that is complete, as a log that takes no submissions: a logapi.Log. It believes neither its objects
+// nor its index. Its methods may be called at once.
+type Served struct {
+	of       Log
+	head     logapi.Head
+	tree     signer.Head
+	objects  stores.Objects
+	index    *leafIndex
+	comparer *tile.Comparer
+	// edge has the partial tiles of the tree, by their names. A process that goes on with the archive deletes them.
+	edge map[string][]byte
+}
+
+// OriginOf returns the origin of the archive in a folder.
+func OriginOf(path string) (string, error) {
+	of, err := readLog(path)
+	if errors.Is(err, stores.ErrAbsent) {
+		return "", fmt.Errorf("%w: %s has no %s", ErrFolder, path, logName)
+	}
+	return of.Origin, err
+}
+
+// Open opens a complete archive. The error wraps ErrFolder, ErrIncomplete or ErrDamaged, or says what cannot be read. A
+// process that goes on with the archive may run at the same time. What it adds is served after the next Open.
+func Open(ctx context.Context, path string) (s *Served, err error) {
+	if _, err := OriginOf(path); err != nil {
+		return nil, err
+	}
+	of, err := readLog(path)
+	if err != nil {
+		return nil, err
+	}
+	signed, err := keptHead(path, signedName, of)
+	if errors.Is(err, stores.ErrAbsent) {
+		return nil, fmt.Errorf("%w: %s", ErrIncomplete, path)
+	}
+	if err != nil {
+		return nil, err
+	}
+	s = &Served{of: of, tree: signer.Head{Size: signed.TreeSize, Timestamp: signed.Timestamp, Root: signed.Root},
+		edge: map[string][]byte{}}
+	if s.head, err = headOf(signed, of); err != nil {
+		return nil, err
+	}
+	if err := stores.ObjectsThere("folder:" + filepath.Join(path, objectsName)); err != nil {
+		return nil, fmt.Errorf("%w: %w", ErrDamaged, err)
+	}
+	if s.objects, err = stores.OpenFolder(filepath.Join(path, objectsName)); err != nil {
+		return nil, fmt.Errorf("archive: %w", err)
+	}
+	s.comparer = tile.NewComparer(s.read, tile.LeavesOfArchive)
+	s.index, err = openLeafIndex(ctx, filepath.Join(path, indexName))
+	if err == nil {
+		err = s.keepEdge(ctx)
+	}
+	if err == nil {
+		err = s.isWhole(ctx)
+	}
+	if err != nil {
+		s.Close()
+		return nil, err
+	}
+	return s, nil
+}
+
+// headOf returns a head as package log has it.
+func headOf(signed head, of Log) (logapi.Head, error) {
+	sth, err := signature.ReadSTH(signed.answer)
+	if err != nil {
+		return logapi.Head{}, fmt.Errorf("%w: %w", ErrDamaged, err)
+	}
+	note, err := signature.CheckpointOfSTH(signed.answer, of.Origin, of.PublicKey)
+	if err != nil {
+		return logapi.Head{}, fmt.Errorf("%w: %w", ErrDamaged, err)
+	}
+	return logapi.Head{Note: note, TreeSize: signed.TreeSize, Timestamp: signed.Timestamp, RootHash: signed.Root,
+		Signature: sth.Signature}, nil
+}
+
+// keepEdge reads the partial tiles of the tree.
+func (s *Served) keepEdge(ctx context.Context) error {
+	for _, name := range tile.PartialOnly(s.tree.Size, 0) {
+		content, err := s.read(ctx, name)
+		if err != nil {
+			return fmt.Errorf("%w: %w", ErrDamaged, err)
+		}
+		s.edge[name] = content
+	}
+	return nil
+}
+
+// isWhole returns ErrDamaged unless the hash tiles have the root of the head, and the index has the last entry.
+func (s *Served) isWhole(ctx context.Context) error {
+	root, err := tile.NewProver(s.Object, 1).Root(ctx, s.tree.Size, s.tree.Size)
+	if err != nil {
+		return fmt.Errorf("%w: %w", ErrDamaged, err)
+	}
+	if root != s.tree.Root {
+		return fmt.Errorf("%w: its tiles have another root than its head", ErrDamaged)
+	}
+	last := tile.Data(s.tree.Size-1, s.tree.Size)
+	last.L = 0
+	content, err := s.read(ctx, tile.Name(last))
+	if err != nil {
+		return fmt.Errorf("%w: %w", ErrDamaged, err)
+	}
+	_, has, err := s.index.find(ctx, wagtenib.Hash(content[len(content)-wagtenib.HashSize:]))
+	if err == nil && !has {
+		err = fmt.Errorf("%w: the index does not have the last entry (delete the file %s, and run ctserve archive again)",
+			ErrDamaged, indexName)
+	}
+	return err
+}
+
+// read reads an object of the tree.
+func (s *Served) read(ctx context.Context, name string) ([]byte, error) {
+	return tile.Stored(func(ctx context.Context, name string) ([]byte, error) {
+		return s.get(ctx, name, maxObject)
+	})(ctx, name)
+}
+
+// get reads an object. A partial tile that was deleted is the one that was there when the archive was opened.
+func (s *Served) get(ctx context.Context, name string, most int64) ([]byte, error) {
+	content, err := s.objects.Get(ctx, name, most)
+	if kept := s.edge[name]; errors.Is(err, stores.ErrAbsent) && kept != nil && int64(len(kept)) <= most {
+		return bytes.Clone(kept), nil
+	}
+	return content, err
+}
+
+// Key returns the log's public key, a SubjectPublicKeyInfo in DER.
+func (s *Served) Key() []byte { return s.of.PublicKey }
+
+// Close closes what is open.
+func (s *Served) Close() {
+	if s.index != nil {
+		_ = s.index.close()
+	}
+	if s.objects != nil {
+		_ = s.objects.Close()
+	}
+}
+
+// Submit is logapi.Log's.
+func (s *Served) Submit(context.Context, logapi.Entry) (logapi.Place, error) {
+	return logapi.Place{}, logapi.ErrEnded
+}
+
+// Checkpoint is logapi.Log's: the last head of the log.
+func (s *Served) Checkpoint(context.Context) (logapi.Head, error) { return s.head, nil }
+
+// HeadOf is logapi.Log's.
+func (s *Served) HeadOf(context.Context, uint64) (logapi.Head, error) { return s.head, nil }
+
+// Object is logapi.Log's. Each tile is compared with the tree of the head.
+func (s *Served) Object(ctx context.Context, name string, most int64) ([]byte, error) {
+	of, isTile := tile.Parse(name)
+	if !isTile && !strings.HasPrefix(name, "issuer/") {
+		return nil, fmt.Errorf("%w: %.80q is not published", stores.ErrName, name)
+	}
+	if isTile && tile.WidthIn(of, s.tree.Size) != of.W {
+		return nil, fmt.Errorf("archive: %s: %w", name, stores.ErrAbsent)
+	}
+	content, err := s.get(ctx, name, most)
+	if !isTile || errors.Is(err, stores.ErrTooLong) {
+		return content, err
+	}
+	if errors.Is(err, stores.ErrAbsent) {
+		err = fmt.Errorf("%w: %s is missing", ErrDamaged, name)
+	}
+	if err == nil {
+		err = s.comparer.Compare(ctx, s.tree, of, content)
+	}
+	if err != nil {
+		return nil, fmt.Errorf("%w: %w", logapi.ErrStore, err)
+	}
+	return content, nil
+}
+
+// IndexOf is logapi.Log's.
+func (s *Served) IndexOf(ctx context.Context, leafHash [32]byte) (uint64, error) {
+	index, ok, err := s.index.find(ctx, leafHash)
+	if err != nil {
+		return 0, fmt.Errorf("%w: %w", logapi.ErrStore, err)
+	}
+	if !ok {
+		return 0, fmt.Errorf("%w: a leaf of this hash", stores.ErrAbsent)
+	}
+	return index, nil
+}
+
+// End is logapi.Log's. Nothing waits.
+func (s *Served) End(context.Context) error { return nil }
+
+// Figures are logapi.Log's.
+func (s *Served) Figures() logapi.Figures {
+	return logapi.Figures{Entries: s.head.TreeSize, HeadAge: time.Since(time.UnixMilli(int64(s.head.Timestamp)))}
+}

@@ -1,0 +1,102 @@
+package alert_test
+
+import (
+	"bufio"
+	"context"
+	"fmt"
+	"net"
+	"strings"
+	"testing"
+
+	"wagtenib/internal/watch/alert"
+)
+
+// mailServer takes one mail by SMTP (RFC 5321), and returns the lines that it got.
+func mailServer(t *testing.T, refuses string) (address string, got <-chan []string) {
+	t.Helper()
+	listener, err := net.Listen("tcp", "127.0.0.1:0")
+	must(t, err)
+	t.Cleanup(func() { listener.Close() })
+	lines := make(chan []string, 1)
+	go func() {
+		connection, err := listener.Accept()
+		if err != nil {
+			return
+		}
+		defer connection.Close()
+		lines <- talk(connection, refuses)
+	}()
+	return listener.Addr().String(), lines
+}
+
+// talk answers as a mail server, and returns the lines of its client.
+func talk(connection net.Conn, refuses string) []string {
+	var got []string
+	fmt.Fprint(connection, "220 mail.example\r\n")
+	reader, inData := bufio.NewReader(connection), false
+	for {
+		line, err := reader.ReadString('\n')
+		if err != nil {
+			return got
+		}
+		line = strings.TrimRight(line, "\r\n")
+		got = append(got, line)
+		word, _, _ := strings.Cut(line, " ")
+		switch {
+		case inData && line != ".":
+			continue
+		case refuses != "" && strings.HasPrefix(line, refuses) && (refuses != "." || line == "."):
+			fmt.Fprint(connection, "550 no\r\n")
+			return got
+		case word == "DATA":
+			inData = true
+			fmt.Fprint(connection, "354 go on\r\n")
+			continue
+		case word == "QUIT":
+			fmt.Fprint(connection, "221 bye\r\n")
+			return got
+		}
+		inData = false
+		fmt.Fprint(connection, "250 ok\r\n")
+	}
+}
+
+// TestMailBySMTP: a mail server gets the mail for both addresses, and a certificate's line with a dot does not end it.
+func TestMailBySMTP(t *testing.T) {
+	address, got := mailServer(t, "")
+	output, err := alert.NewMail("owner@example.org", []string{"owner@example.org", "other@example.org"},
+		alert.Carrier{Place: "smtp://" + address})
+	must(t, err)
+	if sent, _, err := output.Send(context.Background(),
+		[]alert.Alert{certificateOf("\r\n.\r\nRCPT TO:<victim@example.net>")}); sent != 1 || err != nil {
+		t.Fatal(sent, err)
+	}
+	var commands []string
+	for _, line := range <-got {
+		if strings.HasPrefix(line, "MAIL") || strings.HasPrefix(line, "RCPT") || line == "." {
+			commands = append(commands, line)
+		}
+	}
+	want := "MAIL FROM:<owner@example.org> RCPT TO:<owner@example.org> RCPT TO:<other@example.org> ."
+	if strings.Join(commands, " ") != want {
+		t.Errorf("the server got %q", commands)
+	}
+}
+
+// TestMailThatIsRefused: if the server refuses the sender, an address, or the mail at its end, nothing is sent.
+func TestMailThatIsRefused(t *testing.T) {
+	for _, refuses := range []string{"MAIL", "RCPT", "DATA", "."} {
+		address, _ := mailServer(t, refuses)
+		output, err := alert.NewMail("owner@example.org", []string{"owner@example.org"},
+			alert.Carrier{Place: "smtp://" + address})
+		must(t, err)
+		if sent, _, err := output.Send(context.Background(), []alert.Alert{certificateOf("a")}); sent != 0 ||
+			err == nil || !strings.Contains(err.Error(), "550") {
+			t.Errorf("%s is refused: %d sent: %v", refuses, sent, err)
+		}
+	}
+	if _, err := alert.NewMail("owner@example.org", []string{"owner@example.org"},
+		alert.Carrier{Place: "smtp://mail.example"}); err == nil || !strings.Contains(err.Error(), "smtp://HOST:25") {
+		t.Error(err)
+	}
+}

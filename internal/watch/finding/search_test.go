@@ -1,0 +1,401 @@
+package finding_test
+
+import (
+	"crypto/sha256"
+	"crypto/x509/pkix"
+	"encoding/hex"
+	"fmt"
+	"slices"
+	"strings"
+	"testing"
+	"unicode/utf16"
+
+	"wagtenib/bindings/go/wagtenib"
+	"wagtenib/internal/testcert"
+	"wagtenib/internal/watch/finding"
+)
+
+// The string types of ASN.1 (X.680, section 8.4).
+const (
+	utf8String      = 12
+	printableString = 19
+	t61String       = 20
+	ia5String       = 22
+	universalString = 28
+	bmpString       = 30
+)
+
+func bmp(text string) []byte {
+	var wide []byte
+	for _, unit := range utf16.Encode([]rune(text)) {
+		wide = append(wide, byte(unit>>8), byte(unit))
+	}
+	return wide
+}
+
+func universal(text string) []byte {
+	var wide []byte
+	for _, one := range text {
+		wide = append(wide, byte(one>>24), byte(one>>16), byte(one>>8), byte(one))
+	}
+	return wide
+}
+
+func dns(text string) []testcert.Name {
+	return []testcert.Name{{Tag: testcert.DNS, Bytes: []byte(text)}}
+}
+
+func alt(tag int, value string) []testcert.Name {
+	return []testcert.Name{{Tag: tag, Bytes: []byte(value)}}
+}
+
+// row is a certificate, and where the watched names example.org, =www.example.org and bücher.example are found in it.
+type row struct {
+	what                     string
+	subject                  pkix.Name
+	names                    []testcert.Name
+	below, alone, otherwords finding.Place
+}
+
+const (
+	no      = finding.Place("")
+	san     = finding.InAltName
+	cn      = finding.InCommonName
+	likeSAN = finding.LikeAltName
+	likeCN  = finding.LikeCommon
+)
+
+// rows are those of the table beside certspotter (tests/names/beside.py). certspotter 0.16 reports each one that has a
+// place here, except of mail addresses, URIs and IP addresses, which it does not read.
+func rows() []row {
+	common := func(tag int, value []byte) pkix.Name { return testcert.CommonName(tag, value) }
+	return []row{
+		{"host", pkix.Name{}, dns("www.example.org"), san, san, no},
+		{"the name itself", pkix.Name{}, dns("example.org"), san, no, no},
+		{"wildcard", pkix.Name{}, dns("*.example.org"), san, san, no},
+		{"common name", common(utf8String, []byte("www.example.org")), nil, cn, cn, no},
+		{"capitals", pkix.Name{}, dns("WWW.EXAMPLE.ORG"), san, san, no},
+		{"dot at the end", pkix.Name{}, dns("example.org."), san, no, no},
+		{"mail address", pkix.Name{}, alt(testcert.Mail, "admin@example.org"), san, no, no},
+		{"URI", pkix.Name{}, alt(testcert.URI, "https://www.example.org/"), san, san, no},
+		{"wildcard above", pkix.Name{}, dns("*.org"), san, no, no},
+		{"IDN", pkix.Name{}, dns("xn--bcher-kva.example"), no, no, san},
+		{"IDN in letters as common name", common(utf8String, []byte("bücher.example")), nil, no, no, cn},
+		{"IDN in capitals", pkix.Name{}, dns("XN--BCHER-KVA.EXAMPLE"), no, no, san},
+		{"BMPString", common(bmpString, bmp("www.example.org")), nil, cn, cn, no},
+		{"UniversalString", common(universalString, universal("www.example.org")), nil, cn, cn, no},
+		{"PrintableString", common(printableString, []byte("www.example.org")), nil, cn, cn, no},
+		{"IA5String", common(ia5String, []byte("www.example.org")), nil, cn, cn, no},
+		{"T61String", common(t61String, []byte("www.example.org")), nil, cn, cn, no},
+		{"a stranger that ends so", pkix.Name{}, dns("notexample.org"), no, no, no},
+		{"a stranger that begins so", pkix.Name{}, dns("example.org.evil.net"), no, no, no},
+		{"a stranger that has it in it", pkix.Name{}, dns("www.example.organic.com"), no, no, no},
+		{"organization", pkix.Name{Organization: []string{"Friends of example.org"}}, nil, no, no, no},
+		{"other", pkix.Name{}, dns("other.net"), no, no, no},
+		{"below the exact name", pkix.Name{}, dns("sub.www.example.org"), san, no, no},
+		{"wildcard below", pkix.Name{}, dns("*.sub.example.org"), san, no, no},
+		{"wildcard below the exact name", pkix.Name{}, dns("*.www.example.org"), san, no, no},
+		{"two stars", pkix.Name{}, dns("*.*.example.org"), san, no, no},
+		{"star in the middle", pkix.Name{}, dns("www.*.org"), likeSAN, likeSAN, no},
+		{"star in a label", pkix.Name{}, dns("w*.example.org"), san, likeSAN, no},
+		{"star for a part of another", pkix.Name{}, dns("*ple.org"), likeSAN, no, no},
+		{"star of a stranger", pkix.Name{}, dns("a*.org"), no, no, no},
+		{"a path in a label", pkix.Name{}, dns("a/b.example.org"), san, no, no},
+		{"a port in a label", pkix.Name{}, dns("a:1.example.org"), san, no, no},
+		{"IDN in letters", pkix.Name{}, dns("bücher.example"), no, no, san},
+		{"wildcard over IDN in letters", pkix.Name{}, dns("*.bücher.example"), no, no, san},
+		{"IDN in a BMPString", common(bmpString, bmp("bücher.example")), nil, no, no, likeCN},
+		{"IDN in Latin-1", pkix.Name{}, dns("b\xfccher.example"), no, no, likeSAN},
+		{"IDN in a UniversalString", common(universalString, universal("bücher.example")), nil, no, no, likeCN},
+		{"hidden label", pkix.Name{}, dns("?.example.org"), san, likeSAN, no},
+		{"hidden label of a stranger", pkix.Name{}, dns("?.example.net"), no, no, no},
+		{"URL as host", pkix.Name{}, dns("https://www.example.org/"), likeSAN, likeSAN, no},
+		{"host with port", pkix.Name{}, dns("www.example.org:443"), likeSAN, likeSAN, no},
+		{"NUL", pkix.Name{}, dns("www.example.org\x00.evil.net"), likeSAN, likeSAN, no},
+		{"NUL before a stranger", pkix.Name{}, dns("www.evil.net\x00.evil.com"), no, no, no},
+		{"spaces around a common name", common(utf8String, []byte("  www.example.org ")), nil, likeCN, likeCN, no},
+		{"user and host in a URI", pkix.Name{}, alt(testcert.URI, "https://example.org@evil.net/example.org"), no,
+			no, no},
+		{"empty name", pkix.Name{}, dns(""), no, no, no},
+		{"only dots", pkix.Name{}, dns("..."), no, no, no},
+	}
+}
+
+// TestFindsEachName: each row's certificate and its precertificate are found where they are due, and nothing else is.
+func TestFindsEachName(t *testing.T) {
+	authority := testcert.NewAuthority(t)
+	watched := parseAll(t, "example.org", "=www.example.org", "bücher.example")
+	searcher := finding.NewSearcher(watched)
+	for _, row := range rows() {
+		one := authority.IssueNames(row.subject, row.names...)
+		for entryType, der := range map[wagtenib.EntryType][]byte{wagtenib.X509Entry: one.Certificate.Raw,
+			wagtenib.PrecertEntry: one.TBS} {
+			result, err := searcher.Search(entryType, der)
+			if err != nil || result.Fault != nil {
+				t.Fatalf("%s: %v %v", row.what, err, result.Fault)
+			}
+			got := map[finding.Name]finding.Place{}
+			for _, match := range result.Matches {
+				got[match.Name] = match.Place
+				if hosts := match.Name.Hosts(result.Names, 20); len(hosts) != 1 {
+					t.Errorf("%s, type %d: %q is in the names %q", row.what, entryType, match.Name, hosts)
+				}
+			}
+			for i, want := range []finding.Place{row.below, row.alone, row.otherwords} {
+				if got[watched[i]] != want {
+					t.Errorf("%s, type %d: %q is found %q, and not %q", row.what, entryType, watched[i],
+						got[watched[i]], want)
+				}
+			}
+		}
+	}
+}
+
+// TestFindsAddresses: an address is found in an iPAddress, in a URI (also in brackets), and as a common name.
+func TestFindsAddresses(t *testing.T) {
+	authority := testcert.NewAuthority(t)
+	watched := parseAll(t, "192.0.2.7", "2001:db8::1")
+	six := string([]byte{0x20, 0x01, 0x0d, 0xb8, 0, 0, 0, 0, 0, 0, 0, 0, 0, 0, 0, 1})
+	for _, test := range []struct {
+		what    string
+		subject pkix.Name
+		names   []testcert.Name
+		found   []finding.Match
+	}{
+		{"four octets", pkix.Name{}, alt(testcert.Address, "\xc0\x00\x02\x07"), []finding.Match{{Name: watched[0],
+			Place: san}}},
+		{"sixteen octets", pkix.Name{}, alt(testcert.Address, six), []finding.Match{{Name: watched[1], Place: san}}},
+		{"three octets", pkix.Name{}, alt(testcert.Address, "\xc0\x00\x02"), nil},
+		{"a URI", pkix.Name{}, alt(testcert.URI, "https://192.0.2.7:8443/"), []finding.Match{{Name: watched[0],
+			Place: san}}},
+		{"a URI with brackets", pkix.Name{}, alt(testcert.URI, "https://[2001:DB8:0::1]:8443/x"),
+			[]finding.Match{{Name: watched[1], Place: likeSAN}}},
+		{"a common name", pkix.Name{CommonName: "192.0.2.7"}, nil, []finding.Match{{Name: watched[0], Place: cn}}},
+		{"a longer address", pkix.Name{CommonName: "192.0.2.77"}, dns("1.192.0.2.7"), nil},
+	} {
+		one := authority.IssueNames(test.subject, test.names...)
+		result, err := finding.NewSearcher(watched).Search(wagtenib.X509Entry, one.Certificate.Raw)
+		if err != nil || result.Fault != nil || !slices.Equal(result.Matches, test.found) {
+			t.Errorf("%s: %v %v %v", test.what, result.Matches, result.Fault, err)
+		}
+	}
+}
+
+// TestSearchesBytesOnlyIfAsked: an issuer's name and an organization are no names of the owner, unless bytes are
+// searched.
+func TestSearchesBytesOnlyIfAsked(t *testing.T) {
+	one := testcert.NewAuthority(t).IssueNames(pkix.Name{Organization: []string{"Friends of EXAMPLE.org"}},
+		dns("other.net")...)
+	watched := parseAll(t, "example.org", "absent.example")
+	for _, test := range []struct {
+		searcher *finding.Searcher
+		want     []finding.Match
+	}{
+		{finding.NewSearcher(watched), nil},
+		{finding.NewSearcher(watched, finding.WithBytes()), []finding.Match{{Name: watched[0],
+			Place: finding.InBytes}}},
+	} {
+		result, err := test.searcher.Search(wagtenib.X509Entry, one.Certificate.Raw)
+		if err != nil || !slices.Equal(result.Matches, test.want) {
+			t.Errorf("%v %v", result.Matches, err)
+		}
+	}
+}
+
+// TestReportsUnreadNames: a certificate that is cut off has a fault, and its bytes are searched.
+func TestReportsUnreadNames(t *testing.T) {
+	one := testcert.NewAuthority(t).Issue("www.example.org")
+	watched := parseAll(t, "example.org", "absent.example")
+	cut := one.Certificate.Raw[:len(one.Certificate.Raw)-1]
+	result, err := finding.NewSearcher(watched).Search(wagtenib.X509Entry, cut)
+	if err != nil || result.Fault == nil || result.Names != nil || !slices.Equal(result.Matches,
+		[]finding.Match{{Name: watched[0], Place: finding.InBytes}}) {
+		t.Errorf("%+v %v", result, err)
+	}
+}
+
+// TestSearchesBytesForEachWord: of a certificate that cannot be read, the bytes are searched for an address, for an
+// exact name, and for both spellings of a name with letters beyond ASCII.
+func TestSearchesBytesForEachWord(t *testing.T) {
+	watched := parseAll(t, "192.0.2.7", "=www.example.org", "bücher.example", "absent.example")
+	for text, want := range map[string][]finding.Match{
+		"http://192.0.2.7/":     {{Name: watched[0], Place: finding.InBytes}},
+		"WWW.Example.ORG":       {{Name: watched[1], Place: finding.InBytes}},
+		"xn--BCHER-kva.example": {{Name: watched[2], Place: finding.InBytes}},
+		"bücher.EXAMPLE":        {{Name: watched[2], Place: finding.InBytes}},
+		"www.example.or":        nil,
+		"":                      nil,
+	} {
+		result, err := finding.NewSearcher(watched).Search(wagtenib.X509Entry, []byte(text))
+		if err != nil || result.Fault == nil || !slices.Equal(result.Matches, want) {
+			t.Errorf("%q: %+v %v", text, result, err)
+		}
+	}
+}
+
+// TestFindsTheLastOfManyNames: a certificate with 100,000 names is read whole.
+func TestFindsTheLastOfManyNames(t *testing.T) {
+	var hosts []string
+	for i := range 100_000 {
+		hosts = append(hosts, fmt.Sprintf("h%d.other.net", i))
+	}
+	one := testcert.NewAuthority(t).Issue(append(hosts, "shop.example.org")...)
+	watched := parseAll(t, "example.org")
+	result, err := finding.NewSearcher(watched).Search(wagtenib.PrecertEntry, one.TBS)
+	if err != nil || len(result.Matches) != 1 || len(result.Names) != len(hosts)+1 {
+		t.Fatalf("%d matches, %d names, %v", len(result.Matches), len(result.Names), err)
+	}
+	if found := watched[0].Hosts(result.Names, 20); !slices.Equal(found, []string{"shop.example.org"}) {
+		t.Errorf("%q", found)
+	}
+}
+
+// TestShowsTheFirstHosts: of 25 names that match, the first 20 are shown if there is room for 20, and all if there is
+// more.
+func TestShowsTheFirstHosts(t *testing.T) {
+	var hosts []string
+	for i := range 25 {
+		hosts = append(hosts, fmt.Sprintf("h%d.example.org", i))
+	}
+	one := testcert.NewAuthority(t).Issue(append([]string{"other.net"}, hosts...)...)
+	watched := parseAll(t, "example.org")
+	result, err := finding.NewSearcher(watched).Search(wagtenib.X509Entry, one.Certificate.Raw)
+	if err != nil || !slices.Equal(watched[0].Hosts(result.Names, 20), hosts[:20]) ||
+		!slices.Equal(watched[0].Hosts(result.Names, 100), hosts) {
+		t.Errorf("%q %v", watched[0].Hosts(result.Names, 20), err)
+	}
+}
+
+// TestShowsTheHostOfALongName: a name with more bytes than any host, which the library finds below a watched name, is
+// among the hosts of the match. It is not among those of an exact name that it only ends with.
+func TestShowsTheHostOfALongName(t *testing.T) {
+	authority, watched := testcert.NewAuthority(t), parseAll(t, "example.org", "=www.example.org")
+	long := strings.Repeat("a", 100_000)
+	for what, one := range map[string]testcert.Issued{
+		"a dNSName":         authority.IssueNames(pkix.Name{}, dns(long+".www.example.org")...),
+		"a BMPString":       authority.IssueNames(testcert.CommonName(bmpString, bmp(long+".www.example.org"))),
+		"a UniversalString": authority.IssueNames(testcert.CommonName(universalString, universal(long+".www.example.org"))),
+	} {
+		result, err := finding.NewSearcher(watched).Search(wagtenib.X509Entry, one.Certificate.Raw)
+		if err != nil || len(result.Matches) != 1 || result.Matches[0].Name != watched[0] {
+			t.Fatalf("%s: %v %v", what, result.Matches, err)
+		}
+		if hosts := watched[0].Hosts(result.Names, 20); len(hosts) != 1 || !strings.HasSuffix(hosts[0], "a.www.example.org") {
+			t.Errorf("%s: %d hosts", what, len(hosts))
+		}
+		if hosts := watched[1].Hosts(result.Names, 20); len(hosts) != 0 {
+			t.Errorf("%s: %d hosts of an exact name", what, len(hosts))
+		}
+	}
+}
+
+// TestIssuanceIsOfBoth: a precertificate and its certificate are one issuance, and another certificate is another
+// one, even with the same serial number and key.
+func TestIssuanceIsOfBoth(t *testing.T) {
+	authority := testcert.NewAuthority(t)
+	one := authority.Issue("www.example.org")
+	certificate, precertificate := finding.Issuance(wagtenib.X509Entry, one.Certificate.Raw),
+		finding.Issuance(wagtenib.PrecertEntry, one.TBS)
+	if certificate != precertificate {
+		t.Error("a certificate and its precertificate are two issuances")
+	}
+	if certificate != sha256.Sum256(one.TBS) {
+		t.Error("the issuance is not the hash of the entry's TBSCertificate (RFC 6962, section 3.2)")
+	}
+	// Another dNSName of the same length changes nothing else.
+	changed := []byte(strings.Replace(string(one.Certificate.Raw), "www.example.org", "xxx.example.org", 1))
+	if finding.Issuance(wagtenib.X509Entry, changed) == certificate {
+		t.Error("a certificate for another name is the same issuance")
+	}
+	plain := testcert.NewAuthority(t).Issue("www.example.org").Precertificate
+	if finding.Issuance(wagtenib.X509Entry, plain.Raw) != sha256.Sum256(plain.RawTBSCertificate) {
+		t.Error("without SCTs the issuance is not the hash of the TBSCertificate")
+	}
+	if finding.Issuance(wagtenib.X509Entry, []byte("x")) != sha256.Sum256([]byte("x")) {
+		t.Error("bytes that are no certificate have no issuance")
+	}
+}
+
+// TestReadsDetails: crypto/x509 reads the same fields.
+func TestReadsDetails(t *testing.T) {
+	one := testcert.NewAuthority(t).IssueNames(pkix.Name{CommonName: "a, b+c", Organization: []string{"Ö"},
+		Country: []string{"DE"}}, dns("a.example")...)
+	key := sha256.Sum256(one.Certificate.RawSubjectPublicKeyInfo)
+	for entryType, der := range map[wagtenib.EntryType][]byte{wagtenib.X509Entry: one.Certificate.Raw,
+		wagtenib.PrecertEntry: one.TBS} {
+		details := finding.ReadDetails(entryType, der)
+		if details.Subject != one.Certificate.Subject.ToRDNSequence().String() ||
+			details.Issuer != one.Certificate.Issuer.ToRDNSequence().String() {
+			t.Errorf("type %d: subject %q, issuer %q", entryType, details.Subject, details.Issuer)
+		}
+		if details.SerialNumber != hex.EncodeToString(one.Certificate.SerialNumber.Bytes()) ||
+			details.KeySHA256 != hex.EncodeToString(key[:]) {
+			t.Errorf("type %d: serial number %s, key %s", entryType, details.SerialNumber, details.KeySHA256)
+		}
+		if !details.NotBefore.Equal(one.Certificate.NotBefore) || !details.NotAfter.Equal(one.Certificate.NotAfter) {
+			t.Errorf("type %d: valid %v to %v", entryType, details.NotBefore, details.NotAfter)
+		}
+		if !slices.Equal(details.IssuerNames, []string{"An authority", "Test CA 1"}) {
+			t.Errorf("type %d: issuer's names %q", entryType, details.IssuerNames)
+		}
+	}
+}
+
+func parseAll(t testing.TB, words ...string) []finding.Name {
+	t.Helper()
+	var names []finding.Name
+	for _, word := range words {
+		name, err := finding.ParseName(word)
+		if err != nil {
+			t.Fatal(err)
+		}
+		names = append(names, name)
+	}
+	return names
+}
+
+// BenchmarkSearch searches a certificate with three names of others for 1,000 watched names.
+func BenchmarkSearch(b *testing.B) {
+	var watched []finding.Name
+	for i := range 1000 {
+		watched = append(watched, parseAll(b, fmt.Sprintf("h%d.example.org", i))...)
+	}
+	searcher := finding.NewSearcher(watched)
+	one := testcert.NewAuthority(b).Issue("www.other.net", "*.other.net", "other.example")
+	for b.Loop() {
+		if result, err := searcher.Search(wagtenib.X509Entry, one.Certificate.Raw); err != nil || len(result.Matches) > 0 {
+			b.Fatal(result, err)
+		}
+	}
+}
+
+// FuzzSearch: no bytes make the search, the details or the issuance fail, and a name that is found has a host or a
+// fault.
+func FuzzSearch(f *testing.F) {
+	authority := testcert.NewAuthority(f)
+	for _, row := range rows() {
+		one := authority.IssueNames(row.subject, row.names...)
+		f.Add(true, one.TBS)
+		f.Add(false, one.Certificate.Raw)
+	}
+	searcher := finding.NewSearcher(parseAll(f, "example.org", "=www.example.org", "bücher.example", "192.0.2.7"))
+	f.Fuzz(func(t *testing.T, isPrecertificate bool, der []byte) {
+		entryType := wagtenib.X509Entry
+		if isPrecertificate {
+			entryType = wagtenib.PrecertEntry
+		}
+		result, err := searcher.Search(entryType, der)
+		if err != nil {
+			t.Fatal(err)
+		}
+		for _, match := range result.Matches {
+			if result.Fault == nil && len(match.Name.Hosts(result.Names, 20)) == 0 {
+				t.Errorf("%s is found %s, and in no name of %q", match.Name, match.Place, result.Names)
+			}
+		}
+		finding.ReadDetails(entryType, der)
+		if finding.Issuance(entryType, der) != finding.Issuance(entryType, slices.Clone(der)) {
+			t.Error("one certificate has two issuances")
+		}
+	})
+}

@@ -1,0 +1,279 @@
+package mirror_test
+
+import (
+	"bytes"
+	"context"
+	"crypto/sha256"
+	"errors"
+	"io/fs"
+	"net/http"
+	"net/http/httptest"
+	"os"
+	"path/filepath"
+	"strings"
+	"testing"
+
+	"golang.org/x/mod/sumdb/tlog"
+
+	"wagtenib/internal/logclient"
+	"wagtenib/internal/testlog"
+	"wagtenib/internal/watch"
+	"wagtenib/internal/watch/mirror"
+)
+
+// keeper keeps the state of one log in memory.
+type keeper struct {
+	state   watch.State
+	entries int
+}
+
+func (k *keeper) Load(watch.LogID) (watch.State, error) { return k.state, nil }
+func (k *keeper) Keep(_ watch.Log, next watch.State, entries []watch.Entry) error {
+	k.state = next
+	k.entries += len(entries)
+	return nil
+}
+func (k *keeper) Accuse(watch.Log, watch.State, watch.Evidence) error {
+	return errors.New("the log is accused")
+}
+func (k *keeper) Report(watch.Status) {}
+
+// grow adds certificates and precertificates with two issuers, and signs a head.
+func grow(log *testlog.Log, count uint64) {
+	timestamp := 10 * (log.Size() + count)
+	if count == 0 {
+		timestamp += 5 // (the same tree again, later)
+	}
+	for i := log.Size(); count > 0; i, count = i+1, count-1 {
+		e := testlog.Entry{Timestamp: i, Certificate: []byte{0x30, 2, byte(i >> 8), byte(i)},
+			Chain: [][]byte{[]byte("issuer"), []byte("root")}}
+		if i%3 == 0 {
+			e.IssuerKeyHash, e.Precertificate, e.Chain = make([]byte, 32), []byte{0x30, 1, byte(i)}, [][]byte{{byte(i % 5)}}
+		}
+		log.Add(e)
+	}
+	log.Publish(log.Size(), timestamp)
+}
+
+// world is a log, its mirror's folder, and the follower that keeps it.
+type world struct {
+	log    *testlog.Log
+	of     watch.Log
+	folder string
+	keeper *keeper
+}
+
+func newWorld(t *testing.T) *world {
+	t.Helper()
+	log, err := testlog.New("log.example/2027")
+	if err != nil {
+		t.Fatal(err)
+	}
+	server := httptest.NewServer(log)
+	t.Cleanup(server.Close)
+	of := watch.Log{ID: sha256.Sum256(log.PublicKey()), Name: "log", Origin: log.Origin, URL: server.URL,
+		PublicKey: log.PublicKey()}
+	return &world{log, of, filepath.Join(t.TempDir(), "mirror"), &keeper{}}
+}
+
+// pass makes a pass with a new follower and a mirror that is opened again.
+func (w *world) pass() error {
+	limits := logclient.Limits{Attempts: 1}
+	options := watch.Options{FromStart: true, Client: logclient.Options{Limits: limits},
+		Mirror: func(log watch.Log) (watch.Mirror, error) {
+			return mirror.Open(w.folder, log, logclient.Options{Limits: limits})
+		}}
+	f, err := watch.NewFollower(w.of, w.keeper, options)
+	if err != nil {
+		return err
+	}
+	return f.Pass(context.Background())
+}
+
+// wantsMirrored compares each file of the folder with the log's answer, and sees that no tile of the tree is missing.
+func (w *world) wantsMirrored(t *testing.T, size uint64) {
+	t.Helper()
+	files := map[string][]byte{}
+	err := filepath.WalkDir(w.folder, func(path string, entry fs.DirEntry, err error) error {
+		if err != nil || entry.IsDir() {
+			return err
+		}
+		name, err := filepath.Rel(w.folder, path)
+		if err != nil {
+			return err
+		}
+		files[filepath.ToSlash(name)], err = os.ReadFile(path)
+		return err
+	})
+	if err != nil {
+		t.Fatal(err)
+	}
+	for name, content := range files {
+		recorded := httptest.NewRecorder()
+		w.log.ServeHTTP(recorded, httptest.NewRequest(http.MethodGet, "/"+name, nil))
+		if recorded.Code != http.StatusOK || !bytes.Equal(recorded.Body.Bytes(), content) {
+			t.Errorf("%s has other bytes than the log's", name)
+		}
+		if strings.HasPrefix(name, ".") {
+			t.Errorf("%s is left over", name)
+		}
+	}
+	due := []tlog.Tile{}
+	for level, hashes := -1, size; hashes > 0; level++ {
+		for n := uint64(0); n*256 < hashes; n++ {
+			due = append(due, tlog.Tile{H: 8, L: level, N: int64(n), W: int(min(256, hashes-n*256))})
+		}
+		if level >= 0 {
+			hashes /= 256
+		}
+	}
+	for _, tile := range due {
+		if name := "tile/" + strings.TrimPrefix(tile.Path(), "tile/8/"); files[name] == nil {
+			t.Errorf("%s is missing", name)
+		}
+	}
+	if files["checkpoint"] == nil {
+		t.Error("there is no checkpoint")
+	}
+}
+
+// A mirror grows with its log, over restarts, and has each file of it. Served by a server of files, it can be followed
+// as the log itself.
+func TestMirrorsAGrowingLog(t *testing.T) {
+	w := newWorld(t)
+	for _, count := range []uint64{1, 0, 43, 212, 1, 500, 256, 70_000, 300} {
+		grow(w.log, count)
+		if err := w.pass(); err != nil {
+			t.Fatalf("%d entries: %v", w.log.Size(), err)
+		}
+		if asked := w.log.Requests("/tile/data/250"); count == 70_000 && asked != 1 {
+			t.Errorf("a data tile was read %d times: the staged one was not taken", asked)
+		}
+		w.wantsMirrored(t, w.log.Size())
+	}
+	server := httptest.NewServer(http.FileServer(http.Dir(w.folder)))
+	defer server.Close()
+	served := w.of
+	served.URL = server.URL
+	reader := &keeper{}
+	f, err := watch.NewFollower(served, reader, watch.Options{FromStart: true})
+	if err != nil {
+		t.Fatal(err)
+	}
+	if err := f.Pass(context.Background()); err != nil || reader.entries != int(w.log.Size()) ||
+		reader.state.Accepted.Root != w.log.Root(w.log.Size()) {
+		t.Errorf("%d entries are read from the mirror: %v", reader.entries, err)
+	}
+}
+
+// If an issuer or a staged tile is missing, the checkpoint in the folder stays the old one, and the next pass
+// continues.
+func TestGoesOnAfterAFailure(t *testing.T) {
+	w := newWorld(t)
+	grow(w.log, 100)
+	if err := w.pass(); err != nil {
+		t.Fatal(err)
+	}
+	before, err := os.ReadFile(filepath.Join(w.folder, "checkpoint"))
+	if err != nil {
+		t.Fatal(err)
+	}
+	w.log.Add(testlog.Entry{Timestamp: 100, Certificate: []byte("new"), Chain: [][]byte{[]byte("a new issuer")}})
+	grow(w.log, 400)
+	w.log.Intercept(func(out http.ResponseWriter, r *http.Request) bool {
+		if strings.HasPrefix(r.URL.Path, "/issuer/") {
+			http.NotFound(out, r)
+			return true
+		}
+		return false
+	})
+	if err := w.pass(); !errors.Is(err, logclient.ErrNotFound) {
+		t.Errorf("without an issuer: %v", err)
+	}
+	after, err := os.ReadFile(filepath.Join(w.folder, "checkpoint"))
+	if err != nil || !bytes.Equal(before, after) {
+		t.Error("the checkpoint goes before the tiles")
+	}
+	if _, err := os.Stat(filepath.Join(w.folder, "tile", "data", "000")); !errors.Is(err, fs.ErrNotExist) {
+		t.Errorf("a data tile goes before its issuers: %v", err)
+	}
+	w.log.Intercept(nil)
+	// (what was staged is lost, or damaged)
+	if err := os.WriteFile(filepath.Join(w.folder, ".staged", "tile", "data", "000"), []byte("damaged"),
+		0o600); err != nil {
+		t.Fatal(err)
+	}
+	if err := w.pass(); err != nil {
+		t.Fatal(err)
+	}
+	w.wantsMirrored(t, w.log.Size())
+	if w.keeper.entries != int(w.log.Size()) {
+		t.Errorf("%d entries were searched", w.keeper.entries)
+	}
+}
+
+// Nothing that is kept gets other bytes, whatever the log says later.
+func TestKeepsItsBytes(t *testing.T) {
+	w := newWorld(t)
+	grow(w.log, 100)
+	if err := w.pass(); err != nil {
+		t.Fatal(err)
+	}
+	w.log.Intercept(func(out http.ResponseWriter, r *http.Request) bool {
+		if r.URL.Path != "/tile/data/000.p/200" {
+			return false
+		}
+		recorded := httptest.NewRecorder()
+		w.log.Intercept(nil)
+		w.log.ServeHTTP(recorded, r)
+		// The precertificate of the first entry is 300100 there, and no hash covers it.
+		changed := bytes.Replace(recorded.Body.Bytes(), []byte{0, 0, 3, 0x30, 1, 0}, []byte{0, 0, 3, 0x30, 1, 9}, 1)
+		_, err := out.Write(changed)
+		return err == nil
+	})
+	grow(w.log, 100)
+	if err := w.pass(); !errors.Is(err, mirror.ErrOther) {
+		t.Errorf("a tile that begins with other bytes: %v", err)
+	}
+	other := newWorld(t)
+	other.folder = w.folder
+	grow(other.log, 5)
+	if err := other.pass(); !errors.Is(err, mirror.ErrFolder) {
+		t.Errorf("the folder of another log: %v", err)
+	}
+	w.keeper = &keeper{}
+	m, err := mirror.Open(w.folder, w.of, logclient.Options{})
+	if err != nil {
+		t.Fatal(err)
+	}
+	small := w.log.Fork(50)
+	small.Publish(50, 2000)
+	if err := m.Accept(context.Background(), watch.Head{Signed: small.Checkpoint()}); !errors.Is(err, mirror.ErrAhead) {
+		t.Errorf("a head of fewer entries: %v", err)
+	}
+}
+
+// If a log has only the full tile of which a head has a part, the mirror keeps that part.
+func TestKeepsThePartOfAFullTile(t *testing.T) {
+	w := newWorld(t)
+	grow(w.log, 300)
+	full := w.log.Fork(300)
+	full.Publish(300, 10*full.Size())
+	w.log.Publish(100, 10*w.log.Size()+7)
+	w.log.Intercept(func(out http.ResponseWriter, r *http.Request) bool {
+		switch {
+		case strings.HasPrefix(r.URL.Path, "/tile/data/000.p/"):
+			http.NotFound(out, r)
+		case r.URL.Path == "/tile/data/000":
+			full.ServeHTTP(out, r)
+		default:
+			return false
+		}
+		return true
+	})
+	if err := w.pass(); err != nil {
+		t.Fatal(err)
+	}
+	w.log.Intercept(nil)
+	w.wantsMirrored(t, 100)
+}
