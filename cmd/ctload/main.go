@@ -28,7 +28,7 @@ import (
 
 	"golang.org/x/sync/errgroup"
 
-	"wagtenib/internal/httpserver/standin"
+	"wagtenib/internal/httpserver/fakelog"
 	"wagtenib/internal/logcheck"
 	"wagtenib/internal/version"
 )
@@ -48,7 +48,7 @@ type load struct {
 // settings are what is submitted, to which nodes, and how often.
 type settings struct {
 	nodes     []string
-	authority *standin.Authority
+	authority *fakelog.Authority
 	ends      time.Time
 	most      int
 	repeats   int
@@ -150,8 +150,8 @@ func run() error {
 }
 
 // newRoot makes a CA, adds its root to a file, and runs the command that makes the nodes reload their roots.
-func newRoot(roots, reload string) (*standin.Authority, error) {
-	authority, err := standin.NewAuthority(fmt.Sprintf("An authority of %d", os.Getpid()))
+func newRoot(roots, reload string) (*fakelog.Authority, error) {
+	authority, err := fakelog.NewAuthority(fmt.Sprintf("An authority of %d", os.Getpid()))
 	if err != nil {
 		return nil, err
 	}
@@ -305,11 +305,11 @@ func (l *load) next(chance *rand.Rand) (submission, error) {
 func (l *load) make(chance *rand.Rand) (submission, error) {
 	if chance.Intn(3) > 0 {
 		der, err := l.authority.Issue(false, l.ends)
-		return submission{"add-chain", standin.Submission(der), logcheck.Answer{Certificate: der}}, err
+		return submission{"add-chain", fakelog.Submission(der), logcheck.Answer{Certificate: der}}, err
 	}
 	der, tbs, err := l.authority.IssuePair(l.ends)
 	issuer := sha256.Sum256(l.authority.Root.RawSubjectPublicKeyInfo)
-	return submission{"add-pre-chain", standin.Submission(der),
+	return submission{"add-pre-chain", fakelog.Submission(der),
 		logcheck.Answer{IssuerKeyHash: issuer[:], TBSCertificate: tbs}}, err
 }
 

@@ -18,7 +18,7 @@ import (
 	"testing"
 	"time"
 
-	"wagtenib/internal/httpserver/standin"
+	"wagtenib/internal/httpserver/fakelog"
 	"wagtenib/internal/logcheck"
 	"wagtenib/internal/testutil"
 )
@@ -60,7 +60,7 @@ func right(_ int, w http.ResponseWriter) { fmt.Fprint(w, timestamp) }
 
 // loadOf is a load on nodes, whose answers are written into a text.
 func loadOf(t testing.TB, nodes ...*node) (*load, *bytes.Buffer) {
-	authority, err := standin.NewAuthority("An authority of tests")
+	authority, err := fakelog.NewAuthority("An authority of tests")
 	must(t, err)
 	var answers bytes.Buffer
 	l := &load{settings: settings{authority: authority, ends: time.Now().AddDate(0, 6, 0)},

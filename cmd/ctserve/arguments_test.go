@@ -10,7 +10,7 @@ import (
 	"time"
 
 	"wagtenib/internal/chains"
-	"wagtenib/internal/httpserver/standin"
+	"wagtenib/internal/httpserver/fakelog"
 )
 
 // TestSettings: the rules for arguments and the config file.
@@ -134,7 +134,7 @@ func TestSettings(t *testing.T) {
 		{at.words("--roots", at.path("none")), 1}, {at.words("--listen", "127.0.0.1:x"), 2},
 		{at.words("--tls-certificate", "none", "--tls-key", "none"), 1}} {
 		open := func(context.Context, node) (*opened, error) {
-			of, err := standin.New(0)
+			of, err := fakelog.New(0)
 			return &opened{log: of, close: func() {}}, err
 		}
 		if status := run(test.words, io.Discard, open); status != test.status {

@@ -22,7 +22,7 @@ import (
 	"github.com/minio/minio-go/v7"
 	"github.com/minio/minio-go/v7/pkg/credentials"
 
-	"wagtenib/internal/httpserver/standin"
+	"wagtenib/internal/httpserver/fakelog"
 	"wagtenib/internal/testutil"
 )
 
@@ -62,7 +62,7 @@ func newAudited(t *testing.T) audited {
 // authorityKey makes an authority whose key the test has, and puts it among the roots.
 func (p *place) authorityKey() []byte {
 	p.t.Helper()
-	authority, err := standin.NewAuthority("A test CA")
+	authority, err := fakelog.NewAuthority("A test CA")
 	testutil.Must(p.t, err)
 	p.authority = authority
 	p.write("roots.pem", authority.PEM())
@@ -194,7 +194,7 @@ func TestAuditFindsMissingRoot(t *testing.T) {
 	t.Parallel()
 	at := newAudited(t)
 	started(t, "", append(at.words, "--create")...)
-	other, err := standin.NewAuthority("A root that is missing")
+	other, err := fakelog.NewAuthority("A root that is missing")
 	testutil.Must(t, err)
 	at.write("wanted.pem", append(other.PEM(), at.authority.PEM()...))
 	status, answers, told := does(append(at.audit, "--for", "1s", "--wanted-roots", at.path("wanted.pem"))...)
@@ -209,7 +209,7 @@ func TestAuditFindsMissingRoot(t *testing.T) {
 func TestAuditArguments(t *testing.T) {
 	t.Parallel()
 	at := newAudited(t)
-	other, err := standin.NewAuthority("Another CA")
+	other, err := fakelog.NewAuthority("Another CA")
 	testutil.Must(t, err)
 	at.write("other.pem", other.PEM())
 	at.write("leaf.pem", pem.EncodeToMemory(&pem.Block{Type: "CERTIFICATE", Bytes: []byte("no certificate")}))

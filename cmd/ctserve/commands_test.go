@@ -16,7 +16,7 @@ import (
 	"testing"
 	"time"
 
-	"wagtenib/internal/httpserver/standin"
+	"wagtenib/internal/httpserver/fakelog"
 	"wagtenib/internal/testutil"
 )
 
@@ -31,7 +31,7 @@ func does(words ...string) (status int, answers, faults string) {
 func settingsFile(t *testing.T, lines ...string) (folder, file string) {
 	t.Helper()
 	folder = t.TempDir()
-	authority, err := standin.NewAuthority("an authority")
+	authority, err := fakelog.NewAuthority("an authority")
 	if err != nil {
 		t.Fatal(err)
 	}

@@ -20,7 +20,7 @@ import (
 	"testing"
 	"time"
 
-	"wagtenib/internal/httpserver/standin"
+	"wagtenib/internal/httpserver/fakelog"
 	"wagtenib/internal/testutil"
 )
 
@@ -42,7 +42,7 @@ func TestMain(m *testing.M) {
 			if err != nil {
 				return nil, err
 			}
-			of, err := standin.New(duration)
+			of, err := fakelog.New(duration)
 			return &opened{log: of, close: func() {}}, err
 		}
 	}
@@ -202,14 +202,14 @@ func (p *program) signal(which syscall.Signal) {
 type place struct {
 	t         *testing.T
 	folder    string
-	authority *standin.Authority
+	authority *fakelog.Authority
 	// shared is the address of an index that nodes share, or empty.
 	shared string
 }
 
 func newPlace(t *testing.T) *place {
 	t.Helper()
-	authority, err := standin.NewAuthority("A root")
+	authority, err := fakelog.NewAuthority("A root")
 	if err != nil {
 		t.Fatal(err)
 	}
@@ -255,7 +255,7 @@ func (p *place) submission() []byte {
 	if err != nil {
 		p.t.Fatal(err)
 	}
-	return standin.Submission(der)
+	return fakelog.Submission(der)
 }
 
 func post(address string, body []byte) (int, string) {

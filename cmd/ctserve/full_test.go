@@ -13,7 +13,7 @@ import (
 	"testing"
 	"time"
 
-	"wagtenib/internal/httpserver/standin"
+	"wagtenib/internal/httpserver/fakelog"
 	"wagtenib/internal/logcheck"
 	"wagtenib/internal/signer"
 	"wagtenib/internal/testutil"
@@ -177,7 +177,7 @@ func (at place) submitted(t *testing.T, p *program) (status int, text string, on
 	if err != nil {
 		t.Fatal(err)
 	}
-	if status, text = post(p.clients, standin.Submission(der)); status != 200 {
+	if status, text = post(p.clients, fakelog.Submission(der)); status != 200 {
 		return status, text, one
 	}
 	var read struct {
@@ -204,7 +204,7 @@ func readsAll(t *testing.T, p *program, when string, answers []logcheck.Answer) 
 		head.Size < uint64(len(answers)) {
 		t.Errorf("%s: get-sth: %s", when, text)
 	}
-	hash := standin.LeafHash(leafOf(answers[2]))
+	hash := fakelog.LeafHash(leafOf(answers[2]))
 	proof := fmt.Sprintf("/ct/v1/get-proof-by-hash?tree_size=%d&hash=%s", head.Size,
 		url.QueryEscape(base64.StdEncoding.EncodeToString(hash[:])))
 	for _, path := range []string{"/checkpoint", fmt.Sprintf("/tile/0/000.p/%d", head.Size),

@@ -12,7 +12,7 @@ import (
 	"testing"
 	"time"
 
-	"wagtenib/internal/httpserver/standin"
+	"wagtenib/internal/httpserver/fakelog"
 	"wagtenib/internal/logcheck"
 	"wagtenib/internal/signer"
 	"wagtenib/internal/testutil"
@@ -235,7 +235,7 @@ func TestSignerAtASocket(t *testing.T) {
 	if status, text := post(p.clients, at.submission()); status != 503 || !strings.Contains(text, `"store"`) {
 		t.Errorf("without a signer: %d %s", status, text)
 	}
-	other, err := standin.NewAuthority("Another")
+	other, err := fakelog.NewAuthority("Another")
 	if err != nil {
 		t.Fatal(err)
 	}

@@ -13,7 +13,7 @@ import (
 	"time"
 
 	"wagtenib/internal/httpserver"
-	"wagtenib/internal/httpserver/standin"
+	"wagtenib/internal/httpserver/fakelog"
 	"wagtenib/internal/logcheck"
 	"wagtenib/internal/testutil"
 	"wagtenib/internal/testutil/softhsm"
@@ -129,9 +129,9 @@ func TestRealLog(t *testing.T) {
 	}
 	var hashes [][32]byte
 	for _, entry := range listed.Entries {
-		hashes = append(hashes, standin.LeafHash(entry.LeafInput))
+		hashes = append(hashes, fakelog.LeafHash(entry.LeafInput))
 	}
-	if root := standin.MerkleTreeHash(hashes); !bytes.Equal(root[:], head.Root) {
+	if root := fakelog.MerkleTreeHash(hashes); !bytes.Equal(root[:], head.Root) {
 		t.Error("the entries haven't the head's root")
 	}
 	if _, tile := read(p.clients, "/tile/0/000.p/21"); len(tile) != 21*32 ||
@@ -167,7 +167,7 @@ func TestKeyInAToken(t *testing.T) {
 		if err != nil {
 			t.Fatal(err)
 		}
-		status, text := post(p.clients, standin.Submission(der))
+		status, text := post(p.clients, fakelog.Submission(der))
 		var read struct {
 			ID         []byte `json:"id"`
 			Timestamp  uint64 `json:"timestamp"`

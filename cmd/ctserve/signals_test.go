@@ -12,7 +12,7 @@ import (
 	"testing"
 	"time"
 
-	"wagtenib/internal/httpserver/standin"
+	"wagtenib/internal/httpserver/fakelog"
 	"wagtenib/internal/testutil"
 )
 
@@ -108,7 +108,7 @@ func TestSecondSignal(t *testing.T) {
 func TestReloadBySIGHUP(t *testing.T) {
 	at := newPlace(t)
 	p := started(t, "20ms", at.words()...)
-	other, err := standin.NewAuthority("Another root")
+	other, err := fakelog.NewAuthority("Another root")
 	if err != nil {
 		t.Fatal(err)
 	}
@@ -116,7 +116,7 @@ func TestReloadBySIGHUP(t *testing.T) {
 	if err != nil {
 		t.Fatal(err)
 	}
-	if status, text := post(p.clients, standin.Submission(der)); status != 400 ||
+	if status, text := post(p.clients, fakelog.Submission(der)); status != 400 ||
 		!strings.Contains(text, "unknown-root") {
 		t.Errorf("before: %d %s", status, text)
 	}
@@ -125,7 +125,7 @@ func TestReloadBySIGHUP(t *testing.T) {
 	if line := p.until("reload"); line["level"] != "info" || line["of"] != "roots" {
 		t.Errorf("it says %v", line)
 	}
-	if status, text := post(p.clients, standin.Submission(der)); status != 200 {
+	if status, text := post(p.clients, fakelog.Submission(der)); status != 200 {
 		t.Errorf("after: %d %s", status, text)
 	}
 	at.write("roots.pem", []byte("none"))
@@ -133,7 +133,7 @@ func TestReloadBySIGHUP(t *testing.T) {
 	if line := p.until("reload"); line["level"] != "error" {
 		t.Errorf("it says %v", line)
 	}
-	if status, text := post(p.clients, standin.Submission(der)); status != 200 {
+	if status, text := post(p.clients, fakelog.Submission(der)); status != 200 {
 		t.Errorf("with a file of no roots: %d %s", status, text)
 	}
 	if _, text := get(p.operator, "/metrics"); !strings.Contains(text,

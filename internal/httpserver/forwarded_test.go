@@ -7,7 +7,7 @@ import (
 	"strings"
 	"testing"
 
-	"wagtenib/internal/httpserver/standin"
+	"wagtenib/internal/httpserver/fakelog"
 	"wagtenib/internal/logapi"
 )
 
@@ -32,7 +32,7 @@ func TestForwardsOnce(t *testing.T) {
 		status    int
 		forwarded int
 	}{{f.front, http.StatusTeapot, 1}, {f.front.Nodes(), http.StatusServiceUnavailable, 1}} {
-		body := string(standin.Submission(f.issue(false)))
+		body := string(fakelog.Submission(f.issue(false)))
 		w := httptest.NewRecorder()
 		of.handler.ServeHTTP(w, httptest.NewRequest(http.MethodPost, "/ct/v1/add-chain", strings.NewReader(body)))
 		if w.Code != of.status || other.got != of.forwarded {

@@ -14,7 +14,7 @@ import (
 	"testing"
 	"time"
 
-	"wagtenib/internal/httpserver/standin"
+	"wagtenib/internal/httpserver/fakelog"
 	"wagtenib/internal/stores"
 )
 
@@ -27,8 +27,8 @@ func FuzzHandlers(f *testing.F) {
 	for path := range calls {
 		f.Add("GET", path, "", []byte{})
 	}
-	f.Add("POST", "/ct/v1/add-chain", "", standin.Submission(x.issue(false)))
-	f.Add("POST", "/ct/v1/add-pre-chain", "", standin.Submission(x.issue(true), x.authority.Root.Raw))
+	f.Add("POST", "/ct/v1/add-chain", "", fakelog.Submission(x.issue(false)))
+	f.Add("POST", "/ct/v1/add-pre-chain", "", fakelog.Submission(x.issue(true), x.authority.Root.Raw))
 	f.Add("HEAD", "/tile/0/000", "", []byte{})
 	f.Add("GET", "/tile/data/001.p/4", "", []byte{})
 	f.Add("GET", "/issuer/"+fingerprintOf(x.authority.Root.Raw), "", []byte{})
@@ -84,7 +84,7 @@ func FuzzConnections(f *testing.F) {
 		o.Limits.ConnectionsByAddress = 4000
 	})
 	address, _ := x.listening(nil)
-	body := standin.Submission(x.issue(false))
+	body := fakelog.Submission(x.issue(false))
 	for _, text := range []string{
 		"GET /checkpoint HTTP/1.1\r\nHost: log\r\n\r\n", "GET /ct/v1/get-entries?start=0&end=0 HTTP/1.0\r\n\r\n",
 		"POST /ct/v1/add-chain HTTP/1.1\r\nHost: log\r\nContent-Length: 2\r\n\r\n{}GET / HTTP/1.1\r\nHost: log\r\n\r\n",

@@ -11,7 +11,7 @@ import (
 	"testing"
 	"time"
 
-	"wagtenib/internal/httpserver/standin"
+	"wagtenib/internal/httpserver/fakelog"
 	"wagtenib/internal/stores"
 )
 
@@ -101,7 +101,7 @@ func TestMetricsAndHealth(t *testing.T) {
 	f.front.uses.requests.most = 64
 	f.front.Refuse()
 	refused(t, "/readyz", ask("/readyz"), 503, "ended")
-	refused(t, "add-chain", f.do("POST", "/ct/v1/add-chain", standin.Submission(f.issue(false))), 503, "ended")
+	refused(t, "add-chain", f.do("POST", "/ct/v1/add-chain", fakelog.Submission(f.issue(false))), 503, "ended")
 	for _, line := range strings.Split(strings.TrimSpace(f.lines.String()), "\n") {
 		var told map[string]any
 		if err := json.Unmarshal([]byte(line), &told); err != nil || told["event"] != "request" || told["time"] == "" {

@@ -19,7 +19,7 @@ import (
 	"time"
 
 	"wagtenib/internal/chains"
-	"wagtenib/internal/httpserver/standin"
+	"wagtenib/internal/httpserver/fakelog"
 	"wagtenib/internal/logapi"
 	"wagtenib/internal/stores"
 	"wagtenib/internal/testutil"
@@ -29,8 +29,8 @@ import (
 // fixture is a front of a log in memory.
 type fixture struct {
 	t         testing.TB
-	log       *standin.Log
-	authority *standin.Authority
+	log       *fakelog.Log
+	authority *fakelog.Authority
 	checker   *chains.Checker
 	front     *Front
 	lines     *text
@@ -58,7 +58,7 @@ var ends = time.Date(2027, 1, 1, 0, 0, 0, 0, time.UTC)
 
 func newFixture(t testing.TB, every time.Duration, change func(*Options)) *fixture {
 	t.Helper()
-	authority, err := standin.NewAuthority("A root")
+	authority, err := fakelog.NewAuthority("A root")
 	if err != nil {
 		t.Fatal(err)
 	}
@@ -66,7 +66,7 @@ func newFixture(t testing.TB, every time.Duration, change func(*Options)) *fixtu
 	if err != nil {
 		t.Fatal(err)
 	}
-	of, err := standin.New(every)
+	of, err := fakelog.New(every)
 	if err != nil {
 		t.Fatal(err)
 	}
@@ -158,7 +158,7 @@ func (f *fixture) verifies(signed, signature []byte) bool {
 
 func TestRoots(t *testing.T) {
 	f := newFixture(t, 0, nil)
-	other, err := standin.NewAuthority("Another root")
+	other, err := fakelog.NewAuthority("Another root")
 	if err != nil {
 		t.Fatal(err)
 	}
@@ -395,7 +395,7 @@ func TestReadOnly(t *testing.T) {
 	f := newFixture(t, 10*time.Millisecond, func(o *Options) { o.ReadOnly = true })
 	f.fill(2)
 	for _, path := range []string{"/ct/v1/add-chain", "/ct/v1/add-pre-chain"} {
-		w := f.do("POST", path, standin.Submission(f.issue(path == "/ct/v1/add-pre-chain")))
+		w := f.do("POST", path, fakelog.Submission(f.issue(path == "/ct/v1/add-pre-chain")))
 		refused(t, path, w, 403, "read-only")
 		if w.Header().Get("Connection") != "close" {
 			t.Errorf("%s: the connection is kept, with a body that nobody read", path)

@@ -12,7 +12,7 @@ import (
 	"testing"
 	"time"
 
-	"wagtenib/internal/httpserver/standin"
+	"wagtenib/internal/httpserver/fakelog"
 	"wagtenib/internal/logapi"
 )
 
@@ -83,7 +83,7 @@ func TestReadersAskForNoNewerHead(t *testing.T) {
 		}
 	}
 	f.reads("get-entries?start=299&end=299", &told)
-	hash := standin.LeafHash(told.Entries[0].Leaf)
+	hash := fakelog.LeafHash(told.Entries[0].Leaf)
 	of := &unasked{Log: f.log, head: head}
 	f.front.log = of
 	for _, path := range []string{"get-entries?start=0&end=299", "get-entries?start=256&end=299",
@@ -163,7 +163,7 @@ func TestAnswersComeLast(t *testing.T) {
 		o.Limits.ConnectionsByAddress, o.Limits.ProofsByAddress, o.LogRequests = 1, 1, true
 	})
 	f.fill(300)
-	body := standin.Submission(f.issue(false))
+	body := fakelog.Submission(f.issue(false))
 	for _, test := range []struct {
 		method, target, call, header, value string
 		status                              int

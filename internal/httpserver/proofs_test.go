@@ -16,7 +16,7 @@ import (
 	"time"
 
 	"wagtenib/bindings/go/wagtenib"
-	"wagtenib/internal/httpserver/standin"
+	"wagtenib/internal/httpserver/fakelog"
 	"wagtenib/internal/logapi"
 	"wagtenib/internal/stores"
 	"wagtenib/internal/testutil"
@@ -39,10 +39,10 @@ func pathOf(m int, d [][32]byte) [][]byte {
 	}
 	k := half(len(d))
 	if m < k {
-		root := standin.MerkleTreeHash(d[k:])
+		root := fakelog.MerkleTreeHash(d[k:])
 		return append(pathOf(m, d[:k]), root[:])
 	}
-	root := standin.MerkleTreeHash(d[:k])
+	root := fakelog.MerkleTreeHash(d[:k])
 	return append(pathOf(m-k, d[k:]), root[:])
 }
 
@@ -51,15 +51,15 @@ func proofOf(m int, d [][32]byte, whole bool) [][]byte {
 		return [][]byte{}
 	}
 	if m == len(d) {
-		root := standin.MerkleTreeHash(d)
+		root := fakelog.MerkleTreeHash(d)
 		return [][]byte{root[:]}
 	}
 	k := half(len(d))
 	if m <= k {
-		root := standin.MerkleTreeHash(d[k:])
+		root := fakelog.MerkleTreeHash(d[k:])
 		return append(proofOf(m, d[:k], whole), root[:])
 	}
-	root := standin.MerkleTreeHash(d[:k])
+	root := fakelog.MerkleTreeHash(d[:k])
 	return append(proofOf(m-k, d[k:], false), root[:])
 }
 

@@ -11,7 +11,7 @@ import (
 	"testing"
 	"time"
 
-	"wagtenib/internal/httpserver/standin"
+	"wagtenib/internal/httpserver/fakelog"
 	"wagtenib/internal/testutil"
 )
 
@@ -303,7 +303,7 @@ func TestTooOften(t *testing.T) {
 	if w := f.askedBy("192.0.2.99", "GET", entries, nil); w.Code != 200 {
 		t.Errorf("one that comes by itself, and that others named: %d %s", w.Code, w.Body)
 	}
-	submission := standin.Submission(f.issue(false))
+	submission := fakelog.Submission(f.issue(false))
 	if w := f.askedBy("2001:db8::1", "POST", "/ct/v1/add-chain", submission); w.Code != 200 {
 		t.Errorf("a submission beside its reads: %d %s", w.Code, w.Body)
 	}

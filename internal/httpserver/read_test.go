@@ -14,7 +14,7 @@ import (
 	"golang.org/x/crypto/cryptobyte"
 
 	"wagtenib/internal/chains"
-	"wagtenib/internal/httpserver/standin"
+	"wagtenib/internal/httpserver/fakelog"
 )
 
 // served looks at the status, the type and the cache's time of an answer, and that HEAD has the same without the
@@ -148,7 +148,7 @@ func TestTreeHead(t *testing.T) {
 	}
 	head, _ := f.log.Checkpoint(httptest.NewRequest("GET", "/", nil).Context())
 	if told.Size != 3 || told.Timestamp != head.Timestamp || !bytes.Equal(told.Root, head.RootHash[:]) ||
-		!f.verifies(standin.HeadSigned(head), told.Signature) {
+		!f.verifies(fakelog.HeadSigned(head), told.Signature) {
 		t.Errorf("get-sth: %s", w.Body)
 	}
 }
@@ -178,7 +178,7 @@ func TestEntriesAreTheHeads(t *testing.T) {
 			t.Fatalf("none from %d on", start)
 		}
 		for i, entry := range entries {
-			hashes = append(hashes, standin.LeafHash(entry.LeafInput))
+			hashes = append(hashes, fakelog.LeafHash(entry.LeafInput))
 			certificate := certificates[start+i]
 			if !bytes.Contains(entry.LeafInput, certificate) || entry.LeafInput[14] != byte(len(certificate)) {
 				t.Fatalf("entry %d isn't what was submitted", start+i)
@@ -195,7 +195,7 @@ func TestEntriesAreTheHeads(t *testing.T) {
 		}
 	}
 	head, _ := f.log.Checkpoint(httptest.NewRequest("GET", "/", nil).Context())
-	if standin.MerkleTreeHash(hashes) != head.RootHash {
+	if fakelog.MerkleTreeHash(hashes) != head.RootHash {
 		t.Error("they haven't the head's root")
 	}
 	for _, test := range []struct{ start, end, count uint64 }{{0, 0, 1}, {7, 9, 3}, {255, 256, 1}, {256, 1 << 62, 256},
@@ -209,7 +209,7 @@ func TestEntriesAreTheHeads(t *testing.T) {
 func TestPrecertificatesEntry(t *testing.T) {
 	f := newFixture(t, 5*time.Millisecond, nil)
 	precertificate := f.issue(true)
-	if w := f.do("POST", "/ct/v1/add-pre-chain", standin.Submission(precertificate)); w.Code != 200 {
+	if w := f.do("POST", "/ct/v1/add-pre-chain", fakelog.Submission(precertificate)); w.Code != 200 {
 		t.Fatal(w.Body)
 	}
 	wanted, err := f.checker.Precertificate([][]byte{precertificate})

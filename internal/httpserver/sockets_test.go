@@ -17,7 +17,7 @@ import (
 	"testing"
 	"time"
 
-	"wagtenib/internal/httpserver/standin"
+	"wagtenib/internal/httpserver/fakelog"
 	"wagtenib/internal/testutil"
 )
 
@@ -273,7 +273,7 @@ func TestServerEnds(t *testing.T) {
 		io.Copy(io.Discard, answer.Body)
 	}
 	fmt.Fprintf(half, "GET /healthz HT")
-	body := standin.Submission(f.issue(false))
+	body := fakelog.Submission(f.issue(false))
 	fmt.Fprintf(waits, "POST /ct/v1/add-chain HTTP/1.1\r\nHost: log\r\nContent-Length: %d\r\n\r\n%s", len(body), body)
 	for f.log.Figures().Queue == 0 || f.front.uses.connections.open.Load() < 4 {
 		time.Sleep(time.Millisecond)
@@ -305,7 +305,7 @@ func TestServerEndsWithinItsBound(t *testing.T) {
 	f := newFixture(t, 0, nil)
 	address, server := f.listening(nil)
 	waits := dial(t, address)
-	body := standin.Submission(f.issue(false))
+	body := fakelog.Submission(f.issue(false))
 	fmt.Fprintf(waits, "POST /ct/v1/add-chain HTTP/1.1\r\nHost: log\r\nContent-Length: %d\r\n\r\n%s", len(body), body)
 	for f.log.Figures().Queue == 0 {
 		time.Sleep(time.Millisecond)
@@ -327,7 +327,7 @@ func TestSubmissionsWaitLongerThanRequests(t *testing.T) {
 				testutil.Longest
 		})
 		address, _ := f.listening(nil)
-		body := standin.Submission(f.issue(false))
+		body := fakelog.Submission(f.issue(false))
 		connection := dial(t, address)
 		fmt.Fprintf(connection, "POST /ct/v1/add-chain HTTP/1.1\r\nHost: log\r\nConnection: close\r\nContent-Length: "+
 			"%d\r\n\r\n%s", len(body), body)
@@ -354,7 +354,7 @@ func TestSubmissionsWaitLongerThanRequests(t *testing.T) {
 func TestClientsThatGo(t *testing.T) {
 	f := newFixture(t, 0, nil)
 	address, _ := f.listening(nil)
-	body := standin.Submission(f.issue(false))
+	body := fakelog.Submission(f.issue(false))
 	connection := dial(t, address)
 	fmt.Fprintf(connection, "POST /ct/v1/add-chain HTTP/1.1\r\nHost: log\r\nContent-Length: %d\r\n\r\n%s",
 		len(body), body)
@@ -403,7 +403,7 @@ func TestClientsThatGoRingNoAlarm(t *testing.T) {
 }
 
 // writeKeyPair writes a new certificate and its key into a folder, and gives the certificate.
-func writeKeyPair(t testing.TB, folder string, authority *standin.Authority) []byte {
+func writeKeyPair(t testing.TB, folder string, authority *fakelog.Authority) []byte {
 	t.Helper()
 	certificate, key, err := authority.KeyPair()
 	if err != nil {

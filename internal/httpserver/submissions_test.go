@@ -15,7 +15,7 @@ import (
 
 	"wagtenib/bindings/go/wagtenib"
 	"wagtenib/internal/chains"
-	"wagtenib/internal/httpserver/standin"
+	"wagtenib/internal/httpserver/fakelog"
 	"wagtenib/internal/logapi"
 	"wagtenib/internal/tile"
 )
@@ -28,11 +28,11 @@ func TestPrecertificatesWithoutMemory(t *testing.T) {
 	checker := chains.NewChecker(f.checker.Roots(), chains.Rules{}, dry)
 	f.front = New(f.log, tile.NewProver(f.log.Object, 4), checker,
 		Options{Limits: DefaultLimits(), Lines: NewLines(f.lines)})
-	w := f.do("POST", "/ct/v1/add-pre-chain", standin.Submission(f.issue(true), f.authority.Root.Raw))
+	w := f.do("POST", "/ct/v1/add-pre-chain", fakelog.Submission(f.issue(true), f.authority.Root.Raw))
 	if w.Code != 503 || w.Header().Get("Retry-After") != "1" || !strings.Contains(w.Body.String(), `"busy"`) {
 		t.Errorf("%d %v %s", w.Code, w.Header(), w.Body)
 	}
-	if w := f.do("POST", "/ct/v1/add-chain", standin.Submission(f.issue(false), f.authority.Root.Raw)); w.Code != 200 {
+	if w := f.do("POST", "/ct/v1/add-chain", fakelog.Submission(f.issue(false), f.authority.Root.Raw)); w.Code != 200 {
 		t.Errorf("%d %s", w.Code, w.Body)
 	}
 }
@@ -47,7 +47,7 @@ func TestSubmissionsAreAnsweredWithTimestamps(t *testing.T) {
 		{"/ct/v1/add-chain", f.issue(false), f.checker.Certificate},
 		{"/ct/v1/add-pre-chain", f.issue(true), f.checker.Precertificate},
 	} {
-		w := f.do("POST", test.path, standin.Submission(test.der, f.authority.Root.Raw))
+		w := f.do("POST", test.path, fakelog.Submission(test.der, f.authority.Root.Raw))
 		if w.Code != 200 || w.Header().Get("Content-Type") != "application/json" ||
 			w.Header().Get("Cache-Control") != "no-store" {
 			t.Fatalf("%s: %d %v %s", test.path, w.Code, w.Header(), w.Body)
@@ -67,7 +67,7 @@ func TestSubmissionsAreAnsweredWithTimestamps(t *testing.T) {
 		if !bytes.Equal(told.Extensions, []byte{0, 0, 5, 0, 0, 0, 0, byte(number)}) {
 			t.Errorf("%s: extensions %x", test.path, told.Extensions)
 		}
-		if !f.verifies(standin.TimestampSigned(*entry, told.Timestamp, told.Extensions), told.Signature) ||
+		if !f.verifies(fakelog.TimestampSigned(*entry, told.Timestamp, told.Extensions), told.Signature) ||
 			len(told.ID) != 32 {
 			t.Errorf("%s: the signature isn't over the entry: %s", test.path, w.Body)
 		}
@@ -76,7 +76,7 @@ func TestSubmissionsAreAnsweredWithTimestamps(t *testing.T) {
 
 func TestChainsAreRefusedByName(t *testing.T) {
 	f := newFixture(t, 10*time.Millisecond, nil)
-	other, err := standin.NewAuthority("Another root")
+	other, err := fakelog.NewAuthority("Another root")
 	if err != nil {
 		t.Fatal(err)
 	}
@@ -102,7 +102,7 @@ func TestChainsAreRefusedByName(t *testing.T) {
 		{"is-precertificate", "add-chain", [][]byte{precertificate}},
 		{"no-poison", "add-pre-chain", [][]byte{certificate}},
 	} {
-		w := f.do("POST", "/ct/v1/"+test.path, standin.Submission(test.chain...))
+		w := f.do("POST", "/ct/v1/"+test.path, fakelog.Submission(test.chain...))
 		refused(t, test.name, w, 400, test.name)
 	}
 	if size := f.log.Figures().Entries; size != 0 {
@@ -138,7 +138,7 @@ func TestBytesByAddress(t *testing.T) {
 		f := newFixture(t, 5*time.Millisecond, func(o *Options) { o.Limits.WaitingBytes = int64(test.all) })
 		client, same := netip.MustParseAddr("2001:db8::1"), "[2001:db8::2:3]:7"
 		from := func(peer string) *httptest.ResponseRecorder {
-			r := httptest.NewRequest("POST", "/ct/v1/add-chain", bytes.NewReader(standin.Submission(f.issue(false))))
+			r := httptest.NewRequest("POST", "/ct/v1/add-chain", bytes.NewReader(fakelog.Submission(f.issue(false))))
 			r.RemoteAddr = peer
 			w := httptest.NewRecorder()
 			f.front.ServeHTTP(w, r)
@@ -165,7 +165,7 @@ func TestBytesByAddress(t *testing.T) {
 func TestTooLargeSaysTheBound(t *testing.T) {
 	f := newFixture(t, 10*time.Millisecond, nil)
 	f.log.Break(fmt.Errorf("%w: it has 131073 bytes, and may have 131072", logapi.ErrTooLarge))
-	w := f.do("POST", "/ct/v1/add-chain", standin.Submission(f.issue(false)))
+	w := f.do("POST", "/ct/v1/add-chain", fakelog.Submission(f.issue(false)))
 	if w.Code != 400 || !strings.Contains(w.Body.String(), "entry-too-large") ||
 		!strings.Contains(w.Body.String(), "it has 131073 bytes, and may have 131072") {
 		t.Errorf("%d %s", w.Code, w.Body)
@@ -175,7 +175,7 @@ func TestTooLargeSaysTheBound(t *testing.T) {
 // TestErrorsOfTheLog: an error of the log has its status, and a temporary one has Retry-After.
 func TestErrorsOfTheLog(t *testing.T) {
 	f := newFixture(t, 10*time.Millisecond, nil)
-	body := standin.Submission(f.issue(false))
+	body := fakelog.Submission(f.issue(false))
 	for _, test := range []struct {
 		err    error
 		status int
@@ -225,7 +225,7 @@ func TestFullQueue(t *testing.T) {
 	var all sync.WaitGroup
 	answers := make(chan *httptest.ResponseRecorder, 3)
 	for i := 0; i < 3; i++ {
-		body := standin.Submission(f.issue(false))
+		body := fakelog.Submission(f.issue(false))
 		all.Add(1)
 		go func() {
 			defer all.Done()
@@ -235,7 +235,7 @@ func TestFullQueue(t *testing.T) {
 	for f.log.Figures().Queue < 3 {
 		time.Sleep(time.Millisecond)
 	}
-	w := f.do("POST", "/ct/v1/add-chain", standin.Submission(f.issue(false)))
+	w := f.do("POST", "/ct/v1/add-chain", fakelog.Submission(f.issue(false)))
 	refused(t, "the fourth", w, 503, "busy")
 	if w.Header().Get("Retry-After") != "1" {
 		t.Error("it isn't told when to come again")
@@ -253,11 +253,11 @@ func TestFullQueue(t *testing.T) {
 // A submission that isn't answered within its time is refused, and one whose client goes takes no more room.
 func TestSubmissionsThatWait(t *testing.T) {
 	f := newFixture(t, 0, func(o *Options) { o.Limits.Submission = 30 * time.Millisecond })
-	w := f.do("POST", "/ct/v1/add-chain", standin.Submission(f.issue(false)))
+	w := f.do("POST", "/ct/v1/add-chain", fakelog.Submission(f.issue(false)))
 	refused(t, "late", w, 503, "late")
 	ctx, cancel := context.WithCancel(context.Background())
 	r := httptest.NewRequest("POST", "/ct/v1/add-chain", bytes.NewReader(
-		standin.Submission(f.issue(false)))).WithContext(ctx)
+		fakelog.Submission(f.issue(false)))).WithContext(ctx)
 	cancel()
 	w = httptest.NewRecorder()
 	f.front.ServeHTTP(w, r)

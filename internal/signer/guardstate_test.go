@@ -13,7 +13,7 @@ import (
 
 	"wagtenib/internal/stores"
 	"wagtenib/internal/testutil"
-	"wagtenib/internal/testutil/unsure"
+	"wagtenib/internal/testutil/unknownoutcome"
 )
 
 // TestStates starts signers with states that are missing or damaged.
@@ -48,7 +48,7 @@ func TestStates(t *testing.T) {
 	must(t, err)
 	_, err = g.SignHead(ctx, right.head(t, 9, 101), right.proof(t, 5, 9))
 	must(t, err)
-	full := &unsure.Register{Register: register(t, t.TempDir()), Every: 3, Fails: errors.New("a disk is full")}
+	full := &unknownoutcome.Register{Register: register(t, t.TempDir()), Every: 3, Fails: errors.New("a disk is full")}
 	_, err = NewGuarded(ctx, key, Guard{State: full, Create: true})
 	wants(t, err, full.Fails)
 	must(t, full.Register.Create(ctx, textOf(&first)+"\n"))
@@ -160,7 +160,7 @@ func orElse(one, other error) error {
 func TestFailedSwap(t *testing.T) {
 	t.Parallel()
 	ctx, key, right, fork := limited(t), newKey(t), listOf(t, 20, 20), listOf(t, 20, 3)
-	state := &unsure.Register{Register: register(t, t.TempDir()), Every: 3}
+	state := &unknownoutcome.Register{Register: register(t, t.TempDir()), Every: 3}
 	g, err := NewGuarded(ctx, key, Guard{State: state, Create: true})
 	must(t, err)
 	_, err = g.SignHead(ctx, right.head(t, 4, 100), nil)

@@ -1,4 +1,4 @@
-package standin
+package fakelog
 
 import (
 	"crypto/ecdsa"

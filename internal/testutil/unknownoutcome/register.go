@@ -1,5 +1,5 @@
-// Package unsure has a register that does not know the outcome of some of its swaps, for tests of its users.
-package unsure
+// Package unknownoutcome has a register that does not know the outcome of some of its swaps, for tests of its users.
+package unknownoutcome
 
 import (
 	"context"

@@ -1,6 +1,6 @@
-// Package standin helps to test a front. It has a log in memory, a CA, and a reader of tiles. It is not for serving a
+// Package fakelog helps to test a front. It has a log in memory, a CA, and a reader of tiles. It is not for serving a
 // log: it keeps everything in memory.
-package standin
+package fakelog
 
 import (
 	"context"
