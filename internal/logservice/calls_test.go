@@ -269,7 +269,12 @@ func TestCallsOfAStep(t *testing.T) {
 // counting counts what a signer is asked for.
 type counting struct {
 	signer.Signer
-	steps, timestamps atomic.Int64
+	lasts, steps, timestamps atomic.Int64
+}
+
+func (c *counting) Last(ctx context.Context) (*signer.Head, error) {
+	c.lasts.Add(1)
+	return c.Signer.Last(ctx)
 }
 
 func (c *counting) SignStep(ctx context.Context, step signer.Step) ([][]byte, error) {
@@ -283,7 +288,8 @@ func (c *counting) SignTimestamps(ctx context.Context, receipts []signer.Receipt
 }
 
 // TestStepsAreSignedAtOnce: the timestamps of each step are asked for in one request for the step, whatever the size of
-// the tree before it, and only a duplicate's in another one.
+// the tree before it, and only a duplicate's in another one. The signer's last head is asked for before the first head
+// that this node has signed, and not again.
 func TestStepsAreSignedAtOnce(t *testing.T) {
 	t.Parallel()
 	p, got := newPlace(t), &answers{}
@@ -292,8 +298,13 @@ func TestStepsAreSignedAtOnce(t *testing.T) {
 	config.Signer = asked
 	l := started(t, config)
 	const steps = 40
-	for i := range steps {
+	got.submit(t, l, 0, 1)
+	lasts := asked.lasts.Load()
+	for i := 1; i < steps; i++ {
 		got.submit(t, l, i, i+1)
+	}
+	if asked.lasts.Load() != lasts {
+		t.Errorf("the last head was asked for %d times more", asked.lasts.Load()-lasts)
 	}
 	if asked.steps.Load() != steps || asked.timestamps.Load() != 0 {
 		t.Errorf("%d steps were signed by %d requests for a step and %d others", steps, asked.steps.Load(),

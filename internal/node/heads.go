@@ -188,13 +188,18 @@ func (l *Loop) putHead(
 // maxAsked is how often the signer is asked again, since another node had it approve a head meanwhile.
 const maxAsked = 5
 
-// signedHead has a state's head signed, over a proof from the signer's last head.
+// signedHead has a state's head signed, over a proof from the signer's last head. That is the one that this node had it
+// sign before, unless the signer refuses: only then it is asked, since another node may have had a later one signed.
 func (l *Loop) signedHead(ctx context.Context, k *state, of step.Head, objects []step.Object) (Head, error) {
-	var signed []byte
+	lastHead, signed := l.last.signed, []byte(nil)
+	// If the signer does not answer, it may have approved the head.
+	l.last.signed = nil
 	for try := 0; ; try++ {
-		lastHead, err := l.config.Signer.Last(ctx)
-		if err != nil {
-			return Head{}, fmt.Errorf("node: the signer: %w", err)
+		var err error
+		if lastHead == nil {
+			if lastHead, err = l.config.Signer.Last(ctx); err != nil {
+				return Head{}, fmt.Errorf("node: the signer: %w", err)
+			}
 		}
 		var proof [][32]byte
 		if lastHead != nil && lastHead.Size < k.Size {
@@ -208,6 +213,10 @@ func (l *Loop) signedHead(ctx context.Context, k *state, of step.Head, objects [
 		if try+1 == maxAsked || !l.moved(ctx, lastHead, err) {
 			return Head{}, fmt.Errorf("node: the signer: a head of %d entries at %d ms: %w", k.Size, k.Timestamp, err)
 		}
+		lastHead = nil
+	}
+	if head := k.head(); l.config.Signer.IsGuarded() {
+		l.last.signed = &head
 	}
 	blob := binary.BigEndian.AppendUint32(nil, l.verifier.KeyHash())
 	blob = append(binary.BigEndian.AppendUint64(blob, k.Timestamp), signed...)

@@ -33,6 +33,8 @@ type last struct {
 	// from it.
 	published string
 	stepping  *decider.Command
+	// signed is the head that the signer signed last for this node, or nil if that is not known.
+	signed *signer.Head
 	// checkpoint is a head that the object checkpoint had, or nil.
 	checkpoint *Head
 	// unneeded are names of staged batches that may be deleted once the decider says so.
