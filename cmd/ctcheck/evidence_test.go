@@ -15,7 +15,7 @@ import (
 	"wagtenib/internal/testlog"
 	"wagtenib/internal/testutil"
 	"wagtenib/internal/watch"
-	"wagtenib/internal/watch/finding"
+	"wagtenib/internal/watch/namesearch"
 	"wagtenib/internal/watch/watchstore"
 )
 
@@ -74,7 +74,7 @@ func TestEvidenceOfAFork(t *testing.T) {
 		if kind == "tiled" {
 			of.Origin = log.Origin
 		}
-		store, err := watchstore.Open(t.TempDir(), watchstore.Options{Searcher: finding.NewSearcher(nil)})
+		store, err := watchstore.Open(t.TempDir(), watchstore.Options{Searcher: namesearch.NewSearcher(nil)})
 		must(t, err)
 		follower, err := watch.NewFollower(of, store, watch.Options{FromStart: true})
 		must(t, err)

@@ -22,7 +22,7 @@ import (
 	"wagtenib/internal/testutil"
 	"wagtenib/internal/watch"
 	"wagtenib/internal/watch/alert"
-	"wagtenib/internal/watch/finding"
+	"wagtenib/internal/watch/namesearch"
 	"wagtenib/internal/watch/watchstore"
 )
 
@@ -166,9 +166,9 @@ func TestCommandsWithoutAStore(t *testing.T) {
 // stored returns a store with a certificate that has hostile texts, and the names that it was made with.
 func stored(t *testing.T, hosts ...string) *watchstore.Store {
 	t.Helper()
-	name, err := finding.ParseName("example.org")
+	name, err := namesearch.ParseName("example.org")
 	must(t, err)
-	store, err := watchstore.Open(t.TempDir(), watchstore.Options{Searcher: finding.NewSearcher([]finding.Name{name})})
+	store, err := watchstore.Open(t.TempDir(), watchstore.Options{Searcher: namesearch.NewSearcher([]namesearch.Name{name})})
 	must(t, err)
 	t.Cleanup(func() { must(t, store.Close()) })
 	must(t, store.UseOutputs([]string{"<b>output</b>"}))

@@ -13,7 +13,7 @@ import (
 
 	"wagtenib/internal/testcert"
 	"wagtenib/internal/watch"
-	"wagtenib/internal/watch/finding"
+	"wagtenib/internal/watch/namesearch"
 )
 
 // FuzzSettings: a file of settings is refused as a usage fault, or it has names that can be written again, times within
@@ -38,7 +38,7 @@ func FuzzSettings(f *testing.F) {
 			return
 		}
 		for i, name := range s.names {
-			again, err := finding.ParseName(name.String())
+			again, err := namesearch.ParseName(name.String())
 			if err != nil || again != name || slices.Contains(s.names[:i], name) {
 				t.Fatalf("the name %q is read again as %q, or is there twice: %v", name, again, err)
 			}

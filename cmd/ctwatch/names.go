@@ -5,7 +5,7 @@ import (
 	"fmt"
 	"io"
 
-	"wagtenib/internal/watch/finding"
+	"wagtenib/internal/watch/namesearch"
 )
 
 var _ = addCommand("names", "FILE checks a watch list, and prints what it covers", runNames)
@@ -18,9 +18,9 @@ func runNames(_ context.Context, words []string, out io.Writer) error {
 	if err != nil {
 		return err
 	}
-	parse := finding.ParseList
+	parse := namesearch.ParseList
 	if *ofCertspotter {
-		parse = finding.ParseCertspotterList
+		parse = namesearch.ParseCertspotterList
 	}
 	names, err := readNames(words[0], parse)
 	if err != nil {

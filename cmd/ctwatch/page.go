@@ -17,7 +17,7 @@ import (
 
 	"wagtenib/internal/httpserver"
 	"wagtenib/internal/watch/alert"
-	"wagtenib/internal/watch/finding"
+	"wagtenib/internal/watch/namesearch"
 	"wagtenib/internal/watch/watchstore"
 )
 
@@ -170,7 +170,7 @@ func (h *pages) search(w http.ResponseWriter, r *http.Request) {
 		query.ValidAt = time.Now()
 	}
 	if c.Query != "" {
-		name, err := finding.ParseName(c.Query)
+		name, err := namesearch.ParseName(c.Query)
 		if err != nil {
 			c.Fault = alert.Safe(err.Error())
 			w.WriteHeader(http.StatusBadRequest)

@@ -14,7 +14,7 @@ import (
 	"time"
 
 	"wagtenib/internal/watch/alert"
-	"wagtenib/internal/watch/finding"
+	"wagtenib/internal/watch/namesearch"
 	"wagtenib/internal/watch/watchstore"
 )
 
@@ -38,7 +38,7 @@ func runQuery(_ context.Context, words []string, out io.Writer) error {
 	if err != nil {
 		return err
 	}
-	name, err := finding.ParseName(words[0])
+	name, err := namesearch.ParseName(words[0])
 	if err != nil {
 		return fmt.Errorf("%w: %w", errUsage, err)
 	}

@@ -18,7 +18,7 @@ import (
 	"wagtenib/internal/httpserver"
 	"wagtenib/internal/watch"
 	"wagtenib/internal/watch/alert"
-	"wagtenib/internal/watch/finding"
+	"wagtenib/internal/watch/namesearch"
 	"wagtenib/internal/watch/watchstore"
 )
 
@@ -133,11 +133,11 @@ func (s *settings) watch(ctx context.Context, out io.Writer, lines *httpserver.L
 }
 
 func (s *settings) storeOptions(wake func()) watchstore.Options {
-	var options []finding.Option
+	var options []namesearch.Option
 	if s.inBytes {
-		options = append(options, finding.WithBytes())
+		options = append(options, namesearch.WithBytes())
 	}
-	return watchstore.Options{Searcher: finding.NewSearcher(s.names, options...), Expected: s.expected,
+	return watchstore.Options{Searcher: namesearch.NewSearcher(s.names, options...), Expected: s.expected,
 		Unread:  watchstore.Unread(s.unread),
 		KeepAll: s.keepAll, Wake: wake}
 }

@@ -13,7 +13,7 @@ import (
 
 	"wagtenib/internal/settingsfile"
 	"wagtenib/internal/watch"
-	"wagtenib/internal/watch/finding"
+	"wagtenib/internal/watch/namesearch"
 	"wagtenib/internal/watch/watchstore"
 )
 
@@ -29,7 +29,7 @@ const defaultList = "https://www.gstatic.com/ct/log_list/v3/log_list.json"
 
 // settings are the values of the command line and of the file of settings.
 type settings struct {
-	names    []finding.Name
+	names    []namesearch.Name
 	folder   string
 	logs     logSettings
 	outputs  outputSettings
@@ -87,9 +87,9 @@ func (s *settings) define(flags *flag.FlagSet) {
 	flags.Func("name", "watched `name`: example.org covers all names below it, =example.org only that name. May be "+
 		"given several times", s.addName)
 	flags.Func("names", "`file` with watched names, one a line (ctwatch names FILE checks it)",
-		s.addNames(finding.ParseList))
+		s.addNames(namesearch.ParseList))
 	flags.Func("certspotter-watchlist", "`file` with watched names, as certspotter has it",
-		s.addNames(finding.ParseCertspotterList))
+		s.addNames(namesearch.ParseCertspotterList))
 	flags.StringVar(&s.folder, "folder", defaultFolder(), "`folder` of the store")
 	flags.StringVar(&s.logs.list, "log-list", "",
 		"`file or URL` of a log list (version 3), which is followed. The default is "+defaultList+", or none if --log "+
@@ -164,16 +164,16 @@ func (s *settings) validate() error {
 }
 
 func (s *settings) addName(text string) error {
-	name, err := finding.ParseName(text)
+	name, err := namesearch.ParseName(text)
 	if err != nil {
 		return err
 	}
-	s.add([]finding.Name{name})
+	s.add([]namesearch.Name{name})
 	return nil
 }
 
 // add adds names, each once.
-func (s *settings) add(names []finding.Name) {
+func (s *settings) add(names []namesearch.Name) {
 	for _, name := range names {
 		if !slices.Contains(s.names, name) {
 			s.names = append(s.names, name)
@@ -181,7 +181,7 @@ func (s *settings) add(names []finding.Name) {
 	}
 }
 
-func (s *settings) addNames(parse func(io.Reader) ([]finding.Name, error)) func(string) error {
+func (s *settings) addNames(parse func(io.Reader) ([]namesearch.Name, error)) func(string) error {
 	return func(path string) error {
 		names, err := readNames(path, parse)
 		if err != nil {
@@ -193,7 +193,7 @@ func (s *settings) addNames(parse func(io.Reader) ([]finding.Name, error)) func(
 }
 
 // readNames reads a watch list.
-func readNames(path string, parse func(io.Reader) ([]finding.Name, error)) ([]finding.Name, error) {
+func readNames(path string, parse func(io.Reader) ([]namesearch.Name, error)) ([]namesearch.Name, error) {
 	file, err := os.Open(path)
 	if err != nil {
 		return nil, err

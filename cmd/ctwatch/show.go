@@ -20,7 +20,7 @@ import (
 	"wagtenib/bindings/go/wagtenib"
 	"wagtenib/internal/watch"
 	"wagtenib/internal/watch/alert"
-	"wagtenib/internal/watch/finding"
+	"wagtenib/internal/watch/namesearch"
 )
 
 var _ = addCommand("show", "LOG INDEX prints an entry of a log, and checks that the log's tree has it", runShow)
@@ -129,12 +129,12 @@ func printEntry(log watch.Log, entry watch.Entry, out io.Writer) error {
 	if fault != nil {
 		shown.Fault = alert.Safe(fault.Error())
 	}
-	names, _ = finding.Once(names)
+	names, _ = namesearch.Once(names)
 	shown.NameCount = len(names)
 	for _, name := range names[:min(len(names), alert.MaxNames)] {
-		shown.Names = append(shown.Names, alert.Safe(finding.Text(name)))
+		shown.Names = append(shown.Names, alert.Safe(namesearch.Text(name)))
 	}
-	details := finding.ReadDetails(entry.Type, entry.Certificate)
+	details := namesearch.ReadDetails(entry.Type, entry.Certificate)
 	shown.Fields = alert.Fields{Subject: alert.Safe(details.Subject), Issuer: alert.Safe(details.Issuer),
 		SerialNumber: alert.Safe(details.SerialNumber), NotBefore: details.NotBefore, NotAfter: details.NotAfter,
 		KeySHA256: details.KeySHA256}

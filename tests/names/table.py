@@ -1,4 +1,4 @@
-"""Certificates with many kinds of names, made by python's `cryptography`, and a log of them, for beside.py. internal/watch/finding has the place of each name in them."""
+"""Certificates with many kinds of names, made by python's `cryptography`, and a log of them, for beside.py. internal/watch/namesearch has the place of each name in them."""
 import base64
 import dataclasses
 import datetime

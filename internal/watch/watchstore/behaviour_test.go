@@ -16,7 +16,7 @@ import (
 	"wagtenib/internal/testcert"
 	"wagtenib/internal/watch"
 	"wagtenib/internal/watch/alert"
-	"wagtenib/internal/watch/finding"
+	"wagtenib/internal/watch/namesearch"
 	"wagtenib/internal/watch/watchstore"
 )
 
@@ -330,7 +330,7 @@ func TestKeepsACertificateWithManyNames(t *testing.T) {
 		!strings.HasPrefix(line, "FOUND example.org: shop.example.org (100001 names)") {
 		t.Errorf("%.2000s", line)
 	}
-	name, err := finding.ParseName("=shop.example.org")
+	name, err := namesearch.ParseName("=shop.example.org")
 	must(t, err)
 	if found, err := store.Find(watchstore.Query{Name: &name, Limit: 9}); err != nil || len(found) != 1 {
 		t.Errorf("%d are found: %v", len(found), err)
@@ -356,7 +356,7 @@ func TestQueries(t *testing.T) {
 		"192.0.2.7":        {"192.0.2.7"},
 		"absent.example":   nil,
 	} {
-		name, err := finding.ParseName(word)
+		name, err := namesearch.ParseName(word)
 		must(t, err)
 		for at, want := range map[time.Time][]string{{}: want, time.Date(2027, 1, 1, 0, 0, 0, 0, time.UTC): want,
 			time.Date(2025, 1, 1, 0, 0, 0, 0, time.UTC): nil} {

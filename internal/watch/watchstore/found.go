@@ -9,7 +9,7 @@ import (
 	"wagtenib/bindings/go/wagtenib"
 	"wagtenib/internal/watch"
 	"wagtenib/internal/watch/alert"
-	"wagtenib/internal/watch/finding"
+	"wagtenib/internal/watch/namesearch"
 )
 
 // Expected names what an owner expects: a certificate with such a key, or of such an issuer, causes no alert. It is
@@ -20,7 +20,7 @@ type Expected struct {
 }
 
 // has reports whether a certificate is expected.
-func (e Expected) has(details finding.Details) bool {
+func (e Expected) has(details namesearch.Details) bool {
 	if details.KeySHA256 != "" && slices.Contains(e.Keys, details.KeySHA256) {
 		return true
 	}
@@ -36,8 +36,8 @@ func (e Expected) has(details finding.Details) bool {
 type found struct {
 	entry    *watch.Entry
 	issuance [32]byte
-	result   finding.Result
-	details  finding.Details
+	result   namesearch.Result
+	details  namesearch.Details
 	der      []byte // the certificate or precertificate, or the leaf if it cannot be read
 	tbs      []byte // of a precertificate: what the names are read from
 }
@@ -48,7 +48,7 @@ func (s *Store) search(entries []watch.Entry) ([]found, error) {
 	for i := range entries {
 		entry := &entries[i]
 		if entry.Fault != nil {
-			result := finding.Result{Fault: entry.Fault}
+			result := namesearch.Result{Fault: entry.Fault}
 			all = append(all, found{entry: entry, issuance: sha256.Sum256(entry.Leaf), result: result, der: entry.Leaf})
 			continue
 		}
@@ -63,10 +63,10 @@ func (s *Store) search(entries []watch.Entry) ([]found, error) {
 	return all, nil
 }
 
-func foundIn(entry *watch.Entry, result finding.Result) found {
+func foundIn(entry *watch.Entry, result namesearch.Result) found {
 	one := found{entry: entry, result: result, der: entry.Certificate}
-	one.issuance = finding.Issuance(entry.Type, entry.Certificate)
-	one.details = finding.ReadDetails(entry.Type, entry.Certificate)
+	one.issuance = namesearch.Issuance(entry.Type, entry.Certificate)
+	one.details = namesearch.ReadDetails(entry.Type, entry.Certificate)
 	if entry.Type == wagtenib.PrecertEntry {
 		one.tbs = entry.Certificate
 		if entry.Precertificate != nil {
@@ -98,7 +98,7 @@ func (s *Store) keepFound(w *writer, log watch.Log, one *found) error {
 }
 
 // alertTo stores the alert to an issuance, if it causes one and has none yet.
-func (s *Store) alertTo(w *writer, issuance int64, result finding.Result) error {
+func (s *Store) alertTo(w *writer, issuance int64, result namesearch.Result) error {
 	kind := alert.Found
 	switch {
 	case result.Fault != nil:
@@ -129,7 +129,7 @@ func (s *Store) keepIssuance(w *writer, one *found) (int64, error) {
 	}
 	details := one.details
 	// A certificate whose names cannot be read is never expected: nobody can say what it is for.
-	once, repeated := finding.Once(one.result.Names)
+	once, repeated := namesearch.Once(one.result.Names)
 	isExpected := fault == "" && s.options.Expected.has(details)
 	if _, err := w.exec(`insert into issuances (tbs_sha256, found, subject, issuer, serial_number, not_before,
 		not_after, key_sha256,
@@ -144,9 +144,9 @@ func (s *Store) keepIssuance(w *writer, one *found) (int64, error) {
 	}
 	// The names that repeat a text come last. They are searched and not shown.
 	for position, name := range append(once, repeated...) {
-		text := finding.Text(name)
+		text := namesearch.Text(name)
 		if _, err := w.exec("insert into names values (?, ?, ?, ?, ?)", id, position, int64(name.Kind), text,
-			hostKey(finding.Host(name))); err != nil {
+			hostKey(namesearch.Host(name))); err != nil {
 			return 0, err
 		}
 	}
@@ -163,7 +163,7 @@ func keepCertificate(w *writer, one *found, issuance int64) (int64, error) {
 	return id, err
 }
 
-func keepMatches(w *writer, issuance int64, result finding.Result, isFromStore bool) error {
+func keepMatches(w *writer, issuance int64, result namesearch.Result, isFromStore bool) error {
 	for _, match := range result.Matches {
 		hosts, err := json.Marshal(match.Name.Hosts(result.Names, alert.MaxNames))
 		if err != nil {

@@ -12,7 +12,7 @@ import (
 	"wagtenib/bindings/go/wagtenib"
 	"wagtenib/internal/watch"
 	"wagtenib/internal/watch/alert"
-	"wagtenib/internal/watch/finding"
+	"wagtenib/internal/watch/namesearch"
 )
 
 // ErrAbsent reports a certificate or evidence that the store does not have.
@@ -20,10 +20,10 @@ var ErrAbsent = errors.New("the store does not have it")
 
 // Query says which issuances are sought.
 type Query struct {
-	Name    *finding.Name // one that has this name, or covers it; nil for all
-	ValidAt time.Time     // one that is valid then; zero for all
-	Before  int64         // one that was stored before the issuance with this number; 0 for all
-	Limit   int           // at most so many
+	Name    *namesearch.Name // one that has this name, or covers it; nil for all
+	ValidAt time.Time        // one that is valid then; zero for all
+	Before  int64            // one that was stored before the issuance with this number; 0 for all
+	Limit   int              // at most so many
 }
 
 // Issuance is one that was found, with its number, and when it was stored.
@@ -71,7 +71,7 @@ func (s *Store) Find(q Query) ([]Issuance, error) {
 
 // nameCondition returns the condition of issuances with a name: the name itself, a wildcard over it, a name below it
 // unless it is exact, or a match that was stored for it.
-func nameCondition(name finding.Name) (string, []any) {
+func nameCondition(name namesearch.Name) (string, []any) {
 	text, isExact := strings.CutPrefix(name.String(), "=")
 	key := hostKey(text)
 	labels := strings.Split(key, ".")
@@ -192,7 +192,7 @@ func (s *Store) Counts() (Counts, error) {
 // searchAdded looks for names that were not watched before in the certificates that the store has.
 func (s *Store) searchAdded() error {
 	names := s.options.Searcher.Names()
-	var added []finding.Name
+	var added []namesearch.Name
 	for _, name := range names {
 		var known int
 		err := s.db.QueryRow("select 1 from watched where name = ?", name.String()).Scan(&known)
@@ -203,7 +203,7 @@ func (s *Store) searchAdded() error {
 		}
 	}
 	if len(added) > 0 {
-		if err := s.searchStored(finding.NewSearcher(added)); err != nil {
+		if err := s.searchStored(namesearch.NewSearcher(added)); err != nil {
 			return err
 		}
 	}
@@ -225,7 +225,7 @@ func (s *Store) searchAdded() error {
 const batchOfStored = 500
 
 // searchStored searches all certificates that the store has. A kill on the way loses nothing: the search begins again.
-func (s *Store) searchStored(searcher *finding.Searcher) error {
+func (s *Store) searchStored(searcher *namesearch.Searcher) error {
 	for last := int64(0); ; {
 		type stored struct {
 			id, issuance, entryType int64
@@ -267,7 +267,7 @@ func (s *Store) searchStored(searcher *finding.Searcher) error {
 }
 
 // isProved reports whether a place of a match is a verdict of the library.
-func isProved(place string) bool { return finding.Place(place).IsProved() }
+func isProved(place string) bool { return namesearch.Place(place).IsProved() }
 
 // Heads returns the newest heads of a log that were accepted, at most limit, the newest first.
 func (s *Store) Heads(id watch.LogID, limit int) ([]watch.Head, error) {

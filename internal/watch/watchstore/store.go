@@ -20,7 +20,7 @@ import (
 	"github.com/mattn/go-sqlite3"
 
 	"wagtenib/internal/watch"
-	"wagtenib/internal/watch/finding"
+	"wagtenib/internal/watch/namesearch"
 )
 
 // FileName is the name of the store in its folder.
@@ -54,7 +54,7 @@ const (
 
 // Options are how a store searches and what it reports.
 type Options struct {
-	Searcher *finding.Searcher
+	Searcher *namesearch.Searcher
 	Expected Expected
 	Unread   Unread           // UnreadAll if it is empty
 	KeepAll  bool             // certificates without a watched name are stored too
@@ -117,7 +117,7 @@ func open(path string, options Options, mode string) (*Store, error) {
 		options.Now = time.Now
 	}
 	if options.Searcher == nil {
-		options.Searcher = finding.NewSearcher(nil)
+		options.Searcher = namesearch.NewSearcher(nil)
 	}
 	if options.Wake == nil {
 		options.Wake = func() {}

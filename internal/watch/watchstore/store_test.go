@@ -10,7 +10,7 @@ import (
 	"wagtenib/internal/testcert"
 	"wagtenib/internal/watch"
 	"wagtenib/internal/watch/alert"
-	"wagtenib/internal/watch/finding"
+	"wagtenib/internal/watch/namesearch"
 	"wagtenib/internal/watch/watchstore"
 )
 
@@ -36,16 +36,16 @@ func logOf(number byte) watch.Log {
 }
 
 // searcher returns a searcher for names, which must be right ones.
-func searcher(names ...string) *finding.Searcher {
-	var watched []finding.Name
+func searcher(names ...string) *namesearch.Searcher {
+	var watched []namesearch.Name
 	for _, name := range names {
-		one, err := finding.ParseName(name)
+		one, err := namesearch.ParseName(name)
 		if err != nil {
 			panic(err)
 		}
 		watched = append(watched, one)
 	}
-	return finding.NewSearcher(watched)
+	return namesearch.NewSearcher(watched)
 }
 
 func open(t testing.TB, folder string, options watchstore.Options) *watchstore.Store {

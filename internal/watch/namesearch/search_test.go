@@ -1,4 +1,4 @@
-package finding_test
+package namesearch_test
 
 import (
 	"crypto/sha256"
@@ -12,7 +12,7 @@ import (
 
 	"wagtenib/bindings/go/wagtenib"
 	"wagtenib/internal/testcert"
-	"wagtenib/internal/watch/finding"
+	"wagtenib/internal/watch/namesearch"
 )
 
 // The string types of ASN.1 (X.680, section 8.4).
@@ -54,15 +54,15 @@ type row struct {
 	what                     string
 	subject                  pkix.Name
 	names                    []testcert.Name
-	below, alone, otherwords finding.Place
+	below, alone, otherwords namesearch.Place
 }
 
 const (
-	no      = finding.Place("")
-	san     = finding.InAltName
-	cn      = finding.InCommonName
-	likeSAN = finding.LikeAltName
-	likeCN  = finding.LikeCommon
+	no      = namesearch.Place("")
+	san     = namesearch.InAltName
+	cn      = namesearch.InCommonName
+	likeSAN = namesearch.LikeAltName
+	likeCN  = namesearch.LikeCommon
 )
 
 // rows are those of the table beside certspotter (tests/names/beside.py). certspotter 0.16 reports each one that has a
@@ -125,7 +125,7 @@ func rows() []row {
 func TestFindsEachName(t *testing.T) {
 	authority := testcert.NewAuthority(t)
 	watched := parseAll(t, "example.org", "=www.example.org", "bücher.example")
-	searcher := finding.NewSearcher(watched)
+	searcher := namesearch.NewSearcher(watched)
 	for _, row := range rows() {
 		one := authority.IssueNames(row.subject, row.names...)
 		for entryType, der := range map[wagtenib.EntryType][]byte{wagtenib.X509Entry: one.Certificate.Raw,
@@ -134,14 +134,14 @@ func TestFindsEachName(t *testing.T) {
 			if err != nil || result.Fault != nil {
 				t.Fatalf("%s: %v %v", row.what, err, result.Fault)
 			}
-			got := map[finding.Name]finding.Place{}
+			got := map[namesearch.Name]namesearch.Place{}
 			for _, match := range result.Matches {
 				got[match.Name] = match.Place
 				if hosts := match.Name.Hosts(result.Names, 20); len(hosts) != 1 {
 					t.Errorf("%s, type %d: %q is in the names %q", row.what, entryType, match.Name, hosts)
 				}
 			}
-			for i, want := range []finding.Place{row.below, row.alone, row.otherwords} {
+			for i, want := range []namesearch.Place{row.below, row.alone, row.otherwords} {
 				if got[watched[i]] != want {
 					t.Errorf("%s, type %d: %q is found %q, and not %q", row.what, entryType, watched[i],
 						got[watched[i]], want)
@@ -160,21 +160,21 @@ func TestFindsAddresses(t *testing.T) {
 		what    string
 		subject pkix.Name
 		names   []testcert.Name
-		found   []finding.Match
+		found   []namesearch.Match
 	}{
-		{"four octets", pkix.Name{}, alt(testcert.Address, "\xc0\x00\x02\x07"), []finding.Match{{Name: watched[0],
+		{"four octets", pkix.Name{}, alt(testcert.Address, "\xc0\x00\x02\x07"), []namesearch.Match{{Name: watched[0],
 			Place: san}}},
-		{"sixteen octets", pkix.Name{}, alt(testcert.Address, six), []finding.Match{{Name: watched[1], Place: san}}},
+		{"sixteen octets", pkix.Name{}, alt(testcert.Address, six), []namesearch.Match{{Name: watched[1], Place: san}}},
 		{"three octets", pkix.Name{}, alt(testcert.Address, "\xc0\x00\x02"), nil},
-		{"a URI", pkix.Name{}, alt(testcert.URI, "https://192.0.2.7:8443/"), []finding.Match{{Name: watched[0],
+		{"a URI", pkix.Name{}, alt(testcert.URI, "https://192.0.2.7:8443/"), []namesearch.Match{{Name: watched[0],
 			Place: san}}},
 		{"a URI with brackets", pkix.Name{}, alt(testcert.URI, "https://[2001:DB8:0::1]:8443/x"),
-			[]finding.Match{{Name: watched[1], Place: likeSAN}}},
-		{"a common name", pkix.Name{CommonName: "192.0.2.7"}, nil, []finding.Match{{Name: watched[0], Place: cn}}},
+			[]namesearch.Match{{Name: watched[1], Place: likeSAN}}},
+		{"a common name", pkix.Name{CommonName: "192.0.2.7"}, nil, []namesearch.Match{{Name: watched[0], Place: cn}}},
 		{"a longer address", pkix.Name{CommonName: "192.0.2.77"}, dns("1.192.0.2.7"), nil},
 	} {
 		one := authority.IssueNames(test.subject, test.names...)
-		result, err := finding.NewSearcher(watched).Search(wagtenib.X509Entry, one.Certificate.Raw)
+		result, err := namesearch.NewSearcher(watched).Search(wagtenib.X509Entry, one.Certificate.Raw)
 		if err != nil || result.Fault != nil || !slices.Equal(result.Matches, test.found) {
 			t.Errorf("%s: %v %v %v", test.what, result.Matches, result.Fault, err)
 		}
@@ -188,12 +188,12 @@ func TestSearchesBytesOnlyIfAsked(t *testing.T) {
 		dns("other.net")...)
 	watched := parseAll(t, "example.org", "absent.example")
 	for _, test := range []struct {
-		searcher *finding.Searcher
-		want     []finding.Match
+		searcher *namesearch.Searcher
+		want     []namesearch.Match
 	}{
-		{finding.NewSearcher(watched), nil},
-		{finding.NewSearcher(watched, finding.WithBytes()), []finding.Match{{Name: watched[0],
-			Place: finding.InBytes}}},
+		{namesearch.NewSearcher(watched), nil},
+		{namesearch.NewSearcher(watched, namesearch.WithBytes()), []namesearch.Match{{Name: watched[0],
+			Place: namesearch.InBytes}}},
 	} {
 		result, err := test.searcher.Search(wagtenib.X509Entry, one.Certificate.Raw)
 		if err != nil || !slices.Equal(result.Matches, test.want) {
@@ -207,9 +207,9 @@ func TestReportsUnreadNames(t *testing.T) {
 	one := testcert.NewAuthority(t).Issue("www.example.org")
 	watched := parseAll(t, "example.org", "absent.example")
 	cut := one.Certificate.Raw[:len(one.Certificate.Raw)-1]
-	result, err := finding.NewSearcher(watched).Search(wagtenib.X509Entry, cut)
+	result, err := namesearch.NewSearcher(watched).Search(wagtenib.X509Entry, cut)
 	if err != nil || result.Fault == nil || result.Names != nil || !slices.Equal(result.Matches,
-		[]finding.Match{{Name: watched[0], Place: finding.InBytes}}) {
+		[]namesearch.Match{{Name: watched[0], Place: namesearch.InBytes}}) {
 		t.Errorf("%+v %v", result, err)
 	}
 }
@@ -218,15 +218,15 @@ func TestReportsUnreadNames(t *testing.T) {
 // exact name, and for both spellings of a name with letters beyond ASCII.
 func TestSearchesBytesForEachWord(t *testing.T) {
 	watched := parseAll(t, "192.0.2.7", "=www.example.org", "bücher.example", "absent.example")
-	for text, want := range map[string][]finding.Match{
-		"http://192.0.2.7/":     {{Name: watched[0], Place: finding.InBytes}},
-		"WWW.Example.ORG":       {{Name: watched[1], Place: finding.InBytes}},
-		"xn--BCHER-kva.example": {{Name: watched[2], Place: finding.InBytes}},
-		"bücher.EXAMPLE":        {{Name: watched[2], Place: finding.InBytes}},
+	for text, want := range map[string][]namesearch.Match{
+		"http://192.0.2.7/":     {{Name: watched[0], Place: namesearch.InBytes}},
+		"WWW.Example.ORG":       {{Name: watched[1], Place: namesearch.InBytes}},
+		"xn--BCHER-kva.example": {{Name: watched[2], Place: namesearch.InBytes}},
+		"bücher.EXAMPLE":        {{Name: watched[2], Place: namesearch.InBytes}},
 		"www.example.or":        nil,
 		"":                      nil,
 	} {
-		result, err := finding.NewSearcher(watched).Search(wagtenib.X509Entry, []byte(text))
+		result, err := namesearch.NewSearcher(watched).Search(wagtenib.X509Entry, []byte(text))
 		if err != nil || result.Fault == nil || !slices.Equal(result.Matches, want) {
 			t.Errorf("%q: %+v %v", text, result, err)
 		}
@@ -241,7 +241,7 @@ func TestFindsTheLastOfManyNames(t *testing.T) {
 	}
 	one := testcert.NewAuthority(t).Issue(append(hosts, "shop.example.org")...)
 	watched := parseAll(t, "example.org")
-	result, err := finding.NewSearcher(watched).Search(wagtenib.PrecertEntry, one.TBS)
+	result, err := namesearch.NewSearcher(watched).Search(wagtenib.PrecertEntry, one.TBS)
 	if err != nil || len(result.Matches) != 1 || len(result.Names) != len(hosts)+1 {
 		t.Fatalf("%d matches, %d names, %v", len(result.Matches), len(result.Names), err)
 	}
@@ -259,7 +259,7 @@ func TestShowsTheFirstHosts(t *testing.T) {
 	}
 	one := testcert.NewAuthority(t).Issue(append([]string{"other.net"}, hosts...)...)
 	watched := parseAll(t, "example.org")
-	result, err := finding.NewSearcher(watched).Search(wagtenib.X509Entry, one.Certificate.Raw)
+	result, err := namesearch.NewSearcher(watched).Search(wagtenib.X509Entry, one.Certificate.Raw)
 	if err != nil || !slices.Equal(watched[0].Hosts(result.Names, 20), hosts[:20]) ||
 		!slices.Equal(watched[0].Hosts(result.Names, 100), hosts) {
 		t.Errorf("%q %v", watched[0].Hosts(result.Names, 20), err)
@@ -276,7 +276,7 @@ func TestShowsTheHostOfALongName(t *testing.T) {
 		"a BMPString":       authority.IssueNames(testcert.CommonName(bmpString, bmp(long+".www.example.org"))),
 		"a UniversalString": authority.IssueNames(testcert.CommonName(universalString, universal(long+".www.example.org"))),
 	} {
-		result, err := finding.NewSearcher(watched).Search(wagtenib.X509Entry, one.Certificate.Raw)
+		result, err := namesearch.NewSearcher(watched).Search(wagtenib.X509Entry, one.Certificate.Raw)
 		if err != nil || len(result.Matches) != 1 || result.Matches[0].Name != watched[0] {
 			t.Fatalf("%s: %v %v", what, result.Matches, err)
 		}
@@ -294,8 +294,8 @@ func TestShowsTheHostOfALongName(t *testing.T) {
 func TestIssuanceIsOfBoth(t *testing.T) {
 	authority := testcert.NewAuthority(t)
 	one := authority.Issue("www.example.org")
-	certificate, precertificate := finding.Issuance(wagtenib.X509Entry, one.Certificate.Raw),
-		finding.Issuance(wagtenib.PrecertEntry, one.TBS)
+	certificate, precertificate := namesearch.Issuance(wagtenib.X509Entry, one.Certificate.Raw),
+		namesearch.Issuance(wagtenib.PrecertEntry, one.TBS)
 	if certificate != precertificate {
 		t.Error("a certificate and its precertificate are two issuances")
 	}
@@ -304,14 +304,14 @@ func TestIssuanceIsOfBoth(t *testing.T) {
 	}
 	// Another dNSName of the same length changes nothing else.
 	changed := []byte(strings.Replace(string(one.Certificate.Raw), "www.example.org", "xxx.example.org", 1))
-	if finding.Issuance(wagtenib.X509Entry, changed) == certificate {
+	if namesearch.Issuance(wagtenib.X509Entry, changed) == certificate {
 		t.Error("a certificate for another name is the same issuance")
 	}
 	plain := testcert.NewAuthority(t).Issue("www.example.org").Precertificate
-	if finding.Issuance(wagtenib.X509Entry, plain.Raw) != sha256.Sum256(plain.RawTBSCertificate) {
+	if namesearch.Issuance(wagtenib.X509Entry, plain.Raw) != sha256.Sum256(plain.RawTBSCertificate) {
 		t.Error("without SCTs the issuance is not the hash of the TBSCertificate")
 	}
-	if finding.Issuance(wagtenib.X509Entry, []byte("x")) != sha256.Sum256([]byte("x")) {
+	if namesearch.Issuance(wagtenib.X509Entry, []byte("x")) != sha256.Sum256([]byte("x")) {
 		t.Error("bytes that are no certificate have no issuance")
 	}
 }
@@ -323,7 +323,7 @@ func TestReadsDetails(t *testing.T) {
 	key := sha256.Sum256(one.Certificate.RawSubjectPublicKeyInfo)
 	for entryType, der := range map[wagtenib.EntryType][]byte{wagtenib.X509Entry: one.Certificate.Raw,
 		wagtenib.PrecertEntry: one.TBS} {
-		details := finding.ReadDetails(entryType, der)
+		details := namesearch.ReadDetails(entryType, der)
 		if details.Subject != one.Certificate.Subject.ToRDNSequence().String() ||
 			details.Issuer != one.Certificate.Issuer.ToRDNSequence().String() {
 			t.Errorf("type %d: subject %q, issuer %q", entryType, details.Subject, details.Issuer)
@@ -341,11 +341,11 @@ func TestReadsDetails(t *testing.T) {
 	}
 }
 
-func parseAll(t testing.TB, words ...string) []finding.Name {
+func parseAll(t testing.TB, words ...string) []namesearch.Name {
 	t.Helper()
-	var names []finding.Name
+	var names []namesearch.Name
 	for _, word := range words {
-		name, err := finding.ParseName(word)
+		name, err := namesearch.ParseName(word)
 		if err != nil {
 			t.Fatal(err)
 		}
@@ -356,11 +356,11 @@ func parseAll(t testing.TB, words ...string) []finding.Name {
 
 // BenchmarkSearch searches a certificate with three names of others for 1,000 watched names.
 func BenchmarkSearch(b *testing.B) {
-	var watched []finding.Name
+	var watched []namesearch.Name
 	for i := range 1000 {
 		watched = append(watched, parseAll(b, fmt.Sprintf("h%d.example.org", i))...)
 	}
-	searcher := finding.NewSearcher(watched)
+	searcher := namesearch.NewSearcher(watched)
 	one := testcert.NewAuthority(b).Issue("www.other.net", "*.other.net", "other.example")
 	for b.Loop() {
 		if result, err := searcher.Search(wagtenib.X509Entry, one.Certificate.Raw); err != nil || len(result.Matches) > 0 {
@@ -378,7 +378,7 @@ func FuzzSearch(f *testing.F) {
 		f.Add(true, one.TBS)
 		f.Add(false, one.Certificate.Raw)
 	}
-	searcher := finding.NewSearcher(parseAll(f, "example.org", "=www.example.org", "bücher.example", "192.0.2.7"))
+	searcher := namesearch.NewSearcher(parseAll(f, "example.org", "=www.example.org", "bücher.example", "192.0.2.7"))
 	f.Fuzz(func(t *testing.T, isPrecertificate bool, der []byte) {
 		entryType := wagtenib.X509Entry
 		if isPrecertificate {
@@ -393,8 +393,8 @@ func FuzzSearch(f *testing.F) {
 				t.Errorf("%s is found %s, and in no name of %q", match.Name, match.Place, result.Names)
 			}
 		}
-		finding.ReadDetails(entryType, der)
-		if finding.Issuance(entryType, der) != finding.Issuance(entryType, slices.Clone(der)) {
+		namesearch.ReadDetails(entryType, der)
+		if namesearch.Issuance(entryType, der) != namesearch.Issuance(entryType, slices.Clone(der)) {
 			t.Error("one certificate has two issuances")
 		}
 	})

@@ -1,8 +1,8 @@
-// Package finding searches certificates for the names that an owner watches.
+// Package namesearch searches certificates for the names that an owner watches.
 //
 // The proved library decides which names of a certificate a watched name covers (RFC 9525, section 6.3). This package
 // reads the watched names, and adds the readings that the library does not have: they are marked in what is found.
-package finding
+package namesearch
 
 import (
 	"errors"

@@ -1,4 +1,4 @@
-package finding
+package namesearch
 
 import (
 	"crypto/sha256"

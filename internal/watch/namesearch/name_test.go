@@ -1,4 +1,4 @@
-package finding_test
+package namesearch_test
 
 import (
 	"bytes"
@@ -6,7 +6,7 @@ import (
 	"strings"
 	"testing"
 
-	"wagtenib/internal/watch/finding"
+	"wagtenib/internal/watch/namesearch"
 )
 
 // TestParsesNames: each word of a watch list is read as the page says, and reads again as itself.
@@ -29,12 +29,12 @@ func TestParsesNames(t *testing.T) {
 		"a-b.1-2.example.org":       "a-b.1-2.example.org",
 		"=\tmail.sub.example.org\t": "=mail.sub.example.org",
 	} {
-		name, err := finding.ParseName(word)
+		name, err := namesearch.ParseName(word)
 		if err != nil || name.String() != want {
 			t.Errorf("%q: %q %v", word, name, err)
 			continue
 		}
-		if again, err := finding.ParseName(name.String()); err != nil || again != name {
+		if again, err := namesearch.ParseName(name.String()); err != nil || again != name {
 			t.Errorf("%q reads again as %+v %v", name, again, err)
 		}
 	}
@@ -71,8 +71,8 @@ func TestRefusesNames(t *testing.T) {
 		strings.Repeat("a.", 127) + "b": "at most 253",
 		"\xff.example.org":              "as in DNS",
 	} {
-		name, err := finding.ParseName(word)
-		if !errors.Is(err, finding.ErrName) || !strings.Contains(err.Error(), remedy) {
+		name, err := namesearch.ParseName(word)
+		if !errors.Is(err, namesearch.ErrName) || !strings.Contains(err.Error(), remedy) {
 			t.Errorf("%q: %q %v, and not %q", word, name, err, remedy)
 		}
 	}
@@ -80,29 +80,29 @@ func TestRefusesNames(t *testing.T) {
 
 // TestReadsLists: comments and empty lines do not count, a name counts once, and each wrong line is named.
 func TestReadsLists(t *testing.T) {
-	names, err := finding.ParseList(strings.NewReader("\ufeff# names\r\n\r\nexample.org\r\n =www.example.net " +
+	names, err := namesearch.ParseList(strings.NewReader("\ufeff# names\r\n\r\nexample.org\r\n =www.example.net " +
 		"\nexample.org.\n"))
 	if err == nil {
 		t.Errorf("a byte order mark is read as a name: %v", names)
 	}
-	names, err = finding.ParseList(strings.NewReader("# names\r\n\r\nexample.org\r\n =www.example.net " +
+	names, err = namesearch.ParseList(strings.NewReader("# names\r\n\r\nexample.org\r\n =www.example.net " +
 		"\nexample.org.\n"))
 	if err != nil || len(names) != 2 || names[0].String() != "example.org" || names[1].String() != "=www.example.net" {
 		t.Errorf("%v %v", names, err)
 	}
-	_, err = finding.ParseList(strings.NewReader("*.a.example\nok.example\nhttps://b.example/"))
+	_, err = namesearch.ParseList(strings.NewReader("*.a.example\nok.example\nhttps://b.example/"))
 	for _, part := range []string{"line 1", "write a.example", "line 3", "write its host: b.example"} {
 		if err == nil || !strings.Contains(err.Error(), part) {
 			t.Errorf("%v does not say %q", err, part)
 		}
 	}
 	for _, empty := range []string{"", "# nothing\n"} {
-		if _, err := finding.ParseList(strings.NewReader(empty)); err == nil || !strings.Contains(err.Error(),
+		if _, err := namesearch.ParseList(strings.NewReader(empty)); err == nil || !strings.Contains(err.Error(),
 			"there is no name") {
 			t.Errorf("%q: %v", empty, err)
 		}
 	}
-	if _, err := finding.ParseList(strings.NewReader(strings.Repeat("a", 1<<17))); err == nil {
+	if _, err := namesearch.ParseList(strings.NewReader(strings.Repeat("a", 1<<17))); err == nil {
 		t.Error("a line without end is read")
 	}
 }
@@ -110,7 +110,7 @@ func TestReadsLists(t *testing.T) {
 // TestReadsListsOfCertspotter: a dot in front covers what is below a name, no dot is the exact name, and a date may
 // follow (certspotter(8), WATCH LIST).
 func TestReadsListsOfCertspotter(t *testing.T) {
-	names, err := finding.ParseCertspotterList(strings.NewReader("# mine\nexample.org\n.example.net " +
+	names, err := namesearch.ParseCertspotterList(strings.NewReader("# mine\nexample.org\n.example.net " +
 		"valid_at:2026-01-02\nbücher.example\n.\n"))
 	want := []string{"=example.org", "example.net", "=xn--bcher-kva.example", "."}
 	if err != nil || len(names) != len(want) {
@@ -125,7 +125,7 @@ func TestReadsListsOfCertspotter(t *testing.T) {
 		t.Error("a dot is every certificate")
 	}
 	for _, line := range []string{"example.org valid_at:yesterday", "example.org other", "*.example.org"} {
-		if _, err := finding.ParseCertspotterList(strings.NewReader(line)); !errors.Is(err, finding.ErrName) {
+		if _, err := namesearch.ParseCertspotterList(strings.NewReader(line)); !errors.Is(err, namesearch.ErrName) {
 			t.Errorf("%q: %v", line, err)
 		}
 	}
@@ -142,17 +142,17 @@ func FuzzLists(f *testing.F) {
 		f.Add([]byte(text), false)
 	}
 	f.Fuzz(func(t *testing.T, content []byte, ofCertspotter bool) {
-		parse := finding.ParseList
+		parse := namesearch.ParseList
 		if ofCertspotter {
-			parse = finding.ParseCertspotterList
+			parse = namesearch.ParseCertspotterList
 		}
 		names, err := parse(bytes.NewReader(content))
 		if err != nil {
 			return
 		}
-		seen := map[finding.Name]bool{}
+		seen := map[namesearch.Name]bool{}
 		for _, name := range names {
-			again, err := finding.ParseName(name.String())
+			again, err := namesearch.ParseName(name.String())
 			if !name.IsEverything() && (err != nil || again != name) || seen[name] || name.Covers() == "" {
 				t.Fatalf("the name %q is read again as %q, or is there twice: %v", name, again, err)
 			}
@@ -161,6 +161,6 @@ func FuzzLists(f *testing.F) {
 		if len(names) == 0 {
 			t.Fatal("no name, and no error")
 		}
-		finding.NewSearcher(names)
+		namesearch.NewSearcher(names)
 	})
 }
