@@ -3,7 +3,7 @@
 # That ctserve asks four programs of proved code, each over pipes: cttile, ctnode, ctguard and ctproof. Commit 197a39a1 keeps the code of these, which
 # is the same as in 9802f24a, as assembly, so that a C compiler builds them (a proof of 9802f24a takes 42 minutes of a processor). Debian's packages of Go libraries, which the service
 # needs, are downloaded by apt and unpacked in FOLDER. Nothing is installed. Go is the one that builds today's service (deps/).
-set -eu
+set -eu -o pipefail
 here=$(cd "$(dirname "$0")/.." && pwd)
 [ $# = 1 ] || { echo "old.sh FOLDER" >&2; exit 1; }
 mkdir -p "$1/packages" "$1/libraries" "$1/gopath/src/wagtenib" "$1/out"
