@@ -20,9 +20,11 @@ type Forwarder interface {
 // steps.
 const maxForwards = 3
 
-// submit has a submission taken, by this node or by another one, and answered.
-func (f *Front) submit(ctx context.Context, w http.ResponseWriter, r *http.Request, client netip.Addr, entry logapi.Entry,
-	body []byte) error {
+// submit has a submission taken, by this node or by another one, and answered. The node that takes it must check its
+// chain: the holder of a node's certificate may submit, and not more. So the node that forwards it checks nothing.
+func (f *Front) submit(ctx context.Context, w http.ResponseWriter, r *http.Request, client netip.Addr, body []byte,
+	check check) error {
+	var entry *logapi.Entry
 	for tries := 0; ; tries++ {
 		if f.options.Forward == nil || tries == maxForwards {
 			ctx = logapi.Forwarded(ctx)
@@ -39,7 +41,17 @@ func (f *Front) submit(ctx context.Context, w http.ResponseWriter, r *http.Reque
 				ctx = logapi.Forwarded(ctx)
 			}
 		}
-		place, err := f.log.Submit(ctx, entry)
+		if entry == nil {
+			var err error
+			if entry, err = f.checked(ctx, body, check); err != nil {
+				return err
+			}
+		}
+		if logapi.IsForwarded(ctx) {
+			// (the entry has its own bytes)
+			body = nil
+		}
+		place, err := f.log.Submit(ctx, *entry)
 		if errors.Is(err, logapi.ErrElsewhere) && tries < maxForwards {
 			continue
 		}

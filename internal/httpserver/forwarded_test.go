@@ -1,6 +1,7 @@
 package httpserver
 
 import (
+	"errors"
 	"net/http"
 	"net/http/httptest"
 	"net/netip"
@@ -11,11 +12,18 @@ import (
 	"wagtenib/internal/logapi"
 )
 
-// elsewhereAlways is a Forwarder to a node that answers everything. It counts what it gets.
-type elsewhereAlways struct{ got int }
+// elsewhereAlways is a Forwarder to a node that answers everything, or nothing because of an error. It counts what it
+// gets.
+type elsewhereAlways struct {
+	got int
+	err error
+}
 
 func (e *elsewhereAlways) Forward(w http.ResponseWriter, _ *http.Request, _ netip.Addr, _ []byte) (bool, error) {
 	e.got++
+	if e.err != nil {
+		return false, e.err
+	}
 	w.WriteHeader(http.StatusTeapot)
 	return true, nil
 }
@@ -37,6 +45,39 @@ func TestForwardsOnce(t *testing.T) {
 		of.handler.ServeHTTP(w, httptest.NewRequest(http.MethodPost, "/ct/v1/add-chain", strings.NewReader(body)))
 		if w.Code != of.status || other.got != of.forwarded {
 			t.Errorf("%d %s, and %d submissions were forwarded", w.Code, w.Body, other.got)
+		}
+	}
+}
+
+// TestTakerChecks: the node that takes a submission checks its chain, also if another node has forwarded it, or does not
+// answer. A node that forwards one leaves its refusal to the other one.
+func TestTakerChecks(t *testing.T) {
+	other := &elsewhereAlways{}
+	f := newFixture(t, 0, func(o *Options) { o.Forward = other })
+	stranger, err := fakelog.NewAuthority("Another root")
+	if err != nil {
+		t.Fatal(err)
+	}
+	unknown, err := stranger.Issue(false, ends)
+	if err != nil {
+		t.Fatal(err)
+	}
+	for body, refusal := range map[string]string{"no JSON": "no-submission",
+		string(fakelog.Submission(unknown)): "unknown-root"} {
+		submits := func(to http.Handler) *httptest.ResponseRecorder {
+			w := httptest.NewRecorder()
+			to.ServeHTTP(w, httptest.NewRequest(http.MethodPost, "/ct/v1/add-chain", strings.NewReader(body)))
+			return w
+		}
+		other.got, other.err = 0, nil
+		if w := submits(f.front); w.Code != http.StatusTeapot || other.got != 1 {
+			t.Errorf("%s: %d %s, and %d submissions were forwarded", refusal, w.Code, w.Body, other.got)
+		}
+		refused(t, "forwarded", submits(f.front.Nodes()), http.StatusBadRequest, refusal)
+		other.err = errors.New("it does not answer")
+		refused(t, "not answered elsewhere", submits(f.front), http.StatusBadRequest, refusal)
+		if size := f.log.Figures().Entries; size != 0 {
+			t.Errorf("%s: the log has %d entries", refusal, size)
 		}
 	}
 }

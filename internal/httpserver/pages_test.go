@@ -23,8 +23,9 @@ func TestPageSaysBounds(t *testing.T) {
 	testutil.Says(t, page, map[string]bool{
 		"| connections of clients | 4,096 | 64 |": limits.Connections == 4096 &&
 			most == 64,
-		"Addresses of IPv6 count together if they are in the same /64":              group.Bits() == 64,
-		"| connections of operators | 64 | | | connections of other nodes | 64 | |": maxOfOthers == 64,
+		"Addresses of IPv6 count together if they are in the same /64": group.Bits() == 64,
+		"| connections of operators | 64 | | | connections of other nodes | 4,096 | |": maxOfOthers == 64 &&
+			maxOfNodes == 4096,
 		"| headers of a request | 16 KiB | | | body of a request | 1 MiB | |": MaxHeader == 16<<10 &&
 			MaxBody == 1<<20,
 		"| proofs that are made at once | 64 | a quarter |": limits.ProofsByAddress == 64/4,

@@ -30,7 +30,10 @@ func (f *Front) addPreChain(w http.ResponseWriter, r *http.Request) error {
 	return f.add(w, r, f.checker.Precertificate)
 }
 
-func (f *Front) add(w http.ResponseWriter, r *http.Request, check func([][]byte) (*chains.Entry, error)) error {
+// check checks a chain, and makes an entry of it.
+type check func(chain [][]byte) (*chains.Entry, error)
+
+func (f *Front) add(w http.ResponseWriter, r *http.Request, check check) error {
 	if f.ending.Load() {
 		return refusal{status: http.StatusServiceUnavailable, name: "ended", after: 10, closes: true}
 	}
@@ -48,15 +51,7 @@ func (f *Front) add(w http.ResponseWriter, r *http.Request, check func([][]byte)
 	}
 	ctx, cancel := context.WithTimeout(r.Context(), f.limits.Submission)
 	defer cancel()
-	entry, err := f.checked(ctx, body, check)
-	if err != nil {
-		return err
-	}
-	if f.options.Forward == nil || logapi.IsForwarded(ctx) {
-		// (the entry has its own bytes)
-		body = nil
-	}
-	return f.submit(ctx, w, r, client, *entry, body)
+	return f.submit(ctx, w, r, client, body, check)
 }
 
 func timestampOf(place logapi.Place) signedTimestamp {
@@ -109,8 +104,7 @@ func (f *Front) body(r *http.Request, client netip.Addr) (body []byte, taken int
 }
 
 // checked makes an entry of a submission. Only so many are checked at once.
-func (f *Front) checked(ctx context.Context, body []byte, check func([][]byte) (*chains.Entry,
-	error)) (*chains.Entry, error) {
+func (f *Front) checked(ctx context.Context, body []byte, check check) (*chains.Entry, error) {
 	select {
 	case f.uses.checks <- struct{}{}:
 	case <-ctx.Done():
