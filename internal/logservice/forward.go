@@ -7,12 +7,11 @@ import (
 	"errors"
 	"fmt"
 	"io"
-	stdlog "log"
 	"net"
 	"net/http"
-	"net/http/httputil"
 	"net/netip"
 	"net/url"
+	"strconv"
 	"sync"
 	"time"
 
@@ -25,9 +24,11 @@ const (
 	dialWithin, handshakeWithin, forwardWithin = time.Second, 2 * time.Second, 10 * time.Second
 	// awayFor is for how long a node does all itself after another one did not answer.
 	awayFor = 2 * time.Second
-	// maxIdle is how many connections to another node are kept, and maxOpen how many there are. Further requests wait
-	// for one.
-	maxIdle, maxOpen = 256, 1024
+	// maxOpen is how many connections to another node there are. Further requests wait for one. All are kept for a while:
+	// clients are answered together, and submit together again.
+	maxOpen = 1024
+	// maxAnswer is how many bytes an answer may have.
+	maxAnswer = 64 << 10
 	// dateHeader has a node's clock when it answers (RFC 9110, section 6.6.1).
 	dateHeader = "Date"
 )
@@ -37,7 +38,6 @@ const (
 type Forwarder struct {
 	log       *Log
 	transport *http.Transport
-	proxy     *httputil.ReverseProxy
 
 	mu sync.Mutex
 	// awayUntil is until when nothing is forwarded to a node that did not answer, by Elapsed.
@@ -56,29 +56,12 @@ func (l *Log) Forward(over *tls.Config) *Forwarder {
 	f.transport = &http.Transport{
 		TLSClientConfig: over, TLSHandshakeTimeout: handshakeWithin, ResponseHeaderTimeout: forwardWithin,
 		DialContext:     (&net.Dialer{Timeout: dialWithin}).DialContext,
-		IdleConnTimeout: time.Minute, MaxIdleConnsPerHost: maxIdle, MaxConnsPerHost: maxOpen,
-	}
-	f.proxy = &httputil.ReverseProxy{
-		Rewrite: f.rewrite, Transport: f.transport, ModifyResponse: f.look, ErrorLog: stdlog.New(io.Discard, "", 0),
-		ErrorHandler: func(_ http.ResponseWriter, r *http.Request, err error) { forwardedIn(r).err = err },
+		IdleConnTimeout: time.Minute, MaxIdleConnsPerHost: maxOpen, MaxConnsPerHost: maxOpen, DisableCompression: true,
 	}
 	ask := f.askTime
 	l.running.ask.Store(&ask)
 	return f
 }
-
-// forwarded is one request that is forwarded.
-type forwarded struct {
-	to     *url.URL
-	client netip.Addr
-	// asked is when, by Elapsed, and err why it is not answered.
-	asked time.Duration
-	err   error
-}
-
-type forwardedKey struct{}
-
-func forwardedIn(r *http.Request) *forwarded { return r.Context().Value(forwardedKey{}).(*forwarded) }
 
 // leader returns the URL of the node that makes the steps, or nil if no other one does.
 func (f *Forwarder) leader() (*url.URL, error) {
@@ -105,48 +88,62 @@ func (f *Forwarder) Forward(w http.ResponseWriter, r *http.Request, client netip
 	if err != nil || to == nil {
 		return false, err
 	}
-	of := &forwarded{to: to, client: client, asked: f.log.config.Machine.Of.Elapsed()}
-	ctx, cancel := context.WithTimeout(context.WithValue(r.Context(), forwardedKey{}, of), forwardWithin)
+	answer, content, err := f.submit(r.Context(), to, r.URL.Path, client, body)
+	if err != nil {
+		if r.Context().Err() == nil {
+			f.mu.Lock()
+			f.awayUntil = map[string]time.Duration{f.log.node.Leader(): f.log.config.Machine.Of.Elapsed() + awayFor}
+			f.mu.Unlock()
+		}
+		return false, err
+	}
+	f.log.counts.forwarded.Add(1)
+	for _, name := range []string{"Content-Type", "Cache-Control", "Retry-After"} {
+		if values := answer.Header[name]; len(values) > 0 {
+			w.Header()[name] = values
+		}
+	}
+	w.Header().Set("Content-Length", strconv.Itoa(len(content)))
+	w.WriteHeader(answer.StatusCode)
+	// (a write that fails concerns only the client)
+	_, _ = w.Write(content)
+	return true, nil
+}
+
+// submit submits a body to another node, and returns its answer with the content. The client's address is the only
+// X-Forwarded-For. An answer that is not whole, or is of 500 or more, is an error: this node takes the submission itself.
+func (f *Forwarder) submit(ctx context.Context, to *url.URL, path string, client netip.Addr,
+	body []byte) (answer *http.Response, content []byte, err error) {
+	ctx, cancel := context.WithTimeout(ctx, forwardWithin)
 	defer cancel()
-	out := r.Clone(ctx)
-	out.Body, out.ContentLength = io.NopCloser(bytes.NewReader(body)), int64(len(body))
-	f.proxy.ServeHTTP(w, out)
-	if of.err == nil {
-		f.log.counts.forwarded.Add(1)
-		return true, nil
+	request, err := http.NewRequestWithContext(ctx, http.MethodPost, "https://"+to.Host+path, bytes.NewReader(body))
+	if err != nil {
+		return nil, nil, fmt.Errorf("serve: forward: %w", err)
 	}
-	if r.Context().Err() == nil {
-		f.mu.Lock()
-		f.awayUntil = map[string]time.Duration{f.log.node.Leader(): f.log.config.Machine.Of.Elapsed() + awayFor}
-		f.mu.Unlock()
+	request.Header = http.Header{"Content-Type": {"application/json"}, "X-Forwarded-For": {client.String()}}
+	asked := f.log.config.Machine.Of.Elapsed()
+	if answer, err = f.transport.RoundTrip(request); err != nil {
+		return nil, nil, fmt.Errorf("serve: forward: %w", err)
 	}
-	return false, of.err
-}
-
-// rewrite makes the request to the other node. The client's address is the only X-Forwarded-For.
-func (f *Forwarder) rewrite(r *httputil.ProxyRequest) {
-	of := forwardedIn(r.In)
-	r.SetURL(of.to)
-	r.Out.Header.Set("X-Forwarded-For", of.client.String())
-}
-
-// look keeps the time of the other node's answer. An answer of 500 or more is none: this node takes the submission
-// itself.
-func (f *Forwarder) look(answer *http.Response) error {
-	f.hearTime(answer, forwardedIn(answer.Request))
+	defer answer.Body.Close()
+	f.hearTime(answer, to, asked)
 	if answer.StatusCode >= http.StatusInternalServerError {
-		return fmt.Errorf("serve: the node that makes the steps answers %s", answer.Status)
+		return nil, nil, fmt.Errorf("serve: the node that makes the steps answers %s", answer.Status)
 	}
-	// The front sets these itself.
-	for _, name := range []string{dateHeader, "X-Content-Type-Options"} {
-		answer.Header.Del(name)
+	content, err = io.ReadAll(io.LimitReader(answer.Body, maxAnswer+1))
+	if err == nil && len(content) > maxAnswer {
+		err = fmt.Errorf("its answer has more than %d bytes", maxAnswer)
 	}
-	return nil
+	if err != nil {
+		return nil, nil, fmt.Errorf("serve: forward: %w", err)
+	}
+	return answer, content, nil
 }
 
-func (f *Forwarder) hearTime(answer *http.Response, of *forwarded) {
+// hearTime keeps the time of another node's answer. asked is when, by Elapsed, it was asked.
+func (f *Forwarder) hearTime(answer *http.Response, of *url.URL, asked time.Duration) {
 	if at, err := http.ParseTime(answer.Header.Get(dateHeader)); err == nil {
-		f.log.sources.hearNode(of.to.Host, at, of.asked)
+		f.log.sources.hearNode(of.Host, at, asked)
 	}
 }
 
@@ -163,14 +160,14 @@ func (f *Forwarder) askTime(ctx context.Context) {
 	if err != nil {
 		return
 	}
-	of := &forwarded{to: to, asked: f.log.config.Machine.Of.Elapsed()}
+	asked := f.log.config.Machine.Of.Elapsed()
 	answer, err := f.transport.RoundTrip(request)
 	if err != nil {
 		return
 	}
 	// The answer to HEAD has no body, so closing it cannot fail in a way that matters.
 	_ = answer.Body.Close()
-	f.hearTime(answer, of)
+	f.hearTime(answer, to, asked)
 }
 
 // Close closes the connections that are kept.

@@ -110,3 +110,30 @@ func TestWaitingSubmissionMoves(t *testing.T) {
 	wants(t, <-movable, logapi.ErrElsewhere)
 	must(t, <-own)
 }
+
+// An answer that breaks off is none: nothing of it is written, so this node takes the submission itself.
+func TestForwardOfBrokenAnswer(t *testing.T) {
+	t.Parallel()
+	p, o := newPlace(t), newOtherNode(t)
+	breaks := httptest.NewTLSServer(http.HandlerFunc(func(w http.ResponseWriter, _ *http.Request) {
+		w.Header().Set("Content-Length", "100")
+		w.Write([]byte("a part of"))
+		w.(http.Flusher).Flush()
+		panic(http.ErrAbortHandler)
+	}))
+	t.Cleanup(breaks.Close)
+	o.Server = breaks
+	config := p.config()
+	config.Address = "https://192.0.2.1"
+	l := started(t, config)
+	f := l.Forward(o.over())
+	defer f.Close()
+	p.leads(t, l, breaks.URL)
+	eventually(t, "the answer breaks off", func() bool {
+		isAnswered, text, err := forwards(f)
+		if isAnswered || text != "" {
+			t.Fatalf("a part of an answer is passed on: %q", text)
+		}
+		return err != nil
+	})
+}
