@@ -65,8 +65,8 @@ case $what in
     done
     go test ./internal/tile -run '^$' -fuzz '^FuzzRead$' -fuzztime "${1:-60}s" -fuzzminimizetime 1s -parallel "${PROCESSORS:-2}"
     # (what ctwatch reads: certificates, watch lists, answers of logs, log lists, and settings)
-    for target in finding/FuzzSearch finding/FuzzLists alert/FuzzSafe watchstore/FuzzKeep watch/FuzzLogAnswers loglist/FuzzParse; do
-      go test "./internal/${target%/*}" -run '^$' -fuzz "^${target#*/}\$" -fuzztime "${1:-60}s" -fuzzminimizetime 1s -parallel "${PROCESSORS:-2}"
+    for target in watch/namesearch/FuzzSearch watch/namesearch/FuzzLists watch/alert/FuzzSafe watch/watchstore/FuzzKeep watch/FuzzLogAnswers watch/loglist/FuzzParse; do
+      go test "./internal/${target%/*}" -run '^$' -fuzz "^${target##*/}\$" -fuzztime "${1:-60}s" -fuzzminimizetime 1s -parallel "${PROCESSORS:-2}"
     done
     go test ./cmd/ctwatch -run '^$' -fuzz '^FuzzSettings$' -fuzztime "${1:-60}s" -fuzzminimizetime 1s -parallel "${PROCESSORS:-2}"
     # (each decoder of libwagtenib)
