@@ -13,7 +13,6 @@ import sys
 import typing
 
 from source import CRATES, ROOT, closing, crates, is_for_tests
-from specs import START, body_below, cases
 
 PAGES = ROOT / "docs" / "checking"
 # A generated part, with what it is: a contract, as the file below crates/, the function and the names of its clauses; or the definitions.
@@ -42,6 +41,8 @@ class Text(typing.NamedTuple):
     scope: dict
 
 
+# A definition's first line. An indented one belongs to a module's block. There a line that starts with only `pub` is a field.
+START = re.compile(r"(?:(?:unfoldable |abbrev )*pub|^ +(?:unfoldable |abbrev )+pub) (record |data )?(?!mod\b|use\b)(\S+)")
 USE = re.compile(r"\buse Rattle\.(\w+)\.specs\.([\w.]+)\.\{([^}]*)\}")
 WORD = re.compile(r"[A-Za-z_]\w*")
 
@@ -65,6 +66,19 @@ def scope_of(text, crate):
             else:
                 scope[name] = ("word", owner, name, module.split(".")[0])
     return scope
+
+
+def body_below(lines, at):
+    """Returns the lines of the definition that starts at a line, including that line."""
+    end = at + 1
+    while end < len(lines) and lines[end].strip() and not re.match(r" *--", lines[end]):
+        end += 1
+    return lines[at:end]
+
+
+def cases(kind, body):
+    """Returns the names of a data type's cases."""
+    return re.findall(r"^ +(\w+) :", "\n".join(body[1:]), re.M) if kind == "data" else []
 
 
 @functools.lru_cache(None)
