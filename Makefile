@@ -133,7 +133,7 @@ programs: ## proves and builds ctlog and libwagtenib, and builds the service: wh
 release: ## puts what is built into release/out: a tarball, Debian packages, SHA256SUMS and what they are made of
 	@PYTHONDONTWRITEBYTECODE=1 release/release.py --built "$(BUILT)"
 
-# As root, with mmdebstrap. A program in Python replaces ctlog if ctlog is not built.
+# As root, with mmdebstrap. If ctlog is not built, the packages have a program in its place that only says so.
 bare: ## makes a release's packages, installs them on a bare Debian, and runs the lines of docs/OPERATING.md there as they stand
 	@checks/needs.sh service
 	@PYTHONDONTWRITEBYTECODE=1 tests/bare/bare.py --built "$(BUILT)"
