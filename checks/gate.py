@@ -41,7 +41,7 @@ MEMORY = 4_000_000_000
 
 # The scripts that run after the proofs, over what these have built, with their arguments (make sweep refuses each allocation).
 SCRIPTS = [
-    *("tests/command_lines.py", "tests/sessions.py", "tests/sweep.py --step 40", "checks/dist.py"),
+    *("tests/command_lines.py", "tests/sessions.py", "tests/memory.py ctlog --step 40", "checks/dist.py"),
     *(f"tests/library/{name}.py" for name in ("guard", "step", "witness", "monitor", "node", "names", "data_tiles", "texts", "proofs")),
     *(f"tests/library/{name}.py" for name in ("refusals", "cost", "replays", "rust", "sha_instructions", "arm64")),
     *("bindings/python/tests/compare.py", "tests/linear.py", "examples/demo.sh path", "examples/demo.sh log"),
