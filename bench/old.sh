@@ -1,5 +1,5 @@
 #!/usr/bin/env bash
-# Builds the service of commit 9802f24a, for speed.py and peers.py --before: old.sh FOLDER builds it in FOLDER/out.
+# Builds the service of commit 9802f24a, for peers.py --before: old.sh FOLDER builds it in FOLDER/out.
 # That ctserve asks four programs of proved code, each over pipes: cttile, ctnode, ctguard and ctproof. Commit 197a39a1 keeps the code of these, which
 # is the same as in 9802f24a, as assembly, so that a C compiler builds them (a proof of 9802f24a takes 42 minutes of a processor). Debian's packages of Go libraries, which the service
 # needs, are downloaded by apt and unpacked in FOLDER. Nothing is installed. Go is the one that builds today's service (deps/).

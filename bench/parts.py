@@ -18,8 +18,7 @@ import subprocess
 import tempfile
 
 import engines
-from served import HERE, OUT, Log, below, load, machine, run, size_of
-from speed import Ideal
+from served import OUT, Ideal, Log, below, load, machine, run, size_of
 
 # The parts, by the names of functions of any of the calls, from the innermost on; the first that fits counts.
 PARTS = [(name, re.compile(pattern)) for name, pattern in (
@@ -95,9 +94,7 @@ def of_engines(words, work):
 
 def of_folders(work):
     """A log of ctserve and one of ideal."""
-    program = work / "program"
-    run(HERE.parent / "deps" / "go", "-C", HERE.parent, "build", "-o", program, "./bench/ideal")
-    return {"ctserve": Log(work / "ctserve", OUT), "ideal": Ideal(work / "ideal", program)}
+    return {"ctserve": Log(work / "ctserve", OUT), "ideal": Ideal(work / "ideal")}
 
 
 def main():

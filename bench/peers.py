@@ -1,16 +1,18 @@
 #!/usr/bin/env python3
-"""Times ctserve beside CTFE over Trillian and MariaDB, by turns, on loopback: the same loader, the same chains (bench/peers.md).
+"""Times ctserve beside other logs, by turns, on loopback: the same loader, the same chains (bench/peers.md).
 
-    peers.py fetch FOLDER                  has apt fetch what is needed of Debian 13 and of this machine's Debian, and builds it in FOLDER
-    peers.py FOLDER [--turns 2] [--seconds 12] [--clients 16,64,256,1024] [--settle 0] [--before NAME=OUT] [--plot PAGE]
+    peers.py [--turns 2] [--seconds 12] [--clients 16,64,256,1024] [--settle 0] [--before NAME=OUT] [--plot PAGE] [FOLDER]
+    peers.py fetch FOLDER                  has apt fetch CTFE and Trillian of Debian 13 and MariaDB of this machine's Debian, and builds them in FOLDER
 
-Nothing is installed: everything is put into FOLDER. With only FOLDER it makes a log of CTFE, one of ctserve and one of bench/ideal, and has ctload submit
-to each in turn, in each turn with so many clients for so many seconds. It prints the machine, and of each turn timestamps a second, the median and 99th percentile of the time to one, the processor time
-of the log's processes an entry until a signed head has all of them, the bytes that they wrote to the disk, and how many processors others had meanwhile; then the ratios of ctserve to each other log, which are medians of the turns' ratios; then what
-each log's files and processes take. With --settle it looks at
-the files once more after so many seconds, when temporary files are gone. With --before a log of another build of ctserve is among them by that name, which is in OUT (bench/old.sh).
-With --plot it writes the medians to a page, docs/plots/peers.md say, and draws the plot beside it (bench/plot.py peers).
-ctload has made its submissions before it sends the first. `make service` builds ctserve and ctload.
+It makes a log of ctserve and one of bench/ideal, which is the least that a log costs, and with FOLDER one of CTFE over Trillian and MariaDB. It has ctload submit to each in turn,
+in each turn with so many clients for so many seconds. It prints the machine, and of each turn timestamps a second, the median and 99th percentile of the time to one, the processor time
+of the log's processes an entry until a signed head has all of them, the bytes that they wrote to the disk, and how many processors others had meanwhile; then the ratios of ctserve to each
+other log, which are medians of the turns' ratios; then what each log's files and processes take. On a machine that does other work, only the ratios and the processor time count. With
+--settle it looks at the files once more after so many seconds, when temporary files are gone. With --before a log of another build of ctserve is among them by that name, which is in
+OUT (bench/old.sh). With --plot it writes the medians to a page, docs/plots/peers.md say, and draws the plot beside it (bench/plot.py peers).
+
+The kernel counts the bytes that a process has written (write_bytes in /proc/PID/io). It counts too many for a database with a file of some GB, of which it writes large pages. ctload has
+made its submissions before it sends the first. `make service` builds ctserve and ctload. Nothing is installed: everything is put into FOLDER.
 """
 import argparse
 import os
@@ -23,8 +25,7 @@ import sys
 import tempfile
 import time
 
-from served import HERE, Log, disk_used, free_port, listens, machine, memory, ratio, run, size_of, stop, turn, until
-from speed import Ideal
+from served import HERE, Ideal, Log, disk_used, free_port, listens, machine, memory, ratio, run, size_of, stop, turn, until
 
 SUITE, GO = "trixie", "golang-1.24-go"
 WANTED = ["golang-github-google-trillian-dev", "golang-github-google-certificate-transparency-dev", GO]
@@ -248,15 +249,14 @@ def page(told, turns, path):
 def measure(folder, words):
     with tempfile.TemporaryDirectory(dir=os.environ.get("TMPDIR")) as work:
         work, logs, turns = pathlib.Path(work), {}, {}
-        ideal = work / "program"
-        run(HERE.parent / "deps" / "go", "-C", HERE.parent, "build", "-trimpath", "-o", ideal, "./bench/ideal")
         try:
             logs["ctserve"] = Log(work / "one")
             if words.before:
                 name, _, out = words.before.rpartition("=")
                 logs[name or "ctserve before"] = Log(work / "three", out=pathlib.Path(out).resolve())
-            logs["ideal"] = Ideal(work / "ideal", ideal)
-            logs["CTFE over Trillian"] = Ctfe(work / "ctfe", folder)
+            logs["ideal"] = Ideal(work / "ideal")
+            if folder:
+                logs["CTFE over Trillian"] = Ctfe(work / "ctfe", folder)
             began = {name: (size_of(log), disk_used(log.stored())) for name, log in logs.items()}
             told_of = f"{words.turns} turns of {words.seconds} s on {machine()}"
             print(f"{told_of}; a load of {os.getloadavg()[0]:.1f} before\n", flush=True)
@@ -291,7 +291,7 @@ def told(logs, began, when):
 
 def main():
     parser = argparse.ArgumentParser(description=__doc__, formatter_class=argparse.RawDescriptionHelpFormatter)
-    parser.add_argument("words", nargs="+", metavar="FOLDER")
+    parser.add_argument("words", nargs="*", metavar="FOLDER")
     parser.add_argument("--turns", type=int, default=2)
     parser.add_argument("--seconds", type=int, default=12)
     parser.add_argument("--clients", default="16,64,256,1024")
@@ -299,10 +299,10 @@ def main():
     parser.add_argument("--before")
     parser.add_argument("--plot", type=pathlib.Path)
     words = parser.parse_args()
-    folder = pathlib.Path(words.words[-1]).resolve()
+    folder = pathlib.Path(words.words[-1]).resolve() if words.words else None
     if len(words.words) == 2 and words.words[0] == "fetch":
         fetch(folder)
-    elif len(words.words) == 1 and (folder / "bin" / "ct_server").exists():
+    elif not folder or len(words.words) == 1 and (folder / "bin" / "ct_server").exists():
         measure(folder, words)
     else:
         sys.exit(__doc__)

@@ -194,6 +194,36 @@ class Log:
         self.process.wait()
 
 
+class Ideal:
+    """A log of bench/ideal in a folder, which is made, with the program beside it."""
+
+    def __init__(self, folder):
+        folder.mkdir()
+        program = folder / "ideal"
+        run(HERE.parent / "deps" / "go", "-C", HERE.parent, "build", "-trimpath", "-o", program, "./bench/ideal")
+        self.folder, self.roots, port, key, said = folder, folder / "roots.pem", free_port(), folder / "log.key", folder / "ideal.log"
+        run("openssl", "ecparam", "-name", "prime256v1", "-genkey", "-noout", "-out", key)
+        run("openssl", "req", "-x509", "-key", key, "-subj", "/CN=a root", "-days", 30, "-out", self.roots)
+        self.url = f"http://127.0.0.1:{port}"
+        with said.open("w") as to:
+            self.process = subprocess.Popen([program, "--folder", folder / "log", "--key", key, "--roots", self.roots, "--listen", f"127.0.0.1:{port}"], stdout=to, stderr=subprocess.STDOUT)
+        until(lambda: listens(port), "ideal doesn't listen", self.process, said)
+
+    def reload(self):
+        """The command that has it read its roots again."""
+        return f"kill -HUP {self.process.pid}"
+
+    def ids(self):
+        return [self.process.pid]
+
+    def stored(self):
+        return self.folder / "log"
+
+    def end(self):
+        self.process.send_signal(signal.SIGTERM)
+        self.process.wait()
+
+
 def load(log, clients, *words):
     """The results of ctload for a log: timestamps, over how many seconds, and the median and 99th percentile of the time to one, in seconds."""
     command = [OUT / "ctload", "--nodes", getattr(log, "urls", log.url), "--roots", log.roots, "--answers", log.folder / "answers", "--repeats", 0, "--clients", clients, "--reload", log.reload()]
@@ -225,7 +255,7 @@ class Turn(typing.NamedTuple):
 def turn(log, clients, seconds, ready):
     """Has ctload submit to a log, which makes so many submissions before it begins. What an entry cost counts until a signed head has all of them."""
     had, before, wrote = size_of(log), {one: processor_time(one) for one in log.ids()}, written(*log.ids())
-    began, busy, own = time.monotonic(), busy_time(), sum(before.values())
+    began, busy = time.monotonic(), busy_time()
     loader = sum(os.times()[2:4])
     count, took, middle, high, again = load(log, clients, "--for", f"{seconds}s", "--ready", ready)
     loader = sum(os.times()[2:4]) - loader

@@ -1,24 +1,24 @@
 #!/usr/bin/env python3
-"""The pages below docs/checking/, one for each claim of the README, for a reader who checks the proof. They are made from the sources.
+"""Makes the generated parts of the pages below docs/checking/, one page for each claim of the README, for a reader who checks the proof.
 
     checking.py [--write]
 
-A page has the claim, its premises, the public contracts as they are in the source, and the text of all definitions that these reach by their imports, leaves
-first (claims.py). The script prints each page that differs from the generated one, and then ends with status 1. With --write it writes them.
-checks/definitions.py runs it too.
+The text of a page is written by hand: the claim, its premises, and what each contract says. A pair of comments encloses a public contract as it is in the source, with the clauses that
+the first comment names, or all of them. After the contracts, such a pair encloses the text of all definitions that these reach by their imports, leaves first. The script prints each
+page that differs from the generated one, and then ends with status 1. With --write it writes them. checks/definitions.py runs it too.
 """
 import functools
 import re
 import sys
 import typing
 
-from claims import CLAIMS
 from source import CRATES, ROOT, closing, crates, is_for_tests
-from specs import START, body_below, cases
 
 PAGES = ROOT / "docs" / "checking"
-MADE = "<!-- Made by checks/checking.py --write: the claims. -->"
-END = "<!-- Made until here. -->"
+# A generated part, with what it is: a contract, as the file below crates/, the function and the names of its clauses; or the definitions.
+PART = re.compile(r"<!-- Made by checks/checking\.py --write: ([^\n]*)\. -->\n.*?<!-- Made until here\. -->", re.S)
+CONTRACT = re.compile(r"crates/(\S+), ([\w:]+)(?: \(([\w, ]+)\))?")
+DEFINITIONS = "the definitions"
 
 # A recursion with a bound, which no reader must follow: the laws that are its equations.
 BY_EQUATIONS = {
@@ -41,6 +41,8 @@ class Text(typing.NamedTuple):
     scope: dict
 
 
+# A definition's first line. An indented one belongs to a module's block. There a line that starts with only `pub` is a field.
+START = re.compile(r"(?:(?:unfoldable |abbrev )*pub|^ +(?:unfoldable |abbrev )+pub) (record |data )?(?!mod\b|use\b)(\S+)")
 USE = re.compile(r"\buse Rattle\.(\w+)\.specs\.([\w.]+)\.\{([^}]*)\}")
 WORD = re.compile(r"[A-Za-z_]\w*")
 
@@ -64,6 +66,19 @@ def scope_of(text, crate):
             else:
                 scope[name] = ("word", owner, name, module.split(".")[0])
     return scope
+
+
+def body_below(lines, at):
+    """Returns the lines of the definition that starts at a line, including that line."""
+    end = at + 1
+    while end < len(lines) and lines[end].strip() and not re.match(r" *--", lines[end]):
+        end += 1
+    return lines[at:end]
+
+
+def cases(kind, body):
+    """Returns the names of a data type's cases."""
+    return re.findall(r"^ +(\w+) :", "\n".join(body[1:]), re.M) if kind == "data" else []
 
 
 @functools.lru_cache(None)
@@ -155,6 +170,8 @@ def contract(file, function, clauses):
     if owner:
         begin = re.search(rf"^impl\b[^{{;]*\b{owner}\b[^{{;]*\{{\n(?=.*?\bfn {name}\b)", text, re.M | re.S).start()
     head = re.search(rf"^ *pub (?:const |extern \"C\" )?fn {name}\b", text[begin:], re.M)
+    if not head:
+        sys.exit(f"checks/checking.py: {file} has no public function {function}")
     at = begin + head.start()
     first = text.index("(", at)
     place, parts, kept = closing(text, first), [], []
@@ -208,26 +225,37 @@ def listed(names):
     return ", ".join(f"`{name}`" for name in names)
 
 
-def page(claim):
-    """Returns the page of a claim: the claim, its premises, its contracts with their meanings, and all definitions that these reach, leaves first."""
-    found = [contract(each.file, each.function, each.clauses) for each in claim.contracts]
-    texts = reached([key for _, keys in found for key in keys], set())
+def definitions_of(keys, page):
+    """Returns the text after the contracts of a page: all definitions that they reach, leaves first."""
+    texts = reached(keys, set())
     shown = [one for one in texts if one.key[2] not in BY_EQUATIONS]
     size = sum(one.text.count("\n") + 1 for one in shown)
-    lines = [f"# {claim.title}", "", MADE, "", claim.sentence, "", "[CHECKING.md](../CHECKING.md#how-to-read-a-contract) says how to read a contract.", "", "## Premises", ""]
-    lines += [claim.about, ""] if claim.about else []
-    lines += [*(f"{number}. {premise}" for number, premise in enumerate(claim.premises, 1)), ""] if claim.premises else []
-    lines += [claim.exception, ""] if claim.exception else []
-    lines += ["## Contracts", ""]
-    for each, (head, _) in zip(claim.contracts, found):
-        lines += [f"{each.words} `crates/{each.file}`:", "", *block("rust", head)]
-    lines += ["## Definitions", "", f"The contracts rest on these {len(shown)} definitions ({size} lines). Each one comes after those that it names.", ""]
+    lines = [f"The contracts rest on these {len(shown)} definitions ({size} lines). Each one comes after those that it names.", ""]
     left_out = [one.key[2] for one in texts if one.key[2] in BY_EQUATIONS]
     if left_out:
         laws = dict.fromkeys(BY_EQUATIONS[name] for name in left_out)
-        where = "above" if claim.page == "verifiers" else "on the page [verifiers.md](verifiers.md)"
+        where = "above" if page.stem == "verifiers" else "on the page [verifiers.md](verifiers.md)"
         lines += [f"No reader must follow the recursions with a bound, {listed(left_out)}, so they are left out. The contracts {listed(laws)} {where} are their equations.", ""]
-    return "\n".join([*lines, *definitions(shown), END, ""])
+    return "\n".join([*lines, *definitions(shown), ""])
+
+
+def made(page):
+    """Returns the text of a page with its generated parts: each contract that it names, and then the definitions of all of them."""
+    keys = []
+
+    def part(found):
+        if found[1] == DEFINITIONS:
+            text = definitions_of(keys, page)
+        else:
+            named = CONTRACT.fullmatch(found[1])
+            if not named:
+                sys.exit(f"checks/checking.py: {page.relative_to(ROOT)}: {found[1]} is no contract (write crates/FILE, FUNCTION (CLAUSE, ..))")
+            shown, reaches = contract(named[1], named[2], re.findall(r"\w+", named[3] or ""))
+            keys.extend(reaches)
+            text = "\n".join(block("rust", shown))
+        return f"<!-- Made by checks/checking.py --write: {found[1]}. -->\n{text}<!-- Made until here. -->"
+
+    return PART.sub(part, page.read_text())
 
 
 def first_difference(page, stands, belongs):
@@ -240,16 +268,17 @@ def first_difference(page, stands, belongs):
 
 
 def check(write):
-    """Returns what is wrong with the pages of the claims. With `write` they are written."""
-    made = {PAGES / f"{claim.page}.md": page(claim) for claim in CLAIMS}
-    found = [f"{path.relative_to(ROOT)} is the page of no claim" for path in sorted(PAGES.glob("*")) if path not in made]
-    if write:
-        PAGES.mkdir(exist_ok=True)
-        for path, text in made.items():
-            path.write_text(text)
-        return found
-    stand = {path: path.read_text() if path.exists() else "" for path in made}
-    return found + [first_difference(path, stand[path], text) for path, text in made.items() if stand[path] != text]
+    """Returns what is wrong with the pages of the claims. With `write` their generated parts are written."""
+    found = []
+    for page in sorted(PAGES.glob("*")):
+        stands, belongs = page.read_text(), made(page)
+        if f": {DEFINITIONS}. -->" not in stands:
+            found.append(f"{page.relative_to(ROOT)} has no place for its definitions (add a line <!-- Made by checks/checking.py --write: {DEFINITIONS}. --> and one that ends it)")
+        elif write:
+            page.write_text(belongs)
+        elif stands != belongs:
+            found.append(first_difference(page, stands, belongs))
+    return found
 
 
 def main():

@@ -20,7 +20,6 @@ import sys
 
 import checking
 from source import CRATES, crates, is_for_tests
-from specs import START, body_below, specs
 
 # Two strings of which a definition says that they exist, and two of which it says that they have one digest.
 EXIST = re.compile(r"\(([\w ]+) : List ℕ\) ×")
@@ -29,21 +28,27 @@ ONE_DIGEST = re.compile(r"\bCollides \S+ (\w+) (\w+)|\b(?:H|sha256) (\w+) ≡ (?
 AMONG = "CollideAmong"
 
 
-def wordless(files):
+def definitions(crate):
+    """Returns the definitions of a crate's specs/."""
+    return list({one.key: one for one in checking.words_of(crate).values()}.values())
+
+
+def wordless(of_crates):
     """Yields each definition without a comment, and each file that does not say what it is about."""
-    for file in (file for of_crate in files.values() for file in of_crate):
-        if not file.about:
-            yield f"crates/{file.path} does not begin with a comment that says what it is about"
-        for one in file.definitions:
-            if not one.words:
-                yield f"{one.word} (crates/{file.path}) has no comment"
+    for crate in of_crates:
+        for path in sorted((CRATES / crate / "specs").glob("*.antt")):
+            if path.stem != "Lib" and not path.read_text().startswith("--"):
+                yield f"{path.relative_to(CRATES.parent)} does not begin with a comment that says what it is about"
+        for one in definitions(crate):
+            if not one.text.lstrip().startswith("--"):
+                yield f"{one.key[2]} (crates/{one.file}) has no comment"
 
 
-def defined_twice(files):
+def defined_twice(of_crates):
     """Yields each word that two crates define."""
     places = {}
-    for crate, of_crate in files.items():
-        for word in {one.word for file in of_crate for one in file.definitions}:
+    for crate in of_crates:
+        for word in {one.key[2] for one in definitions(crate)}:
             places.setdefault(word, []).append(crate)
     for word, owners in sorted(places.items()):
         if len(owners) > 1:
@@ -59,12 +64,8 @@ def some_collide(text):
 
 def statements(crate):
     """Yields each definition of a crate's specs/ and each contract of its sources: its file, its name, and its text."""
-    for path in sorted((CRATES / crate / "specs").glob("*.antt")):
-        lines = path.read_text().splitlines()
-        for at, line in enumerate(lines):
-            start = START.match(line)
-            if start:
-                yield path, start.group(2), "\n".join(body_below(lines, at))
+    for one in definitions(crate):
+        yield CRATES / one.file, one.key[2], re.sub(r"--[^\n]*", "", one.text)
     for path in sorted((CRATES / crate / "src").rglob("*.rt")):
         for clause in path.read_text().split("ensures ")[1:]:
             yield path, "a contract", clause.split("ghost use ")[0]
@@ -79,8 +80,8 @@ def unnamed_collisions(of_crates):
 
 
 def main():
-    files = {crate: specs(crate) for crate in crates() if not is_for_tests(crate)}
-    found = [*wordless(files), *defined_twice(files), *unnamed_collisions(files), *checking.check(sys.argv[1:] == ["--write"])]
+    of_crates = [crate for crate in crates() if not is_for_tests(crate)]
+    found = [*wordless(of_crates), *defined_twice(of_crates), *unnamed_collisions(of_crates), *checking.check(sys.argv[1:] == ["--write"])]
     for fault in found:
         print(fault)
     sys.exit(1 if found else 0)

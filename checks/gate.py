@@ -10,14 +10,12 @@ has been at work. After it, a line says how many processor minutes it took.
 
 `rt ci` tries the edits of crates/NAME/wrong-bodies whose first line is 'tried: by each gate'. It also tries those whose first line is 'tried: by every ninth
 gate', in a ninth of the crates that have such edits: the commit's hash determines which, or TURN=0 to 8 in the environment. While `rt ci` runs, these edits
-are in must-fail, which it reads. wrong_bodies.py removes the edits that a killed run has left there. The edits of a crate cost one more proof of the crate,
-and about a sixth of that for each edit. So the ninths consist of whole crates, and cost about the same.
+are in must-fail, which it reads. The next run removes the edits that a killed one has left there. The edits of a crate cost one more proof of the crate, and
+about a sixth of that for each edit. So the ninths consist of whole crates, and cost about the same.
 
 `rt ci` estimates the memory that a proof needs at two to three times what was seen. It lets a large crate wait while smaller ones use that memory, although
 the large crate may be in the longest chain of crates. If each processor has memory for a proof, RT_JOBS makes `rt ci` use them all.
 """
-import contextlib
-import fcntl
 import os
 import pathlib
 import re
@@ -43,7 +41,7 @@ MEMORY = 4_000_000_000
 
 # The scripts that run after the proofs, over what these have built, with their arguments (make sweep refuses each allocation).
 SCRIPTS = [
-    *("tests/command_lines.py", "tests/sessions.py", "tests/sweep.py --step 40", "checks/dist.py"),
+    *("tests/command_lines.py", "tests/sessions.py", "tests/memory.py ctlog --step 40", "checks/dist.py"),
     *(f"tests/library/{name}.py" for name in ("guard", "step", "witness", "monitor", "node", "names", "data_tiles", "texts", "proofs")),
     *(f"tests/library/{name}.py" for name in ("refusals", "cost", "replays", "rust", "sha_instructions", "arm64")),
     *("bindings/python/tests/compare.py", "tests/linear.py", "examples/demo.sh path", "examples/demo.sh log"),
@@ -83,37 +81,14 @@ def for_rt(edit):
     return rest if first in (EACH, IN_TURN) else first + end + rest
 
 
-def put_out(own=()):
-    """Removes these edits from must-fail, and those of wrong-bodies that a killed run has left there, whole or cut off. An edit with another text stays.
-    Returns how many were left there."""
-    pairs = [(edit, crate / "must-fail" / edit.name) for crate in ROOT.glob("crates/*") for edit in edits(crate, EACH, IN_TURN)]
-    left = [there for edit, there in pairs if there.exists() and for_rt(edit).startswith(there.read_text())]
-    for there in {*own, *left}:
-        there.unlink(missing_ok=True)
-    for folder in {there.parent for _, there in pairs}:
+def put_out():
+    """Removes the edits of wrong-bodies from must-fail: those of this run, and those that a killed run has left there. An edit with another name stays."""
+    for crate in ROOT.glob("crates/*"):
+        folder = crate / "must-fail"
+        for edit in edits(crate, EACH, IN_TURN):
+            (folder / edit.name).unlink(missing_ok=True)
         if folder.is_dir() and not any(folder.iterdir()):
             folder.rmdir()
-    return len(left)
-
-
-@contextlib.contextmanager
-def at_work():
-    """Marks a run in this checkout: meanwhile put_out_left does not remove its edits."""
-    with open(__file__) as lock:
-        # (without locks in the file system put_out_left does nothing)
-        with contextlib.suppress(OSError):
-            fcntl.flock(lock, fcntl.LOCK_SH)
-        yield
-
-
-def put_out_left():
-    """Removes the edits that a killed run has left in must-fail, and returns their number. It removes none while a run is at work."""
-    with open(__file__) as lock:
-        try:
-            fcntl.flock(lock, fcntl.LOCK_EX | fcntl.LOCK_NB)
-        except OSError:
-            return 0
-        return put_out()
 
 
 def size_of(crate):
@@ -162,19 +137,17 @@ def end_in_order():
 
 def main():
     end_in_order()
-    with at_work():
-        there = []
-        try:
-            there = put_in()
-            names = sorted({edit.parent.parent.name for edit in there})
-            every = sum(1 for _ in ROOT.glob("crates/*/wrong-bodies/*.edit"))
-            print(f"It tries {len(there)} wrong bodies, of {', '.join(names) or 'no crate'}. {SKIPPED.format(every - len(there))}", flush=True)
-            status = run()
-            if gone := [edit.name for edit in there if not edit.exists()]:
-                sys.exit(f"gate.py: {len(gone)} edits, such as {gone[0]}, were removed from must-fail while it ran (run it again)")
-            sys.exit(status)
-        finally:
-            put_out(there)
+    try:
+        there = put_in()
+        names = sorted({edit.parent.parent.name for edit in there})
+        every = sum(1 for _ in ROOT.glob("crates/*/wrong-bodies/*.edit"))
+        print(f"It tries {len(there)} wrong bodies, of {', '.join(names) or 'no crate'}. {SKIPPED.format(every - len(there))}", flush=True)
+        status = run()
+        if gone := [edit.name for edit in there if not edit.exists()]:
+            sys.exit(f"gate.py: {len(gone)} edits, such as {gone[0]}, were removed from must-fail while it ran (run it again)")
+        sys.exit(status)
+    finally:
+        put_out()
 
 
 def surroundings():

@@ -1,29 +1,11 @@
 #!/usr/bin/env bash
-# Says which tools a target of the Makefile lacks here, and how long it takes on this machine's processors:
+# Says which tools a target of the Makefile lacks here:
 # needs.sh demo|test|check|link|dist|service|service-test. For serve and serve-witness it is needs.sh service-for-serve, and for the service's part of test
 # needs.sh service-for-test. GO=no leaves that part out. deps/fetch.sh fetches what the service lacks; with SETUP=no it only reports it.
 set -u
 cd "$(dirname "$0")/.." || exit
 what=$1
 missing=0
-
-# The processor minutes that a target takes if nothing was proved before: test from a run of the gate, demo from a run of its own, from
-# which link and dist are estimated. After another run, put its figures into this line, and the times into README.md.
-# shellcheck disable=SC2034
-work_of() { local demo=50 link=50 dist=50 test=180 && echo "${!1}"; }
-
-# The minutes that target $1 takes on $2 processors, rounded up to five. Crates are proved in parallel: if several processors share them, a third is added, or
-# a fifth for the gate. More than eight processors gain little for the gate, and more than four for the other targets.
-minutes() {
-  python3 - "$1" "$(work_of "$1")" "$2" <<'END'
-import math
-import sys
-
-what, work, processors = sys.argv[1], int(sys.argv[2]), int(sys.argv[3])
-taken = work if processors == 1 else work * (6 / 5 if what == "test" else 4 / 3) / min(processors, 8 if what == "test" else 4)
-print(max(5, math.ceil(round(taken, 3) / 5) * 5))
-END
-}
 
 lacks() {
   echo "make $what lacks $1" >&2
@@ -63,13 +45,3 @@ done
 kit=$(rt version)
 logic="logic ${kit##*logic }"
 [[ $(<README.md) == *"\`$logic\`"* ]] || echo "This kit is $kit, of another logic than README.md names: proofs made with that one may fail here." >&2
-
-processors=$(python3 -c 'import os; print(len(os.sched_getaffinity(0)))')
-[ "$processors" = 1 ] && on="one processor" || on="$processors processors"
-case $what in
-  demo) first="ctlog and the crates below it. Where nothing was proved before, that" ;;
-  link | dist) first="the library and the crates below it. Where nothing was proved before, that" ;;
-  test) first="everything, from nothing. That" ;;
-  *) exit 0 ;;
-esac
-echo "make $what proves $first takes some $(minutes "$what" "$processors") minutes on $on ($(work_of "$what") of one processor), estimated from earlier runs."

@@ -8,8 +8,7 @@ once. The gate (gate.py) tries those whose first line is 'tried: by each gate' e
 ninth of the crates, because one edit costs up to a minute of a processor, and a crate's first one a proof of the crate.
 
 Without a name, this script checks within seconds whether all edits can be applied, and whether checks/README.md names those that each gate tries. With
-names, rt tries all edits of these crates, in a copy of the repository that includes the proofs done so far. First the script removes the edits that a killed
-gate has left in must-fail, unless a gate is at work here.
+names, rt tries all edits of these crates, in a copy of the repository that includes the proofs done so far.
 """
 import os
 import pathlib
@@ -21,9 +20,6 @@ import tempfile
 
 import gate
 from source import CRATES, MADE, ROOT
-
-# (must-fail is rt's own folder, used while a gate is at work)
-FOLDERS = ("must-fail", "wrong-bodies")
 
 
 def why_not(edit, crate):
@@ -52,13 +48,9 @@ def why_not(edit, crate):
 def looked():
     """Reports whether all edits can be applied, and prints each that cannot."""
     found = []
-    for at, folder in enumerate(FOLDERS):
-        for edit in sorted(CRATES.glob(f"*/{folder}/*.edit")):
-            crate = edit.parent.parent
-            other = next((it for it in FOLDERS[:at] if (crate / it / edit.name).exists()), None)
-            why = f"{other} has one of this name" if other else why_not(edit, crate)
-            if why:
-                found.append(f"{edit.relative_to(ROOT)}: {why}")
+    for edit in sorted(CRATES.glob("*/wrong-bodies/*.edit")):
+        if why := why_not(edit, edit.parent.parent):
+            found.append(f"{edit.relative_to(ROOT)}: {why}")
     print("\n".join(found), end="\n" * bool(found))
     return not found
 
@@ -110,6 +102,4 @@ def tried(names):
 
 
 if __name__ == "__main__":
-    if left := gate.put_out_left():
-        print(f"checks/wrong_bodies.py: removed {left} edits that a gate has left in must-fail", flush=True)
     sys.exit(0 if looked() and not untold() and (not sys.argv[1:] or tried(sys.argv[1:])) else 1)

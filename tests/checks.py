@@ -1,10 +1,9 @@
 #!/usr/bin/env python3
-"""Tries the scripts around proofs, over a made-up repository and an `rt` that is a script. Each must see the fault that it is for: gate.py a test that fails, and
-an end by a signal; wrong_bodies.py what a killed gate left; definitions.py a statement that some two strings collide.
+"""Tries gate.py over a made-up repository and an `rt` that is a script: it must see a test that fails, and leave no edit behind. Tries that definitions.py sees a
+statement that some two strings collide.
 
 It prints nothing if everything is right. Otherwise it prints the fault and ends with status 1.
 """
-import fcntl
 import os
 import pathlib
 import shutil
@@ -18,16 +17,14 @@ sys.path.insert(1, str(ROOT / "checks"))
 
 import definitions  # noqa: E402
 import gate  # noqa: E402
-import wrong_bodies  # noqa: E402
 
-# Edits of the made-up crate as rt reads them: one that each gate tries, two of every ninth gate, and one that only `make wrong` tries. A gate has
-# left one of them whole, and one cut off; and one in must-fail is of another's.
+# Edits of the made-up crate as rt reads them: one that each gate tries, two of every ninth gate, and one that only `make wrong` tries. One in must-fail is
+# of another's.
 EDIT = "file: src/lib.rt\nold: one\nnew: {}\n"
-EACH, IN_TURN = {"each.edit": EDIT.format("each")}, {name: EDIT.format(name) for name in ("whole.edit", "cut.edit")}
+EACH, IN_TURN = {"each.edit": EDIT.format("each")}, {name: EDIT.format(name) for name in ("first.edit", "second.edit")}
 WRONG = {"asked.edit": EDIT.format("asked")}
 WRONG.update({name: f"{gate.EACH}\n{text}" for name, text in EACH.items()} | {name: f"{gate.IN_TURN}\n{text}" for name, text in IN_TURN.items()})
 OWN = {"own.edit": EDIT.format("own")}
-LEFT = {**OWN, "whole.edit": IN_TURN["whole.edit"], "cut.edit": IN_TURN["cut.edit"][:20]}
 
 
 def fail(why):
@@ -35,18 +32,13 @@ def fail(why):
 
 
 class Repository:
-    """A repository of one crate, a library, with some of the scripts, and beside it an `rt`."""
+    """A repository of one crate with gate.py, and beside it an `rt`."""
 
     def __init__(self, top):
         folder = self.folder = top / "repository"
         self.crate, self.bin = folder / "crates" / "made_up", top / "bin"
-        for path in ("checks/gate.py", "checks/source.py", "checks/wrong_bodies.py", ".gitignore"):
-            (folder / path).parent.mkdir(parents=True, exist_ok=True)
-            shutil.copy(ROOT / path, folder / path)
-        (folder / "crates.txt").write_text("made_up:\n")
-        (folder / "HANDLES").write_text("")
-        each_time = " and ".join(f"`made_up/{name.removesuffix('.edit')}`" for name, text in WRONG.items() if text.startswith("tried: by each gate"))
-        (folder / "checks" / "README.md").write_text(f"Each gate tries {each_time}.\n")
+        (folder / "checks").mkdir(parents=True)
+        shutil.copy(ROOT / "checks" / "gate.py", folder / "checks")
         self.put("src", {"lib.rt": "one\n"})
         self.put("wrong-bodies", WRONG)
         self.bin.mkdir()
@@ -61,15 +53,15 @@ class Repository:
         """The files of a folder of the crate; none where it isn't there."""
         return {path.name: path.read_text() if path.is_file() else None for path in (self.crate / name).glob("*")}
 
-    def run(self, script, *words, rt="exit 9", path=os.environ["PATH"], turn=""):
-        """Runs a script, with an `rt` that does this; its status, and all that it wrote."""
+    def run(self, rt, turn=""):
+        """Runs gate.py, with an `rt` that does this; its status, and all that it wrote."""
         (self.bin / "rt").write_text(f"#!/bin/sh\n{rt}\n")
         (self.bin / "rt").chmod(0o755)
-        place = {**os.environ, "PATH": f"{self.bin}:{path}", "PYTHONDONTWRITEBYTECODE": "1", "TURN": turn}
+        place = {**os.environ, "PATH": f"{self.bin}:{os.environ['PATH']}", "PYTHONDONTWRITEBYTECODE": "1", "TURN": turn}
         how = {"stdout": subprocess.PIPE, "stderr": subprocess.STDOUT, "text": True, "cwd": self.folder, "env": place}
         # (the signal may be ignored here, as under nohup)
         how["preexec_fn"] = lambda: signal.signal(signal.SIGHUP, signal.SIG_DFL)
-        ran = subprocess.run([sys.executable, self.folder / script, *words], **how)
+        ran = subprocess.run([sys.executable, self.folder / "checks" / "gate.py"], **how)
         return ran.returncode, ran.stdout
 
 
@@ -80,17 +72,17 @@ def hold(what, found, due):
 
 def try_gate(repository):
     """While rt runs, must-fail has the edits of each gate and of the gate's turn, without the line that says when they are tried. Afterwards it has none, also
-    if a signal ended the gate. If one of the edits goes meanwhile, the gate fails."""
+    if a signal ended the gate, or a killed one had left some. If one of the edits goes meanwhile, the gate fails."""
     looks = "cat crates/made_up/must-fail/*.edit | cmp -s - due || exit 3"
-    repository.put("must-fail", OWN)
+    repository.put("must-fail", {**OWN, "second.edit": IN_TURN["second.edit"][:20]})
     for what, turn, rt, status in (
         ("a gate of another turn", "5", f"{looks}; echo 1 passed, 0 failed", 0),
         ("a gate whose terminal ends", "", f"{looks}; kill -HUP $PPID", 1),
-        ("a gate whose edits go meanwhile", "0", f"{looks}; rm crates/made_up/must-fail/whole.edit; echo 1 passed, 0 failed", 1),
+        ("a gate whose edits go meanwhile", "0", f"{looks}; rm crates/made_up/must-fail/first.edit; echo 1 passed, 0 failed", 1),
     ):
         there = {**OWN, **EACH, **(IN_TURN if turn != "5" else {})}
         (repository.folder / "due").write_text("".join(there[name] for name in sorted(there)))
-        ended, said = repository.run("checks/gate.py", rt=rt, turn=turn)
+        ended, said = repository.run(rt, turn)
         hold(f"{what} ends with {said}", ended, status)
         hold(f"{what} leaves in must-fail", repository.texts("must-fail"), OWN)
         hold(f"{what} says what it leaves out", f"leaves out {len(WRONG) - len(there) + len(OWN)} others" in said, True)
@@ -102,7 +94,7 @@ def try_counted(repository):
     count.write_text("40 1\n")
     for place, last in ((str(count), "43 passed, 1 failed"), (str(repository.folder / "no-count"), "3 passed, 0 failed"), ("", "3 passed, 0 failed")):
         os.environ["COUNT"] = place
-        _, said = repository.run("checks/gate.py", rt="echo one; echo 3 passed, 0 failed")
+        _, said = repository.run("echo one; echo 3 passed, 0 failed")
         hold(f"a gate with COUNT={place} says at last", said.splitlines()[-1], last)
     os.environ.pop("COUNT")
 
@@ -127,30 +119,11 @@ def try_programs(repository):
             put(script, python, shell)
         if others:
             put(scripts[3], others, "")
-        ended, said = repository.run("checks/gate.py", rt="echo 3 passed, 0 failed")
+        ended, said = repository.run("echo 3 passed, 0 failed")
         hold(f"a gate with {what}", (ended, said.splitlines()[-1]), (min(failed, 1), f"{passed} passed, {failed} failed"))
         hold(f"how often it says why with {what}", said.count("other bytes"), failed)
-    ended, said = repository.run("checks/gate.py", rt="echo 2 passed, 1 failed; exit 1")
+    ended, said = repository.run("echo 2 passed, 1 failed; exit 1")
     hold("a gate whose proofs fail", (ended, said.splitlines()[-1]), (1, "2 passed, 1 failed"))
-
-
-def try_left(repository):
-    """The edits that a killed gate has left in must-fail are removed, whole or cut off, and no other edit. While a gate is at work, none is removed."""
-    repository.put("must-fail", LEFT)
-    with open(repository.folder / "checks" / "gate.py") as lock:
-        fcntl.flock(lock, fcntl.LOCK_SH)
-        repository.run("checks/wrong_bodies.py")
-        hold("while a gate is at work there is in must-fail", repository.texts("must-fail"), LEFT)
-    ended, said = repository.run("checks/wrong_bodies.py")
-    hold(f"wrong_bodies.py after a gate that was killed says {said}", ended, 0)
-    hold("it leaves in must-fail", repository.texts("must-fail"), OWN)
-    table = repository.folder / "checks" / "README.md"
-    told = table.read_text()
-    for text, name in ((told.replace("`made_up/", "`made_up_/"), "does not name it"), (told + "`made_up/no_such_edit`\n", "made_up/no_such_edit, which is no edit")):
-        table.write_text(text)
-        ended, said = repository.run("checks/wrong_bodies.py")
-        hold(f"wrong_bodies.py where the table names other edits says {said}", (ended, name in said), (1, True))
-    table.write_text(told)
 
 
 def try_collisions():
@@ -168,7 +141,7 @@ def try_collisions():
 
 def main():
     try_collisions()
-    for case in (try_gate, try_counted, try_programs, try_left):
+    for case in (try_gate, try_counted, try_programs):
         with tempfile.TemporaryDirectory() as folder:
             case(Repository(pathlib.Path(folder)))
 

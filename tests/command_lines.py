@@ -14,7 +14,7 @@ import subprocess
 import sys
 import tempfile
 
-from sweep import CRATES
+from memory import CRATES
 
 OWN = CRATES / "ctlog"
 LINES, UNREADABLE, LIMIT = OWN / "stdin", b"\xff", 60

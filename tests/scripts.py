@@ -11,7 +11,6 @@ import builtins
 import dis
 import itertools
 import json
-import os
 import pathlib
 import re
 import shutil

@@ -1,12 +1,11 @@
 #!/usr/bin/env python3
 """Looks at the page of a log of ctserve in a headless Chromium: empty, with three entries, and with as many more as are asked for.
 
-    served_page.py [--screenshots FOLDER] [--more ENTRIES]
+    served_page.py [--more ENTRIES]
 
 It serves a log of its own by cmd/serve.sh at a port that is free. The page has to tell what the log answers: its size, names, key and notice; that the
 head's signature is the key's, and a changed head's isn't; that an audit path leads to the head's root, and a changed one doesn't. It may not be wider
-than a phone. Without JavaScript it says so. With --more ctload submits so many before the script looks once more. Screenshots are of a light and of a dark
-screen. The script prints a line that says what it saw, and ends with status 1 if something is wrong.
+than a phone. Without JavaScript it says so. With --more ctload submits so many before the script looks once more. The script prints a line that says what it saw, and ends with status 1 if something is wrong.
 """
 import argparse
 import base64
@@ -129,10 +128,10 @@ class Served:
 
 
 class Look:
-    """The page in a browser, and pictures of it."""
+    """The page in a browser."""
 
-    def __init__(self, work, base, pictures):
-        self.browser, self.pictures = Browser(work / "browser", base), pictures
+    def __init__(self, work, base):
+        self.browser = Browser(work / "browser", base)
 
     def run(self, text):
         return self.browser.call("Runtime.evaluate", expression=text, returnByValue=True, awaitPromise=True)["result"].get("value")
@@ -144,11 +143,6 @@ class Look:
                 return found
             time.sleep(0.1)
         sys.exit(f"served_page.py: {what}")
-
-    def picture(self, name):
-        for scheme in ("light", "dark") if self.pictures else ():
-            self.browser.call("Emulation.setEmulatedMedia", features=[{"name": "prefers-color-scheme", "value": scheme}])
-            (self.pictures / f"{name}-{scheme}.png").write_bytes(base64.b64decode(self.browser.call("Page.captureScreenshot")["data"]))
 
     def size(self, size):
         """Waits until the page shows so many entries, with the notice and a signed head."""
@@ -188,7 +182,6 @@ class Look:
     def phone(self, name):
         self.browser.call("Emulation.setDeviceMetricsOverride", width=390, height=1600, deviceScaleFactor=1, mobile=True)
         hold(not self.run("document.documentElement.scrollWidth > 390"), f"the page is wider than a phone, with {name}")
-        self.picture(f"{name}-phone")
         self.browser.call("Emulation.setDeviceMetricsOverride", width=1000, height=900, deviceScaleFactor=1, mobile=False)
 
     def without_script(self):
@@ -202,28 +195,21 @@ class Look:
             if "needs JavaScript" in said:
                 break
             time.sleep(0.1)
-        self.picture("without-script")
-        self.browser.call("Emulation.setDeviceMetricsOverride", width=390, height=844, deviceScaleFactor=1, mobile=True)
-        self.picture("without-script-phone")
         hold("needs JavaScript" in said and "Growth" not in said, f"without JavaScript the page says {said}")
 
 
 def main():
     words = argparse.ArgumentParser()
-    words.add_argument("--screenshots", type=pathlib.Path)
     words.add_argument("--more", type=int)
     options = words.parse_args()
     if not shutil.which("chromium"):
         sys.exit("served_page.py: there is no chromium (apt-get install chromium)")
-    if options.screenshots:
-        options.screenshots.mkdir(exist_ok=True)
     with tempfile.TemporaryDirectory() as folder:
         work = pathlib.Path(folder)
         served, look = Served(work), None
         try:
-            look = Look(work, served.base, options.screenshots)
+            look = Look(work, served.base)
             look.size(0)
-            look.picture("empty")
             look.phone("empty")
             for number, name in enumerate(NAMES):
                 served.submit(number, name)
@@ -233,7 +219,6 @@ def main():
             look.rate(size)
             look.roots(served.roots())
             look.find(1, NAMES[1])
-            look.picture("three")
             look.phone("three")
             if options.more:
                 served.load(options.more)
@@ -243,7 +228,6 @@ def main():
                 look.entries(size)
                 look.rate(size)
                 look.find(0, NAMES[0])
-                look.picture("many")
                 look.phone("many")
             look.without_script()
         finally:

@@ -27,7 +27,7 @@ import subprocess
 import sys
 import typing
 
-from sweep import CRATES, HERE
+from memory import CRATES, HERE
 
 LIMIT = 60
 # How much of a stream is shown that isn't as due.

@@ -4,7 +4,6 @@ release/release.py, deps/fetch.sh, cmd/serve.sh and cmd/serve-witness.sh.
 
 It prints one line. At the first fault it says what is wrong, and ends with status 1.
 """
-import contextlib
 import json
 import os
 import pathlib
@@ -14,6 +13,8 @@ import subprocess
 import sys
 import tempfile
 import types
+
+from readme import free_port
 
 ROOT = pathlib.Path(__file__).resolve().parent.parent
 VERSION = (ROOT / "VERSION").read_text().strip()
@@ -216,17 +217,6 @@ def try_deps(folder):
             fail(f"test.sh with GO={go} ends with status {ended.returncode}: {ended.stdout}{ended.stderr}")
 
 
-def two_ports():
-    """Returns a port that nobody has, of which nobody has the next one either."""
-    while True:
-        with contextlib.ExitStack() as opened, contextlib.suppress(OSError):
-            first = opened.enter_context(socket.socket())
-            first.bind(("127.0.0.1", 0))
-            port = first.getsockname()[1]
-            opened.enter_context(socket.socket()).bind(("127.0.0.1", port + 1))
-            return port
-
-
 def served(folder, script, program_name, stub):
     """Copies a script of cmd/ into a folder, beside a program in place of its own, and returns its path."""
     shutil.copy(ROOT / "cmd" / script, folder)
@@ -237,7 +227,7 @@ def served(folder, script, program_name, stub):
 
 def serve_at_taken_ports(script, *words):
     """A script that serves refuses a port that is taken, and the one after it, before it does anything."""
-    port = two_ports()
+    port = free_port()
     for taken in (port, port + 1):
         with socket.socket() as other:
             other.bind(("127.0.0.1", taken))
@@ -281,7 +271,7 @@ def try_serve_witness(folder):
     (folder / "cmd").mkdir()
     log, witness, calls = folder / "a log", folder / "a witness", folder / "calls"
     script = served(folder / "cmd", "serve-witness.sh", "ctwitness", f"echo \"$*\" >>'{calls}'")
-    ran = subprocess.run([script, witness, str(two_ports()), log], capture_output=True, text=True)
+    ran = subprocess.run([script, witness, str(free_port()), log], capture_output=True, text=True)
     if ran.returncode != 1 or f"{log} has no log.pem" not in ran.stderr or witness.exists():
         fail(f"serve-witness.sh of no log: status {ran.returncode}, {ran.stderr}")
     log.mkdir()

@@ -4,7 +4,7 @@
 //
 //	ideal --folder FOLDER --key KEY --roots ROOTS --listen ADDRESS
 //
-// It reads the roots again at SIGHUP. bench/speed.py runs it by turns with ctserve.
+// It reads the roots again at SIGHUP. bench/peers.py runs it by turns with ctserve.
 package main
 
 import (

@@ -7,7 +7,7 @@ is archived, and the archive is served (docs/ARCHIVE.md).
     bare.py [--built FOLDER] [--keep]
 
 It needs root and mmdebstrap (Debian's package of that name). The release is made here, from the builds (crates/NAME/out, cmd/out). If ctlog is not
-built, a program in Python replaces it, and the script says so. The release that the page upgrades to is this one with another VERSION.
+built, a program that only says so is in its place, and no line runs it. The release that the page upgrades to is this one with another VERSION.
 
 Debian's packages come from its mirror. Everything else happens in a network of its own, which has only loopback. No systemd runs there: tests/bare/systemctl does
 what the units' files say, and systemd-analyze looks at these. Beside the page's lines, certspotter, tlog (x/mod, in ctread) and curl read the log through
@@ -46,8 +46,6 @@ LOG, SITE = "http://127.0.0.1:8618", f"https://{HOST}"
 # How long one line, or a wait, may take, in seconds.
 WITHIN = 900
 MADE = "# Ctrl-C once it says serving"
-# The programs in Python that replace one that isn't built.
-MODELS = {"ctlog": "expected.py"}
 NEW_NETWORK = 0x40000000
 
 
@@ -83,7 +81,7 @@ class Releases:
                 shutil.copy(built / name / "out" / name, to)
             else:
                 self.lacking.append(name)
-                to.write_text(f'#!/bin/sh\nexec python3 /opt/tests/{MODELS[name]} "$@"\n')
+                to.write_text(f"#!/bin/sh\necho '{name} was not built' >&2\nexit 1\n")
             to.chmod(0o755)
         linked = self.built / "libwagtenib" / "out" / "link"
         linked.mkdir(parents=True)
@@ -114,9 +112,8 @@ class Bare:
     def __init__(self, folder, network):
         self.folder, self.network = folder, network
 
-    def make(self, debs, models):
-        more = "systemd" + (",python3" if models else "")
-        words = ["mmdebstrap", "--variant=apt", "--quiet", "--dpkgopt=force-unsafe-io", f"--include={more}", "bookworm", self.folder]
+    def make(self, debs):
+        words = ["mmdebstrap", "--variant=apt", "--quiet", "--dpkgopt=force-unsafe-io", "--include=systemd", "bookworm", self.folder]
         if subprocess.run(words, stdout=subprocess.DEVNULL, preexec_fn=self.network.leave).returncode:
             fail("mmdebstrap makes no Debian")
         for name, text in (("usr/sbin/policy-rc.d", "#!/bin/sh\nexit 101\n"), ("usr/local/sbin/systemctl", (ROOT / "tests/bare/systemctl").read_text())):
@@ -124,9 +121,6 @@ class Bare:
             (self.folder / name).chmod(0o755)
         for path in debs:
             (self.folder / "root" / path.name).write_bytes(path.read_bytes())
-        if models:
-            shutil.copytree(ROOT / "tests", self.folder / "opt" / "tests")
-            shutil.copytree(ROOT / "examples", self.folder / "opt" / "examples")
         shutil.copy("/etc/resolv.conf", self.folder / "etc/resolv.conf")
         subprocess.run(["mount", "-t", "proc", "proc", self.folder / "proc"], check=True)
 
@@ -438,9 +432,9 @@ def main():
     try:
         releases = Releases(work, given.built)
         if releases.lacking:
-            print(f"In place of {', '.join(releases.lacking)}, which {'is' if len(releases.lacking) == 1 else 'are'}n't built here, there are programs in Python.", flush=True)
+            print(f"The packages have no {', '.join(releases.lacking)}, because it isn't built here. No line runs it.", flush=True)
         debs = releases.make(work / "first")
-        bare.make(debs + releases.make(work / "second", "0.1.1"), releases.lacking)
+        bare.make(debs + releases.make(work / "second", "0.1.1"))
         trial = Trial(bare)
         trial.run(own)
         trial.certspotter()

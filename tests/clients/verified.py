@@ -1,6 +1,5 @@
 #!/usr/bin/env python3
-"""Whether certspotter has verified a head of a log: verified.py ITS_STATE_DIRECTORY THE_LOGS_ADDRESS TREE_SIZE, for
-certspotter.sh.
+"""Whether certspotter has verified a head of a log: verified.py ITS_STATE_DIRECTORY THE_LOGS_ADDRESS TREE_SIZE.
 
 It keeps the roots of the tree's full subtrees, from the left; they have to give the root that the log answers. The status
 says so.

@@ -8,6 +8,7 @@ import collections
 import ctypes
 import pathlib
 import random
+import re
 import sys
 import typing
 
@@ -24,6 +25,21 @@ FILL, BEHIND, UNTOUCHED = b"\x5a", 8, 0x5A5A5A5A5A5A5A5A
 OF_DER, OF_LEAVES = {*range(80, 91)}, {Code.TRUNCATED, Code.BAD_ENTRY_TYPE, Code.EMPTY_VECTOR, Code.PARTIAL_FINGERPRINT}
 # The arguments that are written with other codes than 0, by their names.
 WRITTEN = {"field": OF_DER, "faulty_index": OF_LEAVES, "index": {*OF_LEAVES, Code.OTHER_ENTRIES, Code.WRONG_INDEX}, "timestamp": {0, Code.LATER_ENTRY}}
+
+# How the text of a checkpoint, or one that has it, is damaged.
+DAMAGES = [
+    lambda text: text[:-1],
+    lambda text: text.replace(b"\n", b"\n0", 1),
+    lambda text: text.replace(b"\n", b"\n+", 1),
+    lambda text: text + b"an extension line\n",
+    lambda text: b"\n" + text,
+    lambda text: text.replace(b"l", b"\xff", 1),
+    lambda text: text.replace(b"\n", b"\r\n"),
+    lambda text: text.replace(b"=", b""),
+    lambda text: re.sub(rb"\n(\d+)\n", rb"\n1\g<1>00000000000000000000\n", text),
+    lambda text: re.sub(rb"(.)=\n", lambda found: bytes([found[1][0] + 1]) + b"=\n", text),
+    lambda text: b"",
+]
 
 
 class Fault(typing.NamedTuple):

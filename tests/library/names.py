@@ -15,6 +15,7 @@ from wagtenib import NameKind, Place
 sys.path.insert(0, str(TESTS / "names"))
 # (the folder above is on the path only now)
 import certificate_names as model  # noqa: E402
+from der import written  # noqa: E402
 
 FIELDS = ("certificate", "tbs", "outer-algorithm", "signature", "version", "serial", "algorithm", "issuer", "validity", "subject", "key", "issuer-id", "subject-id",
           "extensions", "alt-names")
@@ -34,10 +35,7 @@ SEARCHED = b"abyzABYZ@[`{.*-\x00\xc1\xe1\xff"
 
 def der(tag, *parts):
     """An element of DER (X.690, section 8.1)."""
-    content = b"".join(parts)
-    size = len(content)
-    length = bytes([size]) if size < 128 else bytes([0x80 + (size.bit_length() + 7) // 8]) + size.to_bytes((size.bit_length() + 7) // 8, "big")
-    return bytes([tag]) + length + content
+    return written(tag, b"".join(parts))
 
 
 def attribute(source):

@@ -5,24 +5,20 @@
 
 refusals.c wraps the functions while other comparisons run over them. Each call is made again with one growth of memory refused, and must return
 OUT_OF_MEMORY then. After every call all memory must be given back, and no call may use more stack or more memory than the header says. large.py makes calls that take much
-memory. Each function must be called, and each
-that takes memory must have been refused some. Without gcc for this processor it says so.
+memory. Each function must be called, and each that takes memory must have been refused some. Without gcc for this processor it says so.
 """
 import fnmatch
-import os
 import pathlib
 import platform
 import re
 import shutil
-import subprocess
 import sys
 import tempfile
 
 import signatures
 
 HERE = pathlib.Path(__file__).resolve().parent
-ROOT = HERE.parent.parent
-HEADER = (ROOT / "include" / "wagtenib.h").read_text()
+HEADER = signatures.HEADER
 # The stack that the header states for each function, in bytes.
 STACK = 16 << 10
 
@@ -43,28 +39,9 @@ def memory_of(name):
 
 def library_in(folder):
     """The library whose functions refusals.c wraps."""
-    code = pathlib.Path(subprocess.run([ROOT / "dist" / "processor.sh"], capture_output=True, text=True, check=True).stdout.strip()).read_text()
-    names = sorted(name for name, _, _ in signatures.functions())
-    (folder / "real.s").write_text(re.sub(rf"\b({'|'.join(names)})\b", r"real_\1", code))
-    (folder / "functions.h").write_text(signatures.table())
-    (folder / "multiples.h").write_text("".join(f"#define MULTIPLE_{name} {memory_of(name)[0]}\n" for name in names))
-    made = folder / "libwagtenib.so"
-    subprocess.run(["gcc", "-shared", "-fPIC", "-O2", "-Wall", f"-I{folder}", f"-I{ROOT / 'include'}", HERE / "refusals.c", folder / "real.s", "-o", made], check=True)
-    return made
-
-
-def runs():
-    """The comparisons that call the functions."""
-    yield [HERE / "step.py", "--calls", "9"]
-    yield [HERE / "guard.py", "--calls", "2000"]
-    yield [HERE / "witness.py", "--calls", "2000"]
-    yield [HERE / "monitor.py", "--calls", "1500"]
-    yield [HERE / "node.py", "--calls", "2000"]
-    yield [HERE / "names.py", "--calls", "1200", "--searches", "500"]
-    yield [HERE / "data_tiles.py", "--calls", "1500"]
-    yield [HERE / "texts.py", "--calls", "400"]
-    yield [HERE / "proofs.py", "--calls", "300"]
-    yield [HERE / "large.py"]
+    multiples = (f"#define MULTIPLE_{name} {memory_of(name)[0]}\n" for name, _, _ in signatures.functions())
+    (folder / "multiples.h").write_text("".join(multiples))
+    return signatures.wrapped(folder, "-O2", "-Wall", HERE / "refusals.c")
 
 
 def faults(told):
@@ -97,12 +74,7 @@ def main():
     with tempfile.TemporaryDirectory(prefix="wagtenib-refusals-") as folder:
         folder = pathlib.Path(folder)
         library, report = library_in(folder), folder / "report"
-        surroundings = {**os.environ, "WAGTENIB_LIBRARY": str(library), "REFUSALS": str(report), "PYTHONDONTWRITEBYTECODE": "1"}
-        for run in runs():
-            ran = subprocess.run([sys.executable, *run], env=surroundings, stdout=subprocess.PIPE, stderr=subprocess.STDOUT, text=True)
-            if ran.returncode:
-                print(f"tests/library/refusals.py: {run[0].name} fails:\n{ran.stdout}")
-                return 1
+        signatures.run_over(library, "tests/library/refusals.py", ["large.py"], REFUSALS=str(report))
         told = {}
         for line in report.read_text().splitlines():
             name, *numbers = line.split()

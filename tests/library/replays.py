@@ -13,10 +13,8 @@ Without gcc for this processor it says so. It ends with status 1 if something di
 """
 import argparse
 import contextlib
-import os
 import pathlib
 import platform
-import re
 import shutil
 import subprocess
 import sys
@@ -36,32 +34,10 @@ def say(text):
     print(f"tests/library/replays.py: {text}", flush=True)
 
 
-def runs():
-    """The comparisons that call the functions."""
-    yield [HERE / "step.py", "--calls", "9"]
-    yield [HERE / "guard.py", "--calls", "3000"]
-    yield [HERE / "witness.py", "--calls", "2000"]
-    yield [HERE / "monitor.py", "--calls", "2000"]
-    yield [HERE / "names.py", "--calls", "1500", "--searches", "1000"]
-    yield [HERE / "data_tiles.py", "--calls", "1500"]
-    yield [HERE / "texts.py", "--calls", "400"]
-    yield [HERE / "node.py", "--calls", "4000"]
-    yield [HERE / "proofs.py", "--calls", "300"]
-
-
 def recording(folder):
     """A file of calls, which the comparisons made."""
-    code = pathlib.Path(subprocess.run([DIST / "processor.sh"], capture_output=True, text=True, check=True).stdout.strip()).read_text()
-    names = [name for name, _, _ in signatures.functions()]
-    (folder / "real.s").write_text(re.sub(rf"\b({'|'.join(names)})\b", r"real_\1", code))
-    (folder / "functions.h").write_text(signatures.table())
-    library, made = folder / "libwagtenib.so", folder / "calls"
-    subprocess.run(["gcc", "-shared", "-fPIC", "-fvisibility=hidden", *WARNINGS, f"-I{folder}", f"-I{ROOT / 'include'}", HERE / "record.c", DIST / "memory.c", folder / "real.s", "-o", library], check=True)
-    surroundings = {**os.environ, "WAGTENIB_LIBRARY": str(library), "RECORDING": str(made), "PYTHONDONTWRITEBYTECODE": "1"}
-    for run in runs():
-        ran = subprocess.run([sys.executable, *run], env=surroundings, stdout=subprocess.PIPE, stderr=subprocess.STDOUT, text=True)
-        if ran.returncode:
-            sys.exit(f"{ran.stdout}tests/library/replays.py: {run[0].name} fails")
+    library, made = signatures.wrapped(folder, "-fvisibility=hidden", *WARNINGS, HERE / "record.c", DIST / "memory.c"), folder / "calls"
+    signatures.run_over(library, "tests/library/replays.py", RECORDING=str(made))
     return made
 
 

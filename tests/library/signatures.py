@@ -1,9 +1,14 @@
-"""The parameters of each function of include/wagtenib.h, for what calls every function alike: the programs in C of this folder, and comparing.py."""
+"""The parameters of each function of include/wagtenib.h, for what calls every function alike: the programs in C of this folder, and comparing.py. Runs the comparisons
+of this folder over a library whose functions such a program wraps, for refusals.py and replays.py."""
+import os
 import pathlib
 import re
+import subprocess
+import sys
 import typing
 
-ROOT = pathlib.Path(__file__).resolve().parent.parent.parent
+HERE = pathlib.Path(__file__).resolve().parent
+ROOT = HERE.parent.parent
 HEADER = (ROOT / "include" / "wagtenib.h").read_text()
 # The lists of hashes, whose lengths are numbers of hashes.
 OF_HASHES = {"path", "proof", "leaf_hashes", "subtrees"}
@@ -48,3 +53,31 @@ def table():
         return ", ".join(f"{{'{one.kind}', {one.size}, {int(one.has_number)}}}" for one in parameters) or "{0, 0, 0}"
 
     return "".join(f"FUNCTION({name}, {int(has_code)}, {listed(parameters)})\n" for name, has_code, parameters in functions())
+
+
+def wrapped(folder, *words):
+    """Makes the library for this processor with each function wrapped by a source in C, which calls it as real_NAME. `words` are flags of gcc and sources."""
+    code = pathlib.Path(subprocess.run([ROOT / "dist" / "processor.sh"], capture_output=True, text=True, check=True).stdout.strip()).read_text()
+    names = "|".join(name for name, _, _ in functions())
+    (folder / "real.s").write_text(re.sub(rf"\b({names})\b", r"real_\1", code))
+    (folder / "functions.h").write_text(table())
+    made = folder / "libwagtenib.so"
+    subprocess.run(["gcc", "-shared", "-fPIC", f"-I{folder}", f"-I{ROOT / 'include'}", *words, folder / "real.s", "-o", made], check=True)
+    return made
+
+
+# The comparisons that call the functions, with fewer calls than each makes by itself.
+COMPARISONS = [
+    *("step.py --calls 9", "guard.py --calls 3000", "witness.py --calls 2000", "monitor.py --calls 2000", "node.py --calls 4000", "texts.py --calls 400"),
+    *("names.py --calls 1500 --searches 1000", "data_tiles.py --calls 1500", "proofs.py --calls 300"),
+]
+
+
+def run_over(library, script, more=(), **variables):
+    """Runs the comparisons, and more scripts of this folder, over a library. If one fails, it says so in the name of `script`, and ends the program."""
+    surroundings = {**os.environ, "WAGTENIB_LIBRARY": str(library), "PYTHONDONTWRITEBYTECODE": "1", **variables}
+    for line in [*COMPARISONS, *more]:
+        name, *words = line.split()
+        ran = subprocess.run([sys.executable, HERE / name, *words], env=surroundings, stdout=subprocess.PIPE, stderr=subprocess.STDOUT, text=True)
+        if ran.returncode:
+            sys.exit(f"{ran.stdout}{script}: {name} fails")

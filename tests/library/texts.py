@@ -11,7 +11,7 @@ import hashlib
 import re
 import struct
 
-from comparing import ROOT, Fault, begin, wagtenib
+from comparing import DAMAGES, ROOT, Fault, begin, wagtenib
 
 # C2SP tlog-checkpoint, "Note text", and tlog-cosignature, "cosignature/v1".
 EXAMPLE = b"example.com/behind-the-sofa\n20852163\nCsUYapGGPo4dkMgIAUqom/Xajj7h2fB2MPA3j2jxq2I=\n"
@@ -21,20 +21,6 @@ KEY = "PeterNeumann+c74f20a3+ARpc2QcUPDhMQegwxbzhKqiBfsVkmqq/LDE4izWy10TW"
 ORIGINS = [b"log.example/1", b"l", "l\u00f6g.example".encode(), b"a b+c", b""]
 NO_ORIGINS = [b"", b"a\nb", b"\n", b"\xff", b"a\xc3"]
 MOST = (1 << 64) - 1
-# How a text is damaged.
-DAMAGES = [
-    lambda text: text[:-1],
-    lambda text: text.replace(b"\n", b"\n0", 1),
-    lambda text: text.replace(b"\n", b"\n+", 1),
-    lambda text: text + b"an extension line\n",
-    lambda text: b"\n" + text,
-    lambda text: text.replace(b"l", b"\xff", 1),
-    lambda text: text.replace(b"\n", b"\r\n"),
-    lambda text: text.replace(b"=", b""),
-    lambda text: re.sub(rb"\n(\d+)\n", rb"\n1\g<1>00000000000000000000\n", text),
-    lambda text: re.sub(rb"(.)=\n", lambda found: bytes([found[1][0] + 1]) + b"=\n", text),
-    lambda text: b"",
-]
 
 
 def text_of(origin, size, root):

@@ -9,7 +9,7 @@ in one of many ways. Each code of the witness that a call can return must come a
 import base64
 import sys
 
-from comparing import TESTS, Fault, begin, wagtenib
+from comparing import DAMAGES, TESTS, Fault, begin, wagtenib
 from merkle import Tree, leaf_hash
 
 sys.path.insert(0, str(TESTS / "witness"))
@@ -21,18 +21,6 @@ DUE = ("OK", "BAD_STATE", "STATE_ROLLED_BACK", "NO_CHECKPOINT", "OTHER_ORIGIN", 
        "PATH_TOO_LONG", "PATH_TOO_SHORT", "FIRST_MISMATCH", "ROOT_MISMATCH")
 MOST, SIZES = (1 << 64) - 1, 33
 ORIGINS = ("log.example/1", "l", "l\u00f6g.example")
-# How a checkpoint or a state is damaged.
-DAMAGES = [
-    lambda text: text[:-1],
-    lambda text: text.replace(b"\n", b"\n0", 1),
-    lambda text: text.replace(b"\n", b"\n+", 1),
-    lambda text: text + b"an extension line\n",
-    lambda text: b"\n" + text,
-    lambda text: text.replace(b"l", b"\xff", 1),
-    lambda text: text.replace(b"\n", b"\r\n"),
-    lambda text: text.replace(b"=", b""),
-    lambda text: b"",
-]
 
 
 class History:

@@ -25,8 +25,8 @@ from cryptography.x509.oid import NameOID  # noqa: E402
 KEY = ec.generate_private_key(ec.SECP256R1())
 
 
-def make(subject=(), names=(), issuer="An authority", extensions=()):
-    """A certificate for these attributes, each with its kind of string, and these names of subjectAltName."""
+def make(subject=(), names=(), issuer="An authority", extensions=(), poison=False):
+    """A certificate in DER for these attributes, each with its kind of string, and these names of subjectAltName; with the poison it is a precertificate."""
     attributes = [x509.NameAttribute(oid, text, kind, _validate=False) for oid, text, kind in subject]
     begin = datetime.datetime(2026, 1, 1)
     builder = x509.CertificateBuilder(x509.Name([x509.NameAttribute(NameOID.ORGANIZATION_NAME, issuer)]), x509.Name(attributes), KEY.public_key(), 7)
@@ -35,7 +35,9 @@ def make(subject=(), names=(), issuer="An authority", extensions=()):
         builder = builder.add_extension(x509.SubjectAlternativeName(names), critical=False)
     for extension in extensions:
         builder = builder.add_extension(extension, critical=False)
-    return builder.sign(KEY, hashes.SHA256())
+    if poison:
+        builder = builder.add_extension(x509.PrecertPoison(), critical=True)
+    return builder.sign(KEY, hashes.SHA256()).public_bytes(serialization.Encoding.DER)
 
 
 def common(text, kind=kinds.UTF8String):
@@ -122,17 +124,9 @@ def by_library(row):
     oids = {"O": NameOID.ORGANIZATION_NAME, "emailAddress": NameOID.EMAIL_ADDRESS}
     subject = common(row.common, getattr(kinds, row.kind)) if row.common else []
     subject += [(oids[name], text, kinds.UTF8String if name == "O" else kinds.IA5String) for name, text in row.subject]
-    names = x509.Name([x509.NameAttribute(oid, text, kind, _validate=False) for oid, text, kind in subject])
-    issuer, begin = x509.Name([x509.NameAttribute(NameOID.ORGANIZATION_NAME, row.issuer)]), datetime.datetime(2026, 1, 1)
-    builder = x509.CertificateBuilder(issuer, names, KEY.public_key(), 7, begin, begin + datetime.timedelta(90))
-    if row.alt:
-        builder = builder.add_extension(x509.SubjectAlternativeName([makers[kind](text) for kind, text in row.alt]), critical=False)
-    if row.lists:
-        lists = x509.DistributionPoint([x509.UniformResourceIdentifier(row.lists)], None, None, None)
-        builder = builder.add_extension(x509.CRLDistributionPoints([lists]), critical=False)
-    if row.poison:
-        builder = builder.add_extension(x509.PrecertPoison(), critical=True)
-    return builder.sign(KEY, hashes.SHA256()).public_bytes(serialization.Encoding.DER)
+    names = [makers[kind](text) for kind, text in row.alt]
+    lists = [x509.DistributionPoint([x509.UniformResourceIdentifier(row.lists)], None, None, None)] if row.lists else []
+    return make(subject, names, row.issuer, [x509.CRLDistributionPoints(lists)] if lists else [], row.poison)
 
 
 class Log:
