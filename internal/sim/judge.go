@@ -328,12 +328,17 @@ func (j *judge) answered(m *machine, number int, index, timestamp uint64, signed
 }
 
 // alarms judges why a node does not start, or refuses a submission: it must not say that the log lost something, or was
-// rolled back, if no store lost anything and no witness says so.
-func (j *judge) alarms(m *machine, err error) {
+// rolled back, if no store lost anything and no witness says so. It must not say that the signer refused a timestamp
+// either if the guard's state is still the same as when the submission came.
+func (j *judge) alarms(m *machine, err error, isStill bool) {
 	if j.w.excuses.loss || j.w.excuses.missing || j.counts[WitnessSays]+j.counts[StepLost] > 0 {
 		return
 	}
-	for _, of := range []error{node.ErrRolledBack, node.ErrDamaged, node.ErrIndex, signer.ErrState} {
+	of := []error{node.ErrRolledBack, node.ErrDamaged, node.ErrIndex, signer.ErrState}
+	if isStill {
+		of = append(of, signer.ErrRefused)
+	}
+	for _, of := range of {
 		if errors.Is(err, of) {
 			j.breaks("no false alarm", "%s says: %v", m.name, err)
 		}

@@ -19,6 +19,12 @@ type Client struct {
 	Burst bool
 }
 
+// The calls that are answered late in haste.
+const (
+	lateLookups = "index: find"
+	lateHeads   = "objects: get heads/"
+)
+
 // Plan is a history before it runs. Everything else follows from Seed.
 type Plan struct {
 	Seed      int64
@@ -34,14 +40,14 @@ type Plan struct {
 	Answers int
 	// MaxBatch is how many entries a step takes at most, and 0 is the usual number.
 	MaxBatch int
-	// Haste says that readers ask often, and at the same time, and that half of the look-ups in the index are answered
-	// late.
-	Haste bool
+	// Haste is empty or how the calls begin of which half are answered late: lateLookups or lateHeads. Readers ask often
+	// then, and at the same time.
+	Haste string
 }
 
 func (p Plan) String() string {
 	var text strings.Builder
-	fmt.Fprintf(&text, "seed %d, %d nodes, %d witnesses %+v, janitors: %v, public: %v, haste: %v, at least %d answers, "+
+	fmt.Fprintf(&text, "seed %d, %d nodes, %d witnesses %+v, janitors: %v, public: %v, haste: %q, at least %d answers, "+
 		"at most %d entries a step", p.Seed, p.Machines, p.Witnesses.Count, p.Witnesses.Quorums, p.Janitors, p.Public,
 		p.Haste, p.Answers, cmp.Or(p.MaxBatch, usualBatch))
 	for _, f := range p.Faults {

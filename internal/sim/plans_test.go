@@ -212,7 +212,7 @@ func TestLockFallsWhileHeadWaits(t *testing.T) {
 // one.
 func TestLaterTextIsKept(t *testing.T) {
 	plan := sim.Plan{
-		Seed: 6716, Machines: 3, Public: true, Haste: true,
+		Seed: 6716, Machines: 3, Public: true, Haste: "index: find",
 		Witnesses: sim.Witnesses{Count: 3, Quorums: witness.Quorums{Publish: 3, Start: 2, Faults: 1}},
 		Faults: []sim.Fault{
 			{At: 10, Kind: sim.Paused, Long: 30 * time.Millisecond},

@@ -168,7 +168,7 @@ func (o objects) Get(ctx context.Context, name string, max int64) (content []byt
 		}
 		content = bytes.Clone(stored)
 		if strings.HasPrefix(name, "heads/") {
-			return o.m.dawdle(ctx)
+			return o.m.dawdle(ctx, lateHeads)
 		}
 		return nil
 	})
@@ -377,7 +377,7 @@ func (i index) find(ctx context.Context, what string, in map[stores.Identity]sto
 				found[key] = place
 			}
 		}
-		return i.m.dawdle(ctx)
+		return i.m.dawdle(ctx, lateLookups)
 	})
 	if err != nil {
 		return nil, err
@@ -388,10 +388,10 @@ func (i index) find(ctx context.Context, what string, in map[stores.Identity]sto
 // lateAnswers is how late the index answers, and the store when it is asked for a head, if the plan says so.
 const lateAnswers = 300 * time.Millisecond
 
-// dawdle has half of the answers come late, if the plan says so. By then the store may have more.
-func (m *machine) dawdle(ctx context.Context) error {
+// dawdle has half of the answers of such calls come late, if the plan says so. By then the store may have more.
+func (m *machine) dawdle(ctx context.Context, calls string) error {
 	w := m.w
-	if !w.plan.Haste || w.events.calm || w.random.Intn(2) == 0 {
+	if w.plan.Haste != calls || w.events.calm || w.random.Intn(2) == 0 {
 		return nil
 	}
 	if err := w.sleep(ctx.(*simulated), lateAnswers); err != nil {

@@ -34,6 +34,8 @@ func NewPlan(seed int64) Plan {
 		plan.losesAtRest(rand.New(rand.NewSource(seed)))
 	case seed%unsignedEach == unsignedEach/2:
 		plan.fallsUnsigned(rand.New(rand.NewSource(seed)))
+	case seed%unlistedEach == unlistedEach/2:
+		plan.fallsBeforeSwap(rand.New(rand.NewSource(seed)))
 	case seed%stillEach == stillEach/2:
 		plan.thinsAfterPause(rand.New(rand.NewSource(seed)))
 	}
@@ -48,12 +50,13 @@ const (
 	lossEach      = 29
 	unsignedEach  = 53
 	stillEach     = 41
+	unlistedEach  = 59
 )
 
 // readsElsewhere has one node make all steps, and readers in haste ask the others, which know of the steps only by
 // reading. Each of these is away now and then, when it has to return what it knows.
 func (p *Plan) readsElsewhere(random *rand.Rand) {
-	p.Haste, p.Machines, p.Answers, p.Faults, p.Clients = true, max(p.Machines, 2), 0, nil, nil
+	p.Haste, p.Machines, p.Answers, p.Faults, p.Clients = lateHeads, max(p.Machines, 2), 0, nil, nil
 	begins := time.Duration(500+random.Intn(500)) * time.Millisecond
 	for first := range 5 {
 		c := Client{Begins: begins}
@@ -110,6 +113,22 @@ func (p *Plan) fallsUnsigned(random *rand.Rand) {
 	}
 }
 
+// fallsBeforeSwap pauses a node before it swaps the lock. Meanwhile others make steps from the same text, and then the lock
+// and the guard's state fall back, mostly to that text.
+func (p *Plan) fallsBeforeSwap(random *rand.Rand) {
+	p.Machines, p.Answers, p.Witnesses = max(p.Machines, 2), 0, Witnesses{}
+	begins := time.Duration(2500+random.Intn(1000)) * time.Millisecond
+	p.Clients = []Client{{Begins: 500 * time.Millisecond, Numbers: []int{9000, 9001}},
+		{Begins: begins, Numbers: []int{9010, 9011, 9012}, Burst: true},
+		{Begins: begins + 100*time.Millisecond, Machine: 1, Numbers: []int{9020, 9021}[:1+random.Intn(2)]},
+		{Begins: begins + 8*time.Second, Machine: 1, Numbers: []int{9030}}}
+	falls := begins + time.Duration(500+random.Intn(500))*time.Millisecond
+	p.Faults = []Fault{
+		{At: 1, Of: 1, On: "objects: put staging", After: begins, Kind: Paused, Long: falls - begins + 300*time.Millisecond},
+		{At: 1, After: falls, Kind: LockAndGuardRolledBack, Count: 1 + random.Intn(5)},
+	}
+}
+
 // thinsAfterPause pauses a node for so long that others put heads which it does not know when its janitor goes on. Later
 // it is paused again, for a moment, while its janitor deletes heads. The other nodes put several heads at a time, with
 // nothing between for a while.
@@ -155,7 +174,7 @@ const hastensEach = 19
 // another node while it is looked up, and a reader may get a head while another one gets a later one. In a third of
 // these histories each machine is away some times, when it has to return what it knows.
 func (p *Plan) hastens(seed int64) {
-	p.Haste = true
+	p.Haste = lateLookups
 	for round := range 4 {
 		for machine := range p.Machines {
 			c := Client{Begins: time.Duration(1+round) * time.Second, Machine: machine, Burst: true}

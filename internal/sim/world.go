@@ -171,7 +171,7 @@ func (m *machine) carry() {
 	if err != nil {
 		m.w.log(m.name, "does not start", err.Error(), "")
 		m.refused = err
-		m.w.judge.alarms(m, err)
+		m.w.judge.alarms(m, err, false)
 		return
 	}
 	m.node, m.refused = n, nil
