@@ -145,7 +145,7 @@ func (l *Loop) restore(ctx context.Context, k *state) (Head, error) {
 	if err := l.cosign(ctx, k, &head, resumed.Objects); err != nil {
 		return Head{}, err
 	}
-	if err := l.putRight(ctx, headName(k.Size, k.Timestamp), head.Note); err != nil {
+	if head, err = l.putRestored(ctx, k, head); err != nil {
 		return Head{}, fmt.Errorf("node: %w", err)
 	}
 	return head, nil
@@ -183,6 +183,26 @@ func (l *Loop) putHead(
 		return Head{}, fmt.Errorf("node: the head: %w", err)
 	}
 	return made, nil
+}
+
+// putRestored puts a state's head over anything else under its name, but not over one that another node restored
+// meanwhile. The signatures of one head differ, so its object may have several contents, and no right one is deleted.
+func (l *Loop) putRestored(ctx context.Context, k *state, head Head) (Head, error) {
+	name := headName(k.Size, k.Timestamp)
+	err := l.config.Stores.Objects.Put(ctx, name, head.Note)
+	if errors.Is(err, stores.ErrOther) {
+		stored, wrong := l.headOf(ctx, k)
+		if !errors.Is(wrong, errOtherHead) {
+			return stored, wrong
+		}
+		if err = l.config.Stores.Objects.Delete(ctx, name); err == nil {
+			err = l.config.Stores.Objects.Put(ctx, name, head.Note)
+		}
+	}
+	if err == nil {
+		l.config.Machine.Observer.Repaired(name)
+	}
+	return head, err
 }
 
 // maxAsked is how often the signer is asked again, since another node had it approve a head meanwhile.

@@ -34,7 +34,7 @@ func (w *world) submit(m *machine, number int) error {
 		return errUnreachable
 	}
 	var err error
-	answered := false
+	answered, guard := false, w.stores.guard
 	w.spawn(p, func() {
 		err = w.serve(m, n, number)
 		answered = true
@@ -45,7 +45,7 @@ func (w *world) submit(m *machine, number int) error {
 	if !answered {
 		return errUnreachable
 	}
-	w.judge.alarms(m, err)
+	w.judge.alarms(m, err, guard == w.stores.guard)
 	return err
 }
 

@@ -5,6 +5,7 @@ import (
 	"crypto/sha256"
 	"encoding/base64"
 	"fmt"
+	"slices"
 	"sort"
 	"strings"
 	"time"
@@ -91,12 +92,14 @@ func (w *world) loses(m *machine, f Fault) bool {
 		happened = w.misplaces(f.Count)
 	case MemoryLost:
 		happened = m.remembered != nil
-		m.remembered = nil
+		m.disk = disk{}
 		m.process.dead = true
 		return happened
 	case LockGone:
-		happened = w.stores.text != ""
-		w.stores.text, w.stores.published = "", stores.Published{}
+		happened = w.losesLock(f.Count)
+	case StepLost:
+		// The newest staged batch has all of it, so the log must go on.
+		return w.losesStep()
 	default:
 		happened = w.rollsBack(f)
 	}
@@ -115,6 +118,34 @@ func (w *world) losesNewest() bool {
 		}
 	}
 	return false
+}
+
+// losesLock takes the lock's text away. Half of the engines do not know any more that there was a lock.
+func (w *world) losesLock(which int) bool {
+	s := &w.stores
+	happened := s.text != ""
+	s.text, s.published, s.created = "", stores.Published{}, s.created && which%2 == 0
+	return happened
+}
+
+// losesStep has the power fail: all nodes are killed, and the store loses what was put of the newest state since it was
+// decided, if that is published and its staged batch is there.
+func (w *world) losesStep() bool {
+	k := cells(w.stores.text)
+	if k == nil || !w.isPublished() || w.judge.newest.Timestamp != k.timestamp || w.judge.newest.Size != k.size ||
+		w.stores.objects["staging/"+k.name] == nil {
+		return false
+	}
+	left := slices.Clone(w.stores.changes[objectsPart])
+	for i := len(left) - 1; i >= 0 && left[i].call > w.stores.decided; i-- {
+		if strings.HasPrefix(left[i].name, "tile/") || strings.HasPrefix(left[i].name, "heads/") {
+			left[i].undo()
+			left = slices.Delete(left, i, i+1)
+		}
+	}
+	w.stores.changes[objectsPart] = left
+	w.killsAll()
+	return true
 }
 
 // bends changes a byte of an object that is no head.
@@ -300,15 +331,22 @@ func (w *world) rollsBack(f Fault) bool {
 // back as well, and only the witnesses show it.
 func (w *world) stopsAll() {
 	isWitnessed := len(w.observers) > 0
+	w.killsAll()
+	for _, m := range w.machines {
+		if isWitnessed {
+			m.disk = disk{}
+		}
+	}
+	w.excuses.signed = w.excuses.signed || isWitnessed
+}
+
+// killsAll ends all nodes.
+func (w *world) killsAll() {
 	for _, m := range w.machines {
 		if m.process != nil {
 			m.process.dead = true
 		}
-		if isWitnessed {
-			m.remembered = nil
-		}
 	}
-	w.excuses.signed = w.excuses.signed || isWitnessed
 }
 
 // listedWithin is how long before the end of its swap a node may have listed the heads (maxUnlisted in internal/node).
@@ -322,7 +360,7 @@ func (w *world) unputHead() *signer.Head {
 		return nil
 	}
 	last := guard.Last()
-	_, isPut := w.stores.objects[fmt.Sprintf("heads/%020d-%020d", last.Size, last.Timestamp)]
+	_, isPut := w.stores.objects[headName(*last)]
 	if put := w.judge.standing; isPut && (len(put) == 0 || put[len(put)-1].at < w.now-listedWithin) {
 		return nil
 	}

@@ -72,14 +72,26 @@ var ownVerifier = verifier{witness.OfRFC6962(Origin, keyDER), func(text, signatu
 // Verifier is what a node verifies the log's signatures of notes by.
 func (g *guarded) Verifier() note.Verifier { return ownVerifier }
 
-// sign returns the DigitallySigned of a message (RFC 5246, section 4.7).
-func sign(message []byte) []byte {
-	signature := logKey.sign(message)
+// salted is how many bytes at the beginning of a signature of the log's key are its salt. Signatures of one message
+// differ, as those by ECDSA do.
+const salted = 8
+
+// sign returns the DigitallySigned of a message (RFC 5246, section 4.7), by a salt.
+func sign(salt, message []byte) []byte {
+	signature := append(bytes.Clone(salt), logKey.sign(append(bytes.Clone(salt), message...))[salted:]...)
 	return append(binary.BigEndian.AppendUint16([]byte{4, 3}, uint16(len(signature))), signature...)
 }
 
 // isSigned reports whether a DigitallySigned is the key's over a message.
-func isSigned(message, signed []byte) bool { return bytes.Equal(sign(message), signed) }
+func isSigned(message, signed []byte) bool {
+	return len(signed) >= 4+salted && bytes.Equal(sign(signed[4:4+salted], message), signed)
+}
+
+// sign returns a new signature of a message.
+func (g *guarded) sign(message []byte) []byte {
+	g.m.w.stores.signatures++
+	return sign(binary.BigEndian.AppendUint64(nil, g.m.w.stores.signatures), message)
+}
 
 // headMessage is what is signed of a tree head (RFC 6962, section 3.5).
 func headMessage(head signer.Head) []byte {
@@ -181,7 +193,7 @@ func (g *guarded) SignHead(ctx context.Context, head signer.Head, consistency []
 	if !bytes.Equal(next.Signed(), headMessage(head)) {
 		g.m.w.judge.breaks("a signed head is the list's", "the guard has other bytes signed")
 	}
-	return sign(next.Signed()), nil
+	return g.sign(next.Signed()), nil
 }
 
 // swap replaces the guard's state.
@@ -243,7 +255,7 @@ func (g *guarded) signApproved(ctx context.Context, leaves [][]byte, approve fun
 	}
 	signed := make([][]byte, len(leaves))
 	for i, leaf := range leaves {
-		signed[i] = sign(leaf)
+		signed[i] = g.sign(leaf)
 	}
 	return signed, nil
 }

@@ -27,8 +27,10 @@ type judge struct {
 	violation *Violation
 	// knownList is the list under the largest head that was put.
 	knownList
-	// newest is the newest head that was put, and tiles has what was put of each tile.
+	// newest is the newest head that was put, raised what was published furthest, and tiles has what was put of each
+	// tile.
 	newest, checkpoint signer.Head
+	raised             stores.Published
 	tiles              map[string]*puts
 	// standing are all heads that were put, in that order.
 	standing []standing
@@ -120,7 +122,7 @@ func (j *judge) putHead(name, note string) {
 		j.breaks("a head is signed", "%s: %v", name, err)
 		return
 	}
-	if want := fmt.Sprintf("heads/%020d-%020d", head.Size, head.Timestamp); name != want {
+	if want := headName(head); name != want {
 		j.breaks("a head has its name", "%s has the head %s", name, want)
 	}
 	added, ok := j.treeOf(head, name)
@@ -170,7 +172,11 @@ func (j *judge) putCheckpoint(name string, content []byte) {
 		return
 	}
 	before := j.checkpoint
-	if !j.w.excuses.missing && (head.Size < before.Size || head.Timestamp <= before.Timestamp) {
+	if j.w.excuses.missing {
+		// It may have been rolled back with the other objects. If there is none, no head was before.
+		before, _ = readNote(string(j.w.stores.checkpoint))
+	}
+	if head.Size < before.Size || head.Timestamp <= before.Timestamp {
 		j.breaks("the checkpoint does not go back", "it gets the head of %d entries at %d ms after that of %d at %d ms",
 			head.Size, head.Timestamp, before.Size, before.Timestamp)
 	}
@@ -193,8 +199,11 @@ func (j *judge) signs(m *machine, head signer.Head) {
 		j.w.excuses.theirs[head] = true
 		return
 	}
-	j.isLists(head, fmt.Sprintf("a signed head of %d entries at %d ms", head.Size, head.Timestamp),
+	added, ok := j.isLists(head, fmt.Sprintf("a signed head of %d entries at %d ms", head.Size, head.Timestamp),
 		"a signed head is the list's")
+	if ok {
+		j.continues(m, head, added)
+	}
 }
 
 // swaps judges a step on which the lock decides: it is made of the text before, whose head is published, and its staged
@@ -217,6 +226,10 @@ func (j *judge) swaps(by *process, old, new string) {
 		!before.isBegin() && !j.w.excuses.missing {
 		j.breaks("a step is made of a published state",
 			"the lock gets the text of %d entries, and the state before has no head", after.size)
+	}
+	if of := (stores.Published{Size: before.size, Timestamp: before.timestamp}); j.raised.Before(of) && !before.isBegin() {
+		j.breaks("a step is made of a published state",
+			"the lock gets the text of %d entries, and never said that the state before is published", after.size)
 	}
 	j.takes(by, before, after)
 }
@@ -265,6 +278,9 @@ func cells(text string) *cell {
 // raises judges how far the lock says that the log is published: the head is in the store, and the checkpoint is that
 // head or a later one.
 func (j *judge) raises(p stores.Published) {
+	if j.raised.Before(p) {
+		j.raised = p
+	}
 	name := fmt.Sprintf("heads/%020d-%020d", p.Size, p.Timestamp)
 	if _, ok := j.w.stores.objects[name]; !ok && !j.w.excuses.missing {
 		j.breaks("a published size has a head", "%s is published and not in the store", name)
@@ -273,6 +289,20 @@ func (j *judge) raises(p stores.Published) {
 	if j.w.plan.Public && !j.w.excuses.missing && checkpoint.Before(p) {
 		j.breaks("a published head is at the checkpoint", "%s is published, and the checkpoint is of %d entries at %d ms",
 			name, checkpoint.Size, checkpoint.Timestamp)
+	}
+}
+
+// shows judges which head a machine says to be published: its node put that, or read it.
+func (j *judge) shows(m *machine, p stores.Published) {
+	if name := headName(signer.Head{Size: p.Size, Timestamp: p.Timestamp}); !m.process.known.seen[name] {
+		j.breaks("a published head was seen", "%s says that %s is published, and neither put nor read it", m.name, name)
+	}
+}
+
+// creates judges a lock that a machine makes: it may not have found one gone from a log that has heads.
+func (j *judge) creates(m *machine) {
+	if m.process.known.isGone {
+		j.breaks("a lock that is gone is not made again", "%s makes one, and the store had heads when it found none", m.name)
 	}
 }
 
@@ -298,12 +328,17 @@ func (j *judge) answered(m *machine, number int, index, timestamp uint64, signed
 }
 
 // alarms judges why a node does not start, or refuses a submission: it must not say that the log lost something, or was
-// rolled back, if no store lost anything and no witness says so.
-func (j *judge) alarms(m *machine, err error) {
-	if j.w.excuses.loss || j.w.excuses.missing || j.counts[WitnessSays] > 0 {
+// rolled back, if no store lost anything and no witness says so. It must not say that the signer refused a timestamp
+// either if the guard's state is still the same as when the submission came.
+func (j *judge) alarms(m *machine, err error, isStill bool) {
+	if j.w.excuses.loss || j.w.excuses.missing || j.counts[WitnessSays]+j.counts[StepLost] > 0 {
 		return
 	}
-	for _, of := range []error{node.ErrRolledBack, node.ErrDamaged, node.ErrIndex, signer.ErrState} {
+	of := []error{node.ErrRolledBack, node.ErrDamaged, node.ErrIndex, signer.ErrState}
+	if isStill {
+		of = append(of, signer.ErrRefused)
+	}
+	for _, of := range of {
 		if errors.Is(err, of) {
 			j.breaks("no false alarm", "%s says: %v", m.name, err)
 		}

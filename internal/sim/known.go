@@ -3,6 +3,7 @@ package sim
 import (
 	"errors"
 	"fmt"
+	"strings"
 	"time"
 
 	"wagtenib/internal/node"
@@ -16,6 +17,23 @@ type known struct {
 	newest *cell
 	// heard is when the node was last answered by the lock, or by a list of the heads.
 	heard time.Duration
+	// seen has the names of the heads that the node put, or read.
+	seen map[string]bool
+	// isGone says that the lock was gone when the node read it last, and that the store had heads then.
+	isGone bool
+}
+
+// sees keeps that the store has a head, if an object is one under its name.
+func (of *known) sees(name string, content []byte) {
+	if !strings.HasPrefix(name, "heads/") {
+		return
+	}
+	if head, err := readNote(string(content)); err == nil && name == headName(head) {
+		if of.seen == nil {
+			of.seen = map[string]bool{}
+		}
+		of.seen[name] = true
+	}
 }
 
 // lookBack is for how long a node may not have heard of the lock, until it must look for heads that are later than what

@@ -1,6 +1,7 @@
 package sim
 
 import (
+	"cmp"
 	"fmt"
 	"math/rand"
 	"strings"
@@ -8,110 +9,6 @@ import (
 
 	"wagtenib/internal/witness"
 )
-
-// Kind is a kind of fault.
-type Kind int
-
-// The faults of a call.
-const (
-	// CallFails: the call is not done, and says so.
-	CallFails Kind = iota
-	// CallHangs: the call is not done, and gives no answer until the caller gives up.
-	CallHangs
-	// DoneSaysFailed: the call is done, and says that it failed.
-	DoneSaysFailed
-	// AnswersLate: the call is done, and its answer comes after the caller gave up.
-	AnswersLate
-	// DoneLate: the call is done after the caller gave up.
-	DoneLate
-	// KilledBefore and KilledAfter: the node is killed before the call is done, or after that.
-	KilledBefore
-	KilledAfter
-	// Paused: the node is paused at the call, and continues later.
-	Paused
-	// Away: no call of the node reaches a store for a while.
-	Away
-	// StoreFull: no store takes anything for a while. ReadOnly: no store is changed for a while, not even by deleting.
-	StoreFull
-	ReadOnly
-	// ClockForward and ClockBack: the node's time of day is set.
-	ClockForward
-	ClockBack
-	// WitnessSays: a witness answers wrongly. WitnessRolledBack: a witness forgets what it cosigned last, if the log's
-	// quorums bear that.
-	WitnessSays
-	WitnessRolledBack
-	// PutLost: a put is acknowledged, and the object is not there. From here on the faults are losses: a store does not
-	// keep what it acknowledged. A history has at most one of these, since two may be a loss that no node can see.
-	PutLost
-	// NewestLost: the newest object of the store is gone.
-	NewestLost
-	// ObjectBent: an object has another content. HeadForged: the newest head is one that the key never signed: a byte of
-	// its signature is another one, or its root is, or another key signed it.
-	ObjectBent
-	HeadForged
-	// HeadSwapped: the newest head has the content of another head. EdgeBent: a tile at the edge of the newest head's
-	// tree has another content, of which the newest staged batch has the right one.
-	HeadSwapped
-	EdgeBent
-	// IndexLost: some of the newest places are gone from the index. IndexWrong: a place is another entry's.
-	IndexLost
-	IndexWrong
-	// MemoryLost: the machine's memory is gone, and the node is killed.
-	MemoryLost
-	// The stores are rolled back to an earlier state: the objects, the lock, the guard's state, two of these together,
-	// or all.
-	ObjectsRolledBack
-	LockRolledBack
-	GuardRolledBack
-	LockAndGuardRolledBack
-	ObjectsAndLockRolledBack
-	ObjectsAndGuardRolledBack
-	AllRolledBack
-	// LockGone: the lock's text is gone.
-	LockGone
-
-	kinds
-)
-
-var kindNames = [kinds]string{
-	"call fails", "call hangs", "done, says failed", "answers late", "done late", "killed before", "killed after",
-	"paused", "away", "store full", "read-only",
-	"clock forward", "clock back", "witness says", "witness rolled back", "put lost", "newest object lost",
-	"object bent", "head forged", "head swapped", "edge bent", "index lost", "index wrong", "memory lost",
-	"objects rolled back", "lock rolled back", "guard rolled back", "lock, guard rolled back",
-	"objects, lock rolled back", "objects, guard rolled back",
-	"all rolled back", "lock gone",
-}
-
-func (k Kind) String() string { return kindNames[k] }
-
-// Fault happens at one call of the history.
-type Fault struct {
-	// At is the number of the call, from 1 on, of all calls of all nodes. On is how the call begins, and Of is the number
-	// of the machine that makes it, from 1 on, or 0 if any may. The fault happens at the first such call from At on, and
-	// not before the time After.
-	At    int
-	On    string
-	Of    int
-	After time.Duration
-	Kind  Kind
-	// Long is for how long it lasts, or by how much a clock is set, and Count for how many calls, in tens, a store is
-	// rolled back, or which object is meant.
-	Long  time.Duration
-	Count int
-}
-
-func (f Fault) String() string {
-	text := fmt.Sprintf("%s from call %d on, at the first %q", f.Kind, f.At, f.On)
-	if f.Of > 0 {
-		text += fmt.Sprintf(" of node %d", f.Of)
-	}
-	if f.After > 0 {
-		text += fmt.Sprintf(" after %v", f.After)
-	}
-	return fmt.Sprintf("%s (%v, %d)", text, f.Long, f.Count)
-}
 
 // Client submits one after the other. A number that another client or an earlier one had is a repeated chain.
 type Client struct {
@@ -121,6 +18,12 @@ type Client struct {
 	// Burst says that all numbers are submitted at once.
 	Burst bool
 }
+
+// The calls that are answered late in haste.
+const (
+	lateLookups = "index: find"
+	lateHeads   = "objects: get heads/"
+)
 
 // Plan is a history before it runs. Everything else follows from Seed.
 type Plan struct {
@@ -137,117 +40,26 @@ type Plan struct {
 	Answers int
 	// MaxBatch is how many entries a step takes at most, and 0 is the usual number.
 	MaxBatch int
-	// Haste says that readers ask often, and at the same time, and that half of the look-ups in the index are answered
-	// late.
-	Haste bool
+	// Haste is empty or how the calls begin of which half are answered late: lateLookups or lateHeads. Readers ask often
+	// then, and at the same time.
+	Haste string
 }
 
 func (p Plan) String() string {
 	var text strings.Builder
-	fmt.Fprintf(&text, "seed %d, %d nodes, %d witnesses %+v, janitors: %v, public: %v", p.Seed, p.Machines,
-		p.Witnesses.Count, p.Witnesses.Quorums, p.Janitors, p.Public)
+	fmt.Fprintf(&text, "seed %d, %d nodes, %d witnesses %+v, janitors: %v, public: %v, haste: %q, at least %d answers, "+
+		"at most %d entries a step", p.Seed, p.Machines, p.Witnesses.Count, p.Witnesses.Quorums, p.Janitors, p.Public,
+		p.Haste, p.Answers, cmp.Or(p.MaxBatch, usualBatch))
 	for _, f := range p.Faults {
 		fmt.Fprintf(&text, "\n  fault: %v", f)
 	}
 	for _, c := range p.Clients {
 		fmt.Fprintf(&text, "\n  client: at %v of node %d, entries %v", c.Begins, c.Machine+1, c.Numbers)
+		if c.Burst {
+			text.WriteString(" at once")
+		}
 	}
 	return text.String()
-}
-
-// publicEach is how many histories there are for each one with a checkpoint for readers without a node.
-const publicEach = 3
-
-// queuesEach is how many histories there are for each one in which submissions wait for several steps.
-const queuesEach = 23
-
-// NewPlan returns the plan of a seed.
-func NewPlan(seed int64) Plan {
-	plan := newPlan(seed)
-	if seed%queuesEach == queuesEach/2 {
-		plan.queues()
-	}
-	if seed%hastensEach == hastensEach/2 {
-		plan.hastens(seed)
-	}
-	if seed%unheardEach == unheardEach/2 {
-		plan.startsUnheard()
-	}
-	if seed%unreadEach == unreadEach/4 {
-		plan.startsUnread(seed)
-	}
-	return plan
-}
-
-// unheardEach and unreadEach are how many histories there are for each one of startsUnheard and of startsUnread.
-const (
-	unheardEach = 3
-	unreadEach  = 74
-)
-
-// queues has steps take few entries, and has the same entries submitted twice at once, in two orders. So the second
-// submission of an entry is looked up before its step, and waits until several steps later.
-func (p *Plan) queues() {
-	p.MaxBatch = 2
-	const entries = 8
-	for begins := time.Second; begins < 4*time.Second; begins += time.Second {
-		up, down := Client{Begins: begins, Burst: true}, Client{Begins: begins, Burst: true}
-		for n := range entries {
-			first := 4000 + entries*int(begins/time.Second)
-			up.Numbers, down.Numbers = append(up.Numbers, first+n), append(down.Numbers, first+entries-1-n)
-		}
-		p.Clients = append(p.Clients, up, down)
-	}
-}
-
-// hastensEach is how many histories there are for each one of hastens.
-const hastensEach = 19
-
-// hastens has the same entries submitted to all nodes at once, and readers in haste. So an entry may be published by
-// another node while it is looked up, and a reader may get a head while another one gets a later one. In a third of
-// these histories each machine is away some times, when it has to return what it knows.
-func (p *Plan) hastens(seed int64) {
-	p.Haste = true
-	for round := range 4 {
-		for machine := range p.Machines {
-			c := Client{Begins: time.Duration(1+round) * time.Second, Machine: machine, Burst: true}
-			for n := range 5 {
-				c.Numbers = append(c.Numbers, 5000+10*round+n)
-			}
-			p.Clients = append(p.Clients, c)
-			if seed%3 > 0 {
-				continue
-			}
-			p.Faults = append(p.Faults, Fault{At: 1, Of: machine + 1, On: "lock: published", Kind: Away,
-				After: c.Begins + time.Duration(100+(seed*7+int64(machine)*131+int64(round)*37)%400)*time.Millisecond,
-				Long:  300 * time.Millisecond})
-		}
-	}
-}
-
-// startsUnheard has each witness fail once after all stores are rolled back, so that none says what it saw when a node
-// starts.
-func (p *Plan) startsUnheard() {
-	for _, f := range p.Faults {
-		if f.Kind == AllRolledBack {
-			for n := range p.Witnesses.Count {
-				p.Faults = append(p.Faults, Fault{At: f.At + 1, On: fmt.Sprintf("witness%d: add", n+1), Kind: CallFails})
-			}
-			return
-		}
-	}
-}
-
-// startsUnread has the index lose its newest places, and has the only node start again. The first tile cannot be read
-// by which that node would see the loss.
-func (p *Plan) startsUnread(seed int64) {
-	p.Machines, p.Answers = 1, 0
-	at := 45 + int(seed%61)
-	p.Faults = []Fault{{At: at, On: "lock: read", Kind: IndexLost, Count: 2 + int(seed%3)},
-		{At: at, On: "lock: read", Kind: KilledBefore}, {At: at + 1, On: "objects: get tile", Kind: CallFails}}
-	for i := range p.Clients {
-		p.Clients[i].Machine = 0
-	}
 }
 
 func newPlan(seed int64) Plan {
@@ -277,7 +89,7 @@ func newPlan(seed int64) Plan {
 func (p *Plan) special(random *rand.Rand) bool {
 	switch random.Intn(10) {
 	case 0, 1, 2, 3:
-		p.Faults = append(p.Faults, newFault(random, PutLost+Kind(random.Intn(int(kinds-PutLost))), 50+60*p.Machines))
+		p.Faults = append(p.Faults, newFault(random, PutLost+Kind(random.Intn(int(StepLost-PutLost))), 50+60*p.Machines))
 	case 4:
 		p.pausesOne(random)
 	case 5:

@@ -212,7 +212,7 @@ func TestLockFallsWhileHeadWaits(t *testing.T) {
 // one.
 func TestLaterTextIsKept(t *testing.T) {
 	plan := sim.Plan{
-		Seed: 6716, Machines: 3, Public: true, Haste: true,
+		Seed: 6716, Machines: 3, Public: true, Haste: "index: find",
 		Witnesses: sim.Witnesses{Count: 3, Quorums: witness.Quorums{Publish: 3, Start: 2, Faults: 1}},
 		Faults: []sim.Fault{
 			{At: 10, Kind: sim.Paused, Long: 30 * time.Millisecond},
@@ -250,5 +250,27 @@ func TestLaterTextIsKept(t *testing.T) {
 	}
 	if result.Counts[sim.LockRolledBack] != 1 {
 		t.Error("the lock was not rolled back")
+	}
+}
+
+// TestTwoNodesRestoreOneHead has the power fail, and the store loses the newest step. Both nodes restore its head at the
+// same time, and their signatures differ. None may delete the head that the other one put.
+func TestTwoNodesRestoreOneHead(t *testing.T) {
+	lost := 0
+	for seed := range int64(100) {
+		plan := sim.Plan{
+			Seed: seed, Machines: 3,
+			Faults: []sim.Fault{{After: 4 * time.Second, On: "lock: read", Kind: sim.StepLost}},
+			Clients: []sim.Client{{Begins: time.Second, Numbers: numbers(0, 4)},
+				{Begins: 12 * time.Second, Machine: 1, Numbers: numbers(4, 2)}},
+		}
+		result := sim.Run(plan, proved, false)
+		if result.Violation != nil {
+			t.Fatalf("%v\n%s", result.Violation, sim.Explain(plan, proved))
+		}
+		lost += result.Counts[sim.StepLost]
+	}
+	if lost < 60 {
+		t.Errorf("the newest step was lost %d times in 100 histories", lost)
 	}
 }

@@ -435,6 +435,12 @@ var all = []planted{
 			"	if err := error(nil); err != nil {",
 		},
 	}},
+	{"a restored head replaces the one that another node restored", []edit{
+		{"heads.go",
+			"		if !errors.Is(wrong, errOtherHead) {\n			return stored, wrong\n		}\n",
+			"		_, _ = stored, wrong\n",
+		},
+	}},
 }
 
 // missed are the planted faults that 2,000 histories do not find, with the check that hides each. For those of all, all

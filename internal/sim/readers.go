@@ -30,7 +30,7 @@ const (
 func (w *world) reader() {
 	last := make([]*reading, len(w.machines))
 	each, most, looks := askedEach, 1, 400
-	if w.plan.Haste {
+	if w.plan.Haste != "" {
 		each, most, looks = 1, maxAsked, 40
 	}
 	for {

@@ -34,6 +34,11 @@ func (w *world) refuses(m *machine) string {
 	return ""
 }
 
+// headName returns the name of a head's object.
+func headName(head signer.Head) string {
+	return fmt.Sprintf("heads/%020d-%020d", head.Size, head.Timestamp)
+}
+
 // listed returns the size and the timestamp of the newest head in the store, by its name.
 func (w *world) listed() (head signer.Head) {
 	if heads := w.stores.list("heads/", ""); len(heads) > 0 {
@@ -79,7 +84,7 @@ func (j *judge) remembers(m *machine, name string) {
 	if !strings.HasPrefix(name, "heads/") || strings.HasPrefix(name, fmt.Sprintf("heads/%020d-", 0)) {
 		return
 	}
-	if seen := m.remembered; seen == nil || fmt.Sprintf("heads/%020d-%020d", seen.Size, seen.Timestamp) < name {
+	if seen := m.remembered; seen == nil || headName(*seen) < name {
 		j.breaks("a head that is put is remembered", "%s puts %s, and does not remember it", m.name, name)
 	}
 }

@@ -30,8 +30,7 @@ type memory struct {
 	// checkpoint is the object that readers without a node follow.
 	checkpoint []byte
 	lockState
-	// guard is the text of the guard's state, which is another cell of the lock's engine.
-	guard string
+	guardState
 	// index has the places by identities, and leaves by the hashes of leaves.
 	index, leaves map[stores.Identity]stores.Place
 	// call is the number of the newest call. changes are those of each part, from the first on, so that the newest can
@@ -42,10 +41,19 @@ type memory struct {
 }
 
 // lockState is what the lock's engine has: the text, whether it was ever created, and how far the log is published.
+// decided is the number of the call that put the text there.
 type lockState struct {
 	text      string
 	created   bool
 	published stores.Published
+	decided   int
+}
+
+// guardState is the text of the guard's state, which is another cell of the lock's engine, and how many signatures the
+// key made.
+type guardState struct {
+	guard      string
+	signatures uint64
 }
 
 // denied says until when the stores take nothing, and until when they do not even delete.
@@ -60,7 +68,7 @@ type change struct {
 
 func newMemory() memory {
 	return memory{objects: map[string][]byte{}, index: map[stores.Identity]stores.Place{},
-		leaves: map[stores.Identity]stores.Place{}, guard: signer.NoHead}
+		leaves: map[stores.Identity]stores.Place{}, guardState: guardState{guard: signer.NoHead}}
 }
 
 // set gives an object a content, or none.
@@ -132,7 +140,7 @@ func (o objects) Put(ctx context.Context, name string, content []byte) error {
 	w := o.m.w
 	content = bytes.Clone(content)
 	w.judge.remembers(o.m, name)
-	return o.m.call(ctx, "objects", fmt.Sprintf("put %s (%d bytes)", name, len(content)), true, func() error {
+	err := o.m.call(ctx, "objects", fmt.Sprintf("put %s (%d bytes)", name, len(content)), true, func() error {
 		if stored, ok := w.stores.objects[name]; ok && !bytes.Equal(stored, content) {
 			return stores.ErrOther
 		}
@@ -140,6 +148,10 @@ func (o objects) Put(ctx context.Context, name string, content []byte) error {
 		w.stores.set(name, content)
 		return nil
 	})
+	if err == nil {
+		o.m.process.known.sees(name, content)
+	}
+	return err
 }
 
 func (o objects) Get(ctx context.Context, name string, max int64) (content []byte, err error) {
@@ -155,11 +167,15 @@ func (o objects) Get(ctx context.Context, name string, max int64) (content []byt
 			return stores.TooLong{Length: int64(len(stored))}
 		}
 		content = bytes.Clone(stored)
+		if strings.HasPrefix(name, "heads/") {
+			return o.m.dawdle(ctx, lateHeads)
+		}
 		return nil
 	})
 	if err != nil {
 		return nil, err
 	}
+	o.m.process.known.sees(name, content)
 	return content, nil
 }
 
@@ -228,6 +244,7 @@ func (l lock) Create(ctx context.Context, text string) error {
 		if s.created {
 			return stores.ErrExists
 		}
+		l.m.w.judge.creates(l.m)
 		s.created = true
 		s.setLock(text, stores.Published{})
 		return nil
@@ -239,6 +256,7 @@ func (l lock) Read(ctx context.Context) (text string, err error) {
 	why := ""
 	err = l.m.call(ctx, "lock", "read", false, func() error {
 		if text = l.m.w.stores.text; text == "" {
+			l.m.process.known.isGone = len(l.m.w.stores.list("heads/", "")) > 0
 			return stores.ErrAbsent
 		}
 		why = l.m.finds(text)
@@ -268,6 +286,7 @@ func (l lock) Swap(ctx context.Context, old, new string) error {
 		case old:
 			l.m.w.judge.swaps(by, old, new)
 			s.setLock(new, s.published)
+			s.decided = s.call
 			return nil
 		}
 		return stores.ErrLost
@@ -317,6 +336,7 @@ func (l lock) Published(ctx context.Context) (published stores.Published, err er
 
 func (l lock) Raise(ctx context.Context, published stores.Published) error {
 	s := &l.m.w.stores
+	l.m.w.judge.shows(l.m, published)
 	return l.m.call(ctx, "lock", fmt.Sprintf("raise %d %d", published.Size, published.Timestamp), true, func() error {
 		if s.text == "" {
 			return stores.ErrAbsent
@@ -357,7 +377,7 @@ func (i index) find(ctx context.Context, what string, in map[stores.Identity]sto
 				found[key] = place
 			}
 		}
-		return i.dawdle(ctx)
+		return i.m.dawdle(ctx, lateLookups)
 	})
 	if err != nil {
 		return nil, err
@@ -365,13 +385,13 @@ func (i index) find(ctx context.Context, what string, in map[stores.Identity]sto
 	return found, nil
 }
 
-// lateAnswers is how late the index answers if the plan says so.
+// lateAnswers is how late the index answers, and the store when it is asked for a head, if the plan says so.
 const lateAnswers = 300 * time.Millisecond
 
-// dawdle has half of the answers come late, if the plan says so. By then the index may have more.
-func (i index) dawdle(ctx context.Context) error {
-	w := i.m.w
-	if !w.plan.Haste || w.events.calm || w.random.Intn(2) == 0 {
+// dawdle has half of the answers of such calls come late, if the plan says so. By then the store may have more.
+func (m *machine) dawdle(ctx context.Context, calls string) error {
+	w := m.w
+	if w.plan.Haste != calls || w.events.calm || w.random.Intn(2) == 0 {
 		return nil
 	}
 	if err := w.sleep(ctx.(*simulated), lateAnswers); err != nil {

@@ -181,14 +181,13 @@ func (j *judge) rootOf(added []leaf) (root [32]byte) {
 }
 
 // isLists judges whether a head is of the tree whose tiles are in the store, and whether that tree's leaves begin with
-// the list.
-func (j *judge) isLists(head signer.Head, name, rule string) {
+// the list. It returns the leaves that come after the list.
+func (j *judge) isLists(head signer.Head, name, rule string) (added []leaf, ok bool) {
 	if j.w.excuses.signed {
-		return
+		return nil, false
 	}
-	added, ok := j.treeOf(head, name)
-	if !ok {
-		return
+	if added, ok = j.treeOf(head, name); !ok {
+		return nil, false
 	}
 	root := j.roots[min(head.Size, uint64(len(j.leaves)))]
 	if len(added) > 0 {
@@ -196,7 +195,33 @@ func (j *judge) isLists(head signer.Head, name, rule string) {
 	}
 	if root != head.Root {
 		j.breaks(rule, "%s has the root %x and not %x", name, head.Root[:4], root[:4])
+		return nil, false
 	}
+	return added, true
+}
+
+// continues judges whether a head that a machine has signed continues all heads that it accepted: a node that accepted a
+// head of one list never has one of another list signed (docs/NODE.md, "A lock that falls").
+// Added are the leaves that come after the list.
+func (j *judge) continues(m *machine, head signer.Head, added []leaf) {
+	if len(m.accepted) == 0 {
+		return
+	}
+	for _, before := range m.accepted {
+		var root [32]byte
+		switch known := uint64(len(j.leaves)); {
+		case before.Size <= min(known, head.Size):
+			root = j.roots[before.Size]
+		case before.Size <= head.Size:
+			root = j.rootOf(added[:before.Size-known])
+		}
+		if root != before.Root {
+			j.breaks("a node keeps to what it accepted", "%s has a head of %d entries at %d ms signed, and accepted another "+
+				"list of %d at %d ms", m.name, head.Size, head.Timestamp, before.Size, before.Timestamp)
+		}
+	}
+	// All of them are of one list now, so the newest is enough.
+	m.accepted = m.accepted[len(m.accepted)-1:]
 }
 
 // grow adds leaves to the list.

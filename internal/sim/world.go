@@ -79,10 +79,16 @@ type machine struct {
 	refused error
 	// offset is how far the time of day is off, and away until when no call reaches a store.
 	offset, away time.Duration
-	// remembered is the newest head that the machine's memory has.
+	disk
+	signer  *guarded
+	janitor *janitor.Janitor
+}
+
+// disk is the memory of a machine.
+type disk struct {
+	// remembered is the newest head that it has, and accepted are all that a node was told to be there since it was made.
 	remembered *signer.Head
-	signer     *guarded
-	janitor    *janitor.Janitor
+	accepted   []signer.Head
 }
 
 // excuses say what a history may do since a store did not keep what it acknowledged, or a clock was wrong.
@@ -165,7 +171,7 @@ func (m *machine) carry() {
 	if err != nil {
 		m.w.log(m.name, "does not start", err.Error(), "")
 		m.refused = err
-		m.w.judge.alarms(m, err)
+		m.w.judge.alarms(m, err, false)
 		return
 	}
 	m.node, m.refused = n, nil
@@ -233,14 +239,21 @@ func (r remembering) Load(ctx context.Context) (head *signer.Head, err error) {
 		head = r.m.remembered
 		return nil
 	})
+	if err == nil && head != nil {
+		r.m.accepted = append(r.m.accepted, *head)
+	}
 	return head, err
 }
 
 func (r remembering) Save(ctx context.Context, head signer.Head) error {
-	return r.m.call(ctx, "memory", fmt.Sprintf("save %d %d", head.Size, head.Timestamp), false, func() error {
+	err := r.m.call(ctx, "memory", fmt.Sprintf("save %d %d", head.Size, head.Timestamp), false, func() error {
 		r.m.remembered = &head
 		return nil
 	})
+	if err == nil {
+		r.m.accepted = append(r.m.accepted, head)
+	}
+	return err
 }
 
 // call carries out one call of a machine's node on a store, with its faults.
@@ -307,9 +320,10 @@ func (m *machine) isKept(ctx *simulated, store, what string, writes bool, fate *
 		m.process.dead = true
 		return true, errAway
 	case DoneLate:
+		cuts := w.judge.counts[StepLost]
 		w.spawn(nil, func() {
 			w.wait(ctx.left()+fate.Long, nil)
-			if m.takes(store, writes) == nil {
+			if m.takes(store, writes) == nil && cuts == w.judge.counts[StepLost] {
 				// No caller waits for the outcome any more.
 				w.log("store", what, fmt.Sprint(do()), "done late")
 			}
