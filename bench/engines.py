@@ -4,7 +4,7 @@
     tests/engines.sh run bench/engines.py [--turns 2] [--seconds 12] [--clients 16,64,256,1024] [--stores etcd,postgres] [--nodes 1,3] [--out OUT,..]
 
 The engines are those of tests/engines.sh: the lock and the guard's state are on etcd's three members or on PostgreSQL, the index always on PostgreSQL, objects always on S3.
-With several folders OUT of builds of ctserve (by default only cmd/out) each is a log of its own over the same engines. In each turn ctload submits to each log with so many
+With several folders OUT of builds of ctserve (by default only cmd/out) each is a log of its own over the same engines, with a database of its own. In each turn ctload submits to each log with so many
 clients for so many seconds, each client a new certificate as soon as its last one is answered.
 With --nodes 1,3 a log of three nodes takes turns with one of one node, over each store. Its nodes share a signer, and each gets a third of the submissions.
 `make service` builds ctserve and ctload.
@@ -12,7 +12,7 @@ With --nodes 1,3 a log of three nodes takes turns with one of one node, over eac
 It prints the machine, and of each turn: timestamps a second, the median and 99th percentile of the time to one, how many entries a step took in, the processor time of the log's
 processes and of each engine an entry until a signed head has all of them, and how many processors others had meanwhile. Then, of all turns together, how often
 a step called each store and for how long (the guard's state isn't among them: it is the signer's), how long each part of a step took, and the ratios of several
-nodes to one, which are medians of the turns' ratios.
+nodes to one and of this build to others, which are medians of the turns' ratios. The build of commit 9802f24a (bench/old.sh) has one node only.
 """
 import argparse
 import os
@@ -35,12 +35,19 @@ def bucket(name):
     return f"s3://{who}@{host}/{name}?tls=no"
 
 
-def address(store, name):
-    """The address of an engine for a log's lock, index or guard's state."""
+def database(name):
+    """Makes a database, since builds of ctserve may differ in their tables."""
+    at = dict(word.split("=") for word in os.environ["STORES_POSTGRES"].split())
+    run("psql", "-h", at["host"], "-p", at["port"], "-U", at["user"], "-d", at["dbname"], "-c", f'CREATE DATABASE "{name}"')
+    return name
+
+
+def address(store, name, of):
+    """The address of an engine for a log's lock, index or guard's state, in this database if it is PostgreSQL."""
     if store == "etcd":
         return f"etcd://{os.environ['STORES_MEMBERS']}/{name}"
     at = dict(word.split("=") for word in os.environ["STORES_POSTGRES"].split())
-    return f"postgres://{at['user']}@{at['host']}:{at['port']}/{at['dbname']}?sslmode={at['sslmode']}&log={name}"
+    return f"postgres://{at['user']}@{at['host']}:{at['port']}/{of}?sslmode={at['sslmode']}&log={name}"
 
 
 class Several:
@@ -90,7 +97,8 @@ class Node:
     def __init__(self, folder, number, store, out, count):
         self.store, self.count, self.out = store, count, out
         self.name, name = f"{store}, {count} node{'s' * (count > 1)}{'' if out == OUT else f', {out}'}", f"log{os.getpid()}-{number}"
-        stores = {"store": bucket(name), "lock": address(store, name), "index": address("postgres", name), "guard_state": address(store, f"{name}-guard")}
+        of = database(name)
+        stores = {"store": bucket(name), "lock": address(store, name, of), "index": address("postgres", name, of), "guard_state": address(store, f"{name}-guard", of)}
         self.log = Log(folder, out, **stores) if count == 1 else Several(folder, out, count, **stores)
         self.figures, self.steps, self.calls, self.phases = {}, 0, {}, {}
 
@@ -135,15 +143,16 @@ class Engines:
         return found
 
 
-def several(nodes):
-    """Prints the ratios of each log of several nodes to the one of one node that has the same store and build."""
+def compare(nodes):
+    """Prints the ratios of each log of several nodes to the one of one node that has the same store and build, and of this build's logs to those of others."""
     pairs = [(node, one) for node in nodes if node.count > 1 for one in nodes if (one.store, one.out, one.count) == (node.store, node.out, 1)]
+    pairs += [(node, one) for node in nodes if node.out == OUT for one in nodes if one.out != OUT and (one.store, one.count) == (node.store, node.count)]
     if pairs:
-        print("\n| Clients | Nodes over one | Timestamps a second | Median | 99th percentile | Processor |\n" + "|---" * 6 + "|")
+        print("\n| Clients | Log over another one | Timestamps a second | Median | 99th percentile | Processor |\n" + "|---" * 6 + "|")
     for node, one in pairs:
         for clients, figures in node.figures.items():
             cells = (f"{ratio(*([turn[at] for turn in turns] for turns in (figures, one.figures[clients]))):.2f}" for at in range(4))
-            print(f"| {clients:,} | {node.name} | {' | '.join(cells)} |")
+            print(f"| {clients:,} | {node.name} over {one.name} | {' | '.join(cells)} |")
 
 
 def main():
@@ -171,10 +180,10 @@ def main():
             for what, of in (("Calls a step, and ms each", "calls"), ("Parts of a step, ms", "phases")):
                 print(f"\n| {what} | {' | '.join(node.name for node in nodes)} |\n" + "|---" * (1 + len(nodes)) + "|")
                 for name in getattr(nodes[0], of):
-                    cells = [(getattr(node, of)[name], node.steps) for node in nodes]
+                    cells = [(getattr(node, of).get(name, (0, 0)), node.steps) for node in nodes]
                     if any(many for (many, _), _ in cells):
                         print(f"| {name} | " + " | ".join(f"{many / steps:.2f}, {1000 * long / max(many, 1):.1f}" if of == "calls" else f"{1000 * long / steps:.1f}" for (many, long), steps in cells) + " |")
-            several(nodes)
+            compare(nodes)
         finally:
             for node in nodes:
                 node.log.end()

@@ -155,7 +155,8 @@ class Log:
             keys(folder)
         words = {"origin": ORIGIN, "listen": f"127.0.0.1:{self.port}", "operator-listen": f"127.0.0.1:{self.operator}", "signing-key": folder / "log.key",
                  "roots": self.roots, "folder": folder / f"log{name}", **words_of(out)}  # fmt: skip
-        words.update({setting.replace("_", "-"): value for setting, value in settings.items()})
+        names = {"lock": "register", "index": "places"} if (out / PROGRAMS["step"]).exists() else {}
+        words.update({names.get(setting, setting).replace("_", "-"): value for setting, value in settings.items()})
         self.settings = folder / f"bench{name}.conf"
         self.settings.write_text("".join(f"{setting} {value}\n" for setting, value in words.items() if value is not None))
         self.url, self.said = f"http://127.0.0.1:{self.port}", folder / f"ctserve{name}.log"
