@@ -7,6 +7,7 @@ import (
 	"os"
 	"path/filepath"
 	"sync"
+	"syscall"
 	"time"
 )
 
@@ -86,6 +87,32 @@ func (d *disk) sweep() error {
 		}
 	}
 	return nil
+}
+
+// maxFreeing is how many files are freed at once beside everything else.
+const maxFreeing = 8
+
+var freeing = make(chan struct{}, maxFreeing)
+
+// freesLater calls do, which takes the name of a file away or gives it to another file, and returns its error. The file
+// is freed beside everything else: a file system that tells the disk at once what is free (mount option discard) takes
+// a millisecond for that, and a step frees five files.
+func freesLater(path string, do func() error) error {
+	file, absent := os.OpenFile(path, os.O_RDONLY|syscall.O_NONBLOCK, 0)
+	err := do()
+	if absent != nil {
+		return err
+	}
+	select {
+	case freeing <- struct{}{}:
+		go func() {
+			file.Close()
+			<-freeing
+		}()
+	default:
+		file.Close()
+	}
+	return err
 }
 
 // write makes a file of the content that has no public name yet, on the disk, and gives its path.

@@ -155,7 +155,8 @@ func (f *file) set(name, content string) error {
 	}
 	// (a file that has its name is no longer there to be removed)
 	defer os.Remove(whole)
-	if err := os.Rename(whole, f.path(name)); err != nil {
+	named := func() error { return os.Rename(whole, f.path(name)) }
+	if err := freesLater(f.path(name), named); err != nil {
 		return fmt.Errorf("stores: register: %w", err)
 	}
 	if err := SyncFolder(f.disk.root); err != nil {

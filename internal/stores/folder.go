@@ -132,10 +132,11 @@ func (f *folder) Delete(ctx context.Context, name string) error {
 	if err := ctx.Err(); err != nil {
 		return fmt.Errorf("stores: delete %s: %w", name, err)
 	}
-	if err := syscall.Unlink(f.path(name)); err != nil && !isNoFile(err) {
+	path := f.path(name)
+	if err := freesLater(path, func() error { return syscall.Unlink(path) }); err != nil && !isNoFile(err) {
 		return fmt.Errorf("stores: delete %s: %w", name, err)
 	}
-	f.removeEmpty(filepath.Dir(f.path(name)))
+	f.removeEmpty(filepath.Dir(path))
 	return nil
 }
 

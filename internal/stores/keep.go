@@ -41,7 +41,7 @@ func keepFile(path string, content []byte, mode fs.FileMode) error {
 		err = closing
 	}
 	if err == nil {
-		err = os.Rename(file.Name(), path)
+		err = freesLater(path, func() error { return os.Rename(file.Name(), path) })
 	}
 	if err != nil {
 		os.Remove(file.Name())

@@ -1,11 +1,15 @@
 package stores
 
 import (
+	"errors"
+	"io/fs"
 	"os"
 	"path/filepath"
 	"runtime/debug"
 	"strings"
 	"testing"
+
+	"wagtenib/internal/testutil"
 )
 
 // opened counts the files below a folder that this process has open, whose names are gone.
@@ -38,7 +42,36 @@ func TestNothingStaysOpen(t *testing.T) {
 		must(t, objects.Delete(ctx, "b/c"))
 		must(t, KeepFile(filepath.Join(root, "kept"), []byte("x")))
 	}
+	testutil.Eventually(t, "all files are closed whose names are gone", func() bool { return opened(t, root) == 0 })
+}
+
+// TestFreesBeside: a file is freed after its name was taken away, and at most maxFreeing files at once.
+func TestFreesBeside(t *testing.T) {
+	root := t.TempDir()
+	path := filepath.Join(root, "file")
+	removes := func() error { return os.Remove(path) }
+	if err := freesLater(path, removes); !errors.Is(err, fs.ErrNotExist) || opened(t, root) != 0 {
+		t.Errorf("no file: %v", err)
+	}
+	isOpen := func() error {
+		if opened(t, root) != 1 {
+			t.Error("the file is not held while its name is taken away")
+		}
+		return removes()
+	}
+	must(t, os.WriteFile(path, []byte("x"), 0o600))
+	must(t, freesLater(path, isOpen))
+	testutil.Eventually(t, "it is freed", func() bool { return opened(t, root) == 0 })
+	// All places are taken, so the next file is freed before the call returns.
+	for range maxFreeing {
+		freeing <- struct{}{}
+	}
+	must(t, os.WriteFile(path, []byte("x"), 0o600))
+	must(t, freesLater(path, isOpen))
 	if many := opened(t, root); many != 0 {
-		t.Errorf("%d files are open whose names are gone", many)
+		t.Errorf("%d more than %d files are freed beside", many, maxFreeing)
+	}
+	for range maxFreeing {
+		<-freeing
 	}
 }
