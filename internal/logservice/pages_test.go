@@ -36,7 +36,7 @@ func TestPageSaysBounds(t *testing.T) {
 			"ten seconds after a later head came |": thinAfter == 10*time.Second && thinApart == 5*time.Second,
 		"does not answer within ten seconds, or answers with 500 or " +
 			"more, and for two seconds after that": forwardWithin == 10*time.Second && awayFor == 2*time.Second,
-		"half as long as the step took, at most 25 ms":    node.MaxBack == 25*time.Millisecond,
+		"as long as the step took, at most 15 ms":         node.MaxBack == 15*time.Millisecond,
 		"- The tiles of 32 duplicates are read at once.":  maxLookups == 32,
 		"- an entry above 128 KiB.":                       MaxEntry == 128<<10,
 		"Waiting clients get an error after five seconds": patience == 5*time.Second,

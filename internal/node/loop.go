@@ -88,7 +88,7 @@ func (l *Loop) Run(ctx context.Context) error {
 }
 
 // MaxBack is how long the clients that were answered are waited for at most.
-const MaxBack = 25 * time.Millisecond
+const MaxBack = 15 * time.Millisecond
 
 // rest waits until the next step may begin, after a round that began then had one decided. It also waits a moment for
 // as many submissions as this round answered: without that, two halves of the clients wait for each other's steps.
@@ -106,7 +106,7 @@ func (l *Loop) rest(ctx context.Context, began time.Duration) {
 		// An error is the context's end, which the loop sees.
 		_ = l.config.Machine.Clock.Wait(ctx, left, nil)
 	}
-	until := began + took + min(took/2, MaxBack)
+	until := began + took + min(took, MaxBack)
 	for left := until - l.config.Machine.Clock.Elapsed(); left > 0 && l.pool.count() < l.last.answered; {
 		if l.config.Machine.Clock.Wait(ctx, left, l.pool.wake) != nil || l.pool.isEnding() {
 			return

@@ -113,10 +113,15 @@ func (p *pass) reach(ctx context.Context) (bool, error) {
 	return true, nil
 }
 
-// advance has a step made of a batch, and has that decided and published.
+// advance has a step made of a batch, and has that decided and published. Beside the making and staging of the step it
+// deletes the staged batches that no node needs any more.
 func (p *pass) advance(ctx context.Context, batch []*Ticket) error {
 	p.batch = batch
-	if err := p.step(ctx); err != nil {
+	calls, err := p.deletions()
+	if err != nil {
+		return err
+	}
+	if err := p.config.Machine.Parallel(ctx, append(calls, p.stagesNext)...); err != nil {
 		return err
 	}
 	for p.command.Do != decider.Read {
@@ -125,6 +130,15 @@ func (p *pass) advance(ctx context.Context, batch []*Ticket) error {
 		}
 	}
 	return nil
+}
+
+// stagesNext has the step made and staged.
+func (p *pass) stagesNext(ctx context.Context) error {
+	if err := p.step(ctx); err != nil {
+		return err
+	}
+	_, err := p.carryOut(ctx)
+	return err
 }
 
 // look looks whether the head of the state is published. If it is not for a while, the staged batch is read.
@@ -293,22 +307,14 @@ func (p *pass) isFrom() error {
 	return nil
 }
 
-// stage keeps what a step writes, before the lock decides on it. Beside that it deletes the staged batches that no node
-// needs any more.
+// stage keeps what a step writes, before the lock decides on it.
 func (p *pass) stage(ctx context.Context) (decider.Told, error) {
 	if err := p.isMade(); err != nil {
 		return nil, err
 	}
 	// What is in the staged batch is put once more, as objects.
 	p.last.written = 2 * len(p.made.content)
-	calls, err := p.deletions()
-	if err != nil {
-		return nil, err
-	}
-	err = p.config.Machine.Parallel(ctx, append(calls, func(ctx context.Context) error {
-		return p.config.Stores.Objects.Put(ctx, p.command.New.Bundle, p.made.content)
-	})...)
-	if err != nil {
+	if err := p.config.Stores.Objects.Put(ctx, p.command.New.Bundle, p.made.content); err != nil {
 		return nil, fmt.Errorf("node: the staged batch: %w", err)
 	}
 	return decider.Done(), nil
