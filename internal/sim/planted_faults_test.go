@@ -442,24 +442,3 @@ var all = []planted{
 		},
 	}},
 }
-
-// missed are the planted faults that 2,000 histories do not find, with the check that hides each. For those of all, all
-// has a fault in which the hiding check is taken out as well, and which is found. For those of mistakes, the check is
-// named from reading the code only.
-var missed = map[string]string{
-	"the seen head is forgotten": "a state is compared with the store's heads",
-	"a lock that is gone is made again": "an engine refuses to create a lock twice, and a new lock is older than " +
-		"the store's heads",
-	"heads are thinned by what the node knows": "none: the histories seldom have such pauses, and heads_test.go of the " +
-		"janitor finds it",
-	"a restored head is put before its objects": "the step restores objects that are missing, and the judge does not " +
-		"ask for objects that a store lost",
-	"a state counts as published before the lock says so": "a node with a fault makes another step, and publishes its " +
-		"head",
-	"an older head that a reader read replaces a later one": "none: two readers must get two heads at the same time, " +
-		"just before the lock cannot be read",
-	"another content under a head's name counts as put": "mostly it is the same head with other cosignatures, and a " +
-		"damaged one is restored by the next node that looks at it",
-	"the checkpoint is replaced by an equal one": "all nodes have the note of a head from one object, so the bytes " +
-		"are the same",
-}

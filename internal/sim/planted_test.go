@@ -113,11 +113,10 @@ func (c *copies) plant(t *testing.T, at int, p planted) {
 	}
 	fmt.Fprintf(&c.imports, "\t%snode \"wagtenib/internal/planted/%s/node\"\n\t%s "+
 		"\"wagtenib/internal/planted/%s/sim\"\n", name, name, name, name)
-	_, isMissed := missed[p.name]
-	fmt.Fprintf(&c.cases, "\tfinds(t, %q, %t, func(seed int64) string {\n\t\tr := %s.Run(%s.NewPlan(seed), "+
+	fmt.Fprintf(&c.cases, "\tfinds(t, %q, func(seed int64) string {\n\t\tr := %s.Run(%s.NewPlan(seed), "+
 		"%snode.Proved{Decider: next, Steps: steps}, false)\n"+
-		"\t\tif r.Violation == nil {\n\t\t\treturn \"\"\n\t\t}\n\t\treturn r.Violation.Rule\n\t})\n", p.name, isMissed,
-		name, name, name)
+		"\t\tif r.Violation == nil {\n\t\t\treturn \"\"\n\t\t}\n\t\treturn r.Violation.Rule\n\t})\n", p.name, name, name,
+		name)
 }
 
 // write adds a file of the folder internal/planted, which does not exist, to the overlay.
@@ -157,7 +156,7 @@ func (c *copies) finish(t *testing.T) string {
 const runner = `
 var next, steps = decider.New(), step.New(sim.Origin)
 
-func finds(t *testing.T, name string, isMissed bool, broken func(seed int64) string) {
+func finds(t *testing.T, name string, broken func(seed int64) string) {
 	seeds, err := strconv.Atoi(os.Getenv("SIM_PLANTED"))
 	if err != nil {
 		t.Fatal(err)
@@ -168,9 +167,6 @@ func finds(t *testing.T, name string, isMissed bool, broken func(seed int64) str
 			return
 		}
 	}
-	t.Logf("| %s | not found | %d |", name, seeds)
-	if !isMissed {
-		t.Fail()
-	}
+	t.Errorf("| %s | not found | %d |", name, seeds)
 }
 `
