@@ -4,8 +4,8 @@ package sim_test
 var all = []planted{
 	{"nothing is staged", []edit{
 		{"pass.go",
-			"		return p.config.Stores.Objects.Put(ctx, p.command.New.Bundle, p.made.content)",
-			"		return nil",
+			"	if err := p.config.Stores.Objects.Put(ctx, p.command.New.Bundle, p.made.content); err != nil {",
+			"	if err := error(nil); err != nil {",
 		},
 	}},
 	{"the swap comes before the staging", []edit{

@@ -115,8 +115,32 @@ func freesLater(path string, do func() error) error {
 	return err
 }
 
-// write makes a file of the content that has no public name yet, on the disk, and gives its path.
+// awaiting is held by who waits for what is being freed.
+var awaiting sync.Mutex
+
+// awaitFreed waits until all files are freed that are being freed now.
+func awaitFreed() {
+	awaiting.Lock()
+	defer awaiting.Unlock()
+	for range maxFreeing {
+		freeing <- struct{}{}
+	}
+	for range maxFreeing {
+		<-freeing
+	}
+}
+
+// write makes a file of the content that has no public name yet, on the disk, and gives its path. If the disk is full,
+// it waits for what is being freed, and tries once more.
 func (d *disk) write(content []byte) (path string, err error) {
+	if path, err = d.writeOnce(content); errors.Is(err, syscall.ENOSPC) {
+		awaitFreed()
+		path, err = d.writeOnce(content)
+	}
+	return path, err
+}
+
+func (d *disk) writeOnce(content []byte) (path string, err error) {
 	file, err := os.CreateTemp(filepath.Join(d.root, temporary), "file-")
 	if err != nil {
 		return "", fmt.Errorf("stores: write: %w", err)

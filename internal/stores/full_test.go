@@ -20,13 +20,17 @@ func smallDisk(t *testing.T, size int) string {
 	if err := syscall.Mount("tmpfs", folder, "tmpfs", 0, fmt.Sprintf("size=%d", size)); err != nil {
 		t.Skipf("no small file system can be mounted here, which wants root: %v", err)
 	}
-	t.Cleanup(func() { must(t, syscall.Unmount(folder, 0)) })
+	t.Cleanup(func() {
+		awaitFreed()
+		must(t, syscall.Unmount(folder, 0))
+	})
 	return folder
 }
 
 // fill fills the file system below a folder to the last byte, and gives the way to make room again.
 func fill(t *testing.T, folder string) (room func()) {
 	t.Helper()
+	awaitFreed()
 	path := filepath.Join(folder, "ballast")
 	file, err := os.Create(path)
 	must(t, err)
