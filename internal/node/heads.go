@@ -211,7 +211,7 @@ const maxAsked = 5
 // signedHead has a state's head signed, over a proof from the signer's last head. That is the one that this node had it
 // sign before, unless the signer refuses: only then it is asked, since another node may have had a later one signed.
 func (l *Loop) signedHead(ctx context.Context, k *state, of step.Head, objects []step.Object) (Head, error) {
-	lastHead, signed := l.last.signed, []byte(nil)
+	lastHead, isRemembered, signed := l.last.signed, l.last.signed != nil, []byte(nil)
 	// If the signer does not answer, it may have approved the head.
 	l.last.signed = nil
 	for try := 0; ; try++ {
@@ -230,10 +230,12 @@ func (l *Loop) signedHead(ctx context.Context, k *state, of step.Head, objects [
 		if signed, err = l.config.Signer.SignHead(ctx, k.head(), proof); err == nil {
 			break
 		}
-		if try+1 == maxAsked || !l.moved(ctx, lastHead, err) {
+		// A refusal over a head that was not asked for says nothing.
+		isOlder := isRemembered && errors.Is(err, signer.ErrRefused)
+		if try+1 == maxAsked || !isOlder && !l.moved(ctx, lastHead, err) {
 			return Head{}, fmt.Errorf("node: the signer: a head of %d entries at %d ms: %w", k.Size, k.Timestamp, err)
 		}
-		lastHead = nil
+		lastHead, isRemembered = nil, false
 	}
 	if head := k.head(); l.config.Signer.IsGuarded() {
 		l.last.signed = &head

@@ -274,3 +274,11 @@ func TestTwoNodesRestoreOneHead(t *testing.T) {
 		t.Errorf("the newest step was lost %d times in 100 histories", lost)
 	}
 }
+
+// TestRefusalOverAnOlderHead has a node ask for a signature over the head that it had signed before, while another node
+// had a later one signed. The signer refuses, and does not answer which head is its last. That is no refusal of the head.
+func TestRefusalOverAnOlderHead(t *testing.T) {
+	if result := sim.Run(sim.NewPlan(9_002_619), proved, false); result.Violation != nil {
+		t.Error(result.Violation)
+	}
+}

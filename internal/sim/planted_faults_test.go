@@ -359,8 +359,8 @@ var all = []planted{
 	}},
 	{"the signer's refusal is retried for ever", []edit{
 		{"heads.go",
-			"		if try+1 == maxAsked || !l.moved(ctx, lastHead, err) {",
-			"		if !errors.Is(err, signer.ErrRefused) {",
+			"		if try+1 == maxAsked || !isOlder && !l.moved(ctx, lastHead, err) {",
+			"		if _ = isOlder; !errors.Is(err, signer.ErrRefused) {",
 		},
 	}},
 	{"the guard approves each head", []edit{
