@@ -145,7 +145,25 @@ def keys(folder):
     run("openssl", "req", "-x509", "-key", folder / "root.key", "-subj", "/CN=a root", "-days", 30, "-out", folder / "roots.pem")
 
 
-class Log:
+class Served:
+    """A log that a program serves out of a folder: `process` and `folder`."""
+
+    def reload(self):
+        """The command that has it read its roots again."""
+        return f"kill -HUP {self.process.pid}"
+
+    def ids(self):
+        return [self.process.pid]
+
+    def stored(self):
+        return self.folder / "log"
+
+    def end(self):
+        self.process.send_signal(signal.SIGTERM)
+        self.process.wait()
+
+
+class Log(Served):
     """A log of ctserve in a folder, which is made where it isn't there; out has the build of ctserve. A log of several nodes has a Log of each, with a name and a create."""
 
     def __init__(self, folder, out=OUT, name="", create=None, **settings):
@@ -180,22 +198,8 @@ class Log:
             found.setdefault((of, name), {})[what] = float(value)
         return {of: (both["count"], both["sum"]) for of, both in found.items()}
 
-    def reload(self):
-        """The command that has it read its roots again."""
-        return f"kill -HUP {self.process.pid}"
 
-    def ids(self):
-        return [self.process.pid]
-
-    def stored(self):
-        return self.folder / "log"
-
-    def end(self):
-        self.process.send_signal(signal.SIGTERM)
-        self.process.wait()
-
-
-class Ideal:
+class Ideal(Served):
     """A log of bench/ideal in a folder, which is made, with the program beside it."""
 
     def __init__(self, folder):
@@ -209,20 +213,6 @@ class Ideal:
         with said.open("w") as to:
             self.process = subprocess.Popen([program, "--folder", folder / "log", "--key", key, "--roots", self.roots, "--listen", f"127.0.0.1:{port}"], stdout=to, stderr=subprocess.STDOUT)
         until(lambda: listens(port), "ideal doesn't listen", self.process, said)
-
-    def reload(self):
-        """The command that has it read its roots again."""
-        return f"kill -HUP {self.process.pid}"
-
-    def ids(self):
-        return [self.process.pid]
-
-    def stored(self):
-        return self.folder / "log"
-
-    def end(self):
-        self.process.send_signal(signal.SIGTERM)
-        self.process.wait()
 
 
 def load(log, clients, *words):

@@ -53,6 +53,7 @@ CALLS = [
     *("open", "take", "succeed", "publish", "ask", "settle", "answer", "serve_frozen"),
     *("observe", "explain_inclusion", "explain_consistency", "decode_leaf", "decode_chain", "read_line"),
 ]
+# What a test of crates/house_tests writes if nothing was refused, or an allocation of its own.
 NOTHING, OWN = "nothing", "a growth of the test's own"
 # The tests whose allocations may be refused, and the one in which workers hash a batch: if the start of one is refused, its part is hashed all the same.
 ROOM = "refused_growths::"
@@ -78,14 +79,14 @@ class Preloaded:
     """A library of tests/sweep that writes a number into the file that a variable names: how many allocations there were, or how many bytes were asked for."""
 
     def __init__(self, folder, name, variable):
-        self.library, self.number, self.input, self.variable = folder / f"{name}.so", folder / name, folder / "input", variable
-        subprocess.run(["cc", "-shared", "-fPIC", "-O2", "-o", self.library, HERE / "sweep" / f"{name}.c", "-ldl"], check=True)
+        self.loaded, self.number, self.input, self.variable = folder / f"{name}.so", folder / name, folder / "input", variable
+        subprocess.run(["cc", "-shared", "-fPIC", "-O2", "-o", self.loaded, HERE / "sweep" / f"{name}.c", "-ldl"], check=True)
 
     def run(self, words, given="", **variables):
         """Runs a program over an input: its status, its output, what it said on standard error, and the number."""
         self.number.unlink(missing_ok=True)
         self.input.write_text(given)
-        place = {**os.environ, "LD_PRELOAD": str(self.library), self.variable: str(self.number), **variables}
+        place = {**os.environ, "LD_PRELOAD": str(self.loaded), self.variable: str(self.number), **variables}
         with self.input.open("rb") as lines:
             try:
                 ended = subprocess.run(words, stdin=lines, capture_output=True, env=place, timeout=LONGEST_RUN)
@@ -111,10 +112,10 @@ class Refusals:
                 found[outcome] += 1
                 refused += step
         except (Wrong, KeyError, IndexError, ValueError) as fault:
-            fail(f"{name}: growth {refused}: {fault!r}")
+            fail(f"{name}: allocation {refused}: {fault!r}")
         for outcome, times in found.most_common():
             print(f"{times:6} {outcome}")
-        print(f"{name}: {sum(found.values())} growths refused, one in each run; each run was as asked", flush=True)
+        print(f"{name}: {sum(found.values())} allocations refused, one in each run; each run was as asked", flush=True)
         return sum(found.values())
 
 
@@ -176,15 +177,15 @@ class Ctlog(Refusals):
         super().__init__(folder, program, *OPTIONS)
         lines = list(script())
         self.given, self.parties = "\n".join(lines) + "\n", requests_of(lines, 2)
-        status, self.ample, said, growths = self.run(0, self.given)
+        status, self.ample, said, allocations = self.run(0, self.given)
         if status or said:
             fail(f"with ample memory the status of ctlog is {status}: {said}")
         checked(2, self.given, self.ample)
-        print(f"ctlog: with ample memory {growths} growths and {len(self.ample.splitlines())} replies", flush=True)
+        print(f"ctlog: with ample memory {allocations} allocations and {len(self.ample.splitlines())} replies", flush=True)
 
     def judge(self, refused):
         """The outcome, None if the run makes fewer allocations than that, or Wrong."""
-        status, output, said, growths = self.run(refused, self.given)
+        status, output, said, allocations = self.run(refused, self.given)
         if status == 1:
             claim(any(f"ctlog: {name}\n".startswith(said) for name in FAULTS), f"standard error is {said!r}")
             claim(self.ample.startswith(output), "standard output is no beginning of the ample one")
@@ -192,7 +193,7 @@ class Ctlog(Refusals):
         claim(status == 0, f"the status is {status}: {said}")
         claim(not said, f"standard error is {said!r}")
         if output == self.ample:
-            return "status 0, all as with ample memory" if growths >= refused else None
+            return "status 0, all as with ample memory" if allocations >= refused else None
         return self.judge_replies(output)
 
     def judge_replies(self, output):
@@ -212,24 +213,24 @@ class Calls(Refusals):
     def __init__(self, folder, program, test):
         super().__init__(folder, program, test)
         self.test = test
-        call, growths = self.called(0)
+        call, allocations = self.called(0)
         if call != NOTHING:
             fail(f"{test}: with ample memory {call} was refused")
-        print(f"{test}: with ample memory {growths} growths", flush=True)
+        print(f"{test}: with ample memory {allocations} allocations", flush=True)
 
     def called(self, refused):
-        """The call that was refused, and how many growths there were."""
-        status, output, said, growths = self.run(refused)
+        """The call that was refused, and how many allocations there were."""
+        status, output, said, allocations = self.run(refused)
         told = [line.split(": ", 1)[1] for line in output.splitlines() if line.startswith("refused: ")]
         claim(not status and len(told) == 1, f"the status is {status}: {output!r} {said!r}")
-        return told[0], growths
+        return told[0], allocations
 
     def judge(self, refused):
         """The call that was refused, or None if the run makes fewer allocations than that."""
-        call, growths = self.called(refused)
-        if call == NOTHING and growths < refused:
+        call, allocations = self.called(refused)
+        if call == NOTHING and allocations < refused:
             return None
-        claim(call != NOTHING or self.test == WITH_WORKERS, "a growth was refused, and no call says so")
+        claim(call != NOTHING or self.test == WITH_WORKERS, "an allocation was refused, and no call says so")
         claim(call in (NOTHING, OWN, *CALLS), f"{call} was refused")
         return call
 

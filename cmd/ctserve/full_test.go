@@ -138,20 +138,32 @@ func TestFullDisk(t *testing.T) {
 	}
 }
 
-// failures is how many calls of stores failed so far, or how many of one kind.
-func failures(t *testing.T, p *program, of string) (sum float64) {
+// figures are all that /metrics has of a log.
+func figures(t *testing.T, p *program) map[string]float64 {
 	t.Helper()
 	_, text := get(p.operator, "/metrics")
+	found := map[string]float64{}
 	for _, line := range strings.Split(text, "\n") {
-		name, value, _ := strings.Cut(line, " ")
-		if kind, is := strings.CutPrefix(name, "ctserve_store_failures_total"); !is || of != "" && kind != of {
+		at := strings.LastIndexByte(line, ' ')
+		if at < 0 || strings.HasPrefix(line, "#") {
 			continue
 		}
-		found, err := strconv.ParseFloat(value, 64)
+		value, err := strconv.ParseFloat(line[at+1:], 64)
 		if err != nil {
 			t.Fatalf("%s: %v", line, err)
 		}
-		sum += found
+		found[line[:at]] = value
+	}
+	return found
+}
+
+// failures is how many calls of stores failed so far, or how many of one kind.
+func failures(t *testing.T, p *program, of string) (sum float64) {
+	t.Helper()
+	for name, times := range figures(t, p) {
+		if kind, is := strings.CutPrefix(name, "ctserve_store_failures_total"); is && (of == "" || kind == of) {
+			sum += times
+		}
 	}
 	return sum
 }
@@ -159,18 +171,11 @@ func failures(t *testing.T, p *program, of string) (sum float64) {
 // figure is one that /metrics has of a log.
 func figure(t *testing.T, p *program, name string) float64 {
 	t.Helper()
-	_, text := get(p.operator, "/metrics")
-	for _, line := range strings.Split(text, "\n") {
-		if value := strings.TrimPrefix(line, name+" "); value != line {
-			found, err := strconv.ParseFloat(value, 64)
-			if err != nil {
-				t.Fatalf("%s: %v", line, err)
-			}
-			return found
-		}
+	found, is := figures(t, p)[name]
+	if !is {
+		t.Fatalf("there is no figure %s", name)
 	}
-	t.Fatalf("there is no figure %s", name)
-	return 0
+	return found
 }
 
 // mount mounts a small file system where the log is.

@@ -23,7 +23,7 @@ const maxForwards = 3
 // submit has a submission taken, by this node or by another one, and answered. The node that takes it must check its
 // chain: the holder of a node's certificate may submit, and not more. So the node that forwards it checks nothing.
 func (f *Front) submit(ctx context.Context, w http.ResponseWriter, r *http.Request, client netip.Addr, body []byte,
-	check check) error {
+	check chainCheck) error {
 	var entry *logapi.Entry
 	for tries := 0; ; tries++ {
 		if f.options.Forward == nil || tries == maxForwards {

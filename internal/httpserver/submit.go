@@ -30,10 +30,10 @@ func (f *Front) addPreChain(w http.ResponseWriter, r *http.Request) error {
 	return f.add(w, r, f.checker.Precertificate)
 }
 
-// check checks a chain, and makes an entry of it.
-type check func(chain [][]byte) (*chains.Entry, error)
+// chainCheck checks a chain, and makes an entry of it.
+type chainCheck func(chain [][]byte) (*chains.Entry, error)
 
-func (f *Front) add(w http.ResponseWriter, r *http.Request, check check) error {
+func (f *Front) add(w http.ResponseWriter, r *http.Request, check chainCheck) error {
 	if f.ending.Load() {
 		return refusal{status: http.StatusServiceUnavailable, name: "ended", after: 10, closes: true}
 	}
@@ -104,7 +104,7 @@ func (f *Front) body(r *http.Request, client netip.Addr) (body []byte, taken int
 }
 
 // checked makes an entry of a submission. Only so many are checked at once.
-func (f *Front) checked(ctx context.Context, body []byte, check check) (*chains.Entry, error) {
+func (f *Front) checked(ctx context.Context, body []byte, check chainCheck) (*chains.Entry, error) {
 	select {
 	case f.uses.checks <- struct{}{}:
 	case <-ctx.Done():

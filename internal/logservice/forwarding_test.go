@@ -111,7 +111,8 @@ func TestWaitingSubmissionMoves(t *testing.T) {
 	must(t, <-own)
 }
 
-// An answer that breaks off is none: nothing of it is written, so this node takes the submission itself.
+// TestForwardOfBrokenAnswer: an answer that breaks off is none. Nothing of it is written, so this node takes the
+// submission itself.
 func TestForwardOfBrokenAnswer(t *testing.T) {
 	t.Parallel()
 	p, o := newPlace(t), newOtherNode(t)

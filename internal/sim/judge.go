@@ -281,7 +281,7 @@ func (j *judge) raises(p stores.Published) {
 	if j.raised.Before(p) {
 		j.raised = p
 	}
-	name := fmt.Sprintf("heads/%020d-%020d", p.Size, p.Timestamp)
+	name := headName(signer.Head{Size: p.Size, Timestamp: p.Timestamp})
 	if _, ok := j.w.stores.objects[name]; !ok && !j.w.excuses.missing {
 		j.breaks("a published size has a head", "%s is published and not in the store", name)
 	}

@@ -30,13 +30,13 @@ func NewPlan(seed int64) Plan {
 		plan.startsUnread(seed)
 	case seed%elsewhereEach == elsewhereEach/2:
 		plan.readsElsewhere(rand.New(rand.NewSource(seed)))
-	case seed%lossEach == lossEach/2:
+	case seed%atRestEach == atRestEach/2:
 		plan.losesAtRest(rand.New(rand.NewSource(seed)))
 	case seed%unsignedEach == unsignedEach/2:
 		plan.fallsUnsigned(rand.New(rand.NewSource(seed)))
-	case seed%unlistedEach == unlistedEach/2:
+	case seed%beforeSwapEach == beforeSwapEach/2:
 		plan.fallsBeforeSwap(rand.New(rand.NewSource(seed)))
-	case seed%stillEach == stillEach/2:
+	case seed%afterPauseEach == afterPauseEach/2:
 		plan.thinsAfterPause(rand.New(rand.NewSource(seed)))
 	}
 	return plan
@@ -44,13 +44,13 @@ func NewPlan(seed int64) Plan {
 
 // How many histories there are for each one of startsUnheard, of startsUnread, and so on.
 const (
-	unheardEach   = 3
-	unreadEach    = 74
-	elsewhereEach = 101
-	lossEach      = 29
-	unsignedEach  = 53
-	stillEach     = 41
-	unlistedEach  = 59
+	unheardEach    = 3
+	unreadEach     = 74
+	elsewhereEach  = 101
+	atRestEach     = 29
+	unsignedEach   = 53
+	afterPauseEach = 41
+	beforeSwapEach = 59
 )
 
 // readsElsewhere has one node make all steps, and readers in haste ask the others, which know of the steps only by

@@ -8,8 +8,8 @@ import (
 	"wagtenib/internal/stores"
 )
 
-// Register doesn't know the outcome of two swaps of each Every, which is at least three: of one that it didn't, and of
-// one that it did. While Fails is an error it does nothing, and answers that.
+// Register does not know the outcome of two swaps of each Every, which is at least three: of one that it did not make,
+// and of one that it made. While Fails is an error it does nothing, and answers that.
 type Register struct {
 	stores.Register
 	Every int
