@@ -46,7 +46,7 @@ serve: ## serves a log over HTTP at PORT=8618 out of the folder FOLDER=ct-log, b
 serve-witness: ## serves a witness at WITNESS_PORT=8640 out of WITNESS=ct-witness, of the log of make serve in FOLDER=ct-log, by ctwitness, which it builds likewise
 	@cmd/serve-witness.sh "$(WITNESS:~/%=$(HOME)/%)" "$(WITNESS_PORT)" "$(FOLDER:~/%=$(HOME)/%)"
 
-service: ## builds cmd/out/ctserve, the service in Go (docs/OPERATING.md), ctwitness, ctwatch, and ctcheck, ctload and ctread
+service: ## builds cmd/out/ctserve, the service in Go (docs/OPERATING.md), ctwitness, ctwatch, and ctfsck, ctload and ctfollow
 	@checks/needs.sh service
 	@cmd/build.sh build
 
@@ -136,12 +136,12 @@ release: ## puts what is built into release/out: a tarball, Debian packages, SHA
 # As root, with mmdebstrap. If ctlog is not built, the packages have a program in its place that only says so.
 bare: ## makes a release's packages, installs them on a bare Debian, and runs the lines of docs/OPERATING.md there as they stand
 	@checks/needs.sh service
-	@PYTHONDONTWRITEBYTECODE=1 tests/bare/bare.py --built "$(BUILT)"
+	@PYTHONDONTWRITEBYTECODE=1 tests/installation/bare.py --built "$(BUILT)"
 
 # As root, with buildah, podman and mmdebstrap.
 container: ## builds the image of release/Containerfile out of a release's package, and runs a log in it
 	@checks/needs.sh service
-	@PYTHONDONTWRITEBYTECODE=1 tests/bare/container.py --built "$(BUILT)"
+	@PYTHONDONTWRITEBYTECODE=1 tests/installation/container.py --built "$(BUILT)"
 
 reproduce: ## builds the programs of the Go part, and those of the crates that are proved here, twice in folders of other names, and compares their bytes
 	@release/reproduce.sh

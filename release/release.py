@@ -28,7 +28,7 @@ ROOT = pathlib.Path(__file__).resolve().parent.parent
 PROGRAMS = {"ctlog": "make demo"}
 # The services that contain the proved code of dist/.
 LINKED = ("ctserve", "ctwatch", "ctwitness")
-SERVICE = ("ctserve", "ctcheck", "ctread", "ctload", "ctwitness", "ctwatch")
+SERVICE = ("ctserve", "ctfsck", "ctfollow", "ctload", "ctwitness", "ctwatch")
 UNITS = ("ctserve@.service", "ctwitness@.service")
 WATCH_UNITS = ("ctwatch.service",)
 SHARED = (

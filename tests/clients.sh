@@ -1,8 +1,8 @@
 #!/usr/bin/env bash
 # Has clients of others use a log of ctserve over HTTP: certspotter follows it by RFC 6962's calls to verified heads of 30 and, from there,
-# of 50 entries; tests/clients/client.go submits five more by Google's client library, and checks what is answered; and meanwhile ctread
+# of 50 entries; tests/clients/client.go submits five more by Google's client library, and checks what is answered; and meanwhile ctfollow
 # follows its tiles, which golang.org/x/mod/sumdb/tlog reads, to the last leaf and head. ctwatch watches it by its tiles and by the API of RFC 6962, at 30
-# entries and at the end. Which certificates certspotter and ctwatch report to an owner is compared (tests/names/beside.py). At the end ctcheck judges the
+# entries and at the end. Which certificates certspotter and ctwatch report to an owner is compared (tests/names/beside.py). At the end ctfsck judges the
 # log from its folder. It needs certspotter, openssl and curl. It
 # says what it leaves out.
 set -eu
@@ -48,7 +48,7 @@ for _ in $(seq 600); do
 done
 address=$(sed -n 's/.*"event":"listening".*"address":"\([^"]*\)".*/\1/p' "$work/ctserve.told" | head -n 1)
 base=http://$address/
-"$here/../cmd/out/ctread" --nodes "http://$address" --origin "$origin" --key "$work/log.pem" --every 200ms >"$work/ctread.told" 2>&1 &
+"$here/../cmd/out/ctfollow" --nodes "http://$address" --origin "$origin" --key "$work/log.pem" --every 200ms >"$work/ctfollow.told" 2>&1 &
 reader=$!
 running+=" $reader"
 
@@ -138,13 +138,13 @@ done
 "$work/client" -key "$work/log.pem" "$base" "$work"/certificate.5[1-5] || fail "Google's client library doesn't take what is answered"
 
 for _ in $(seq 300); do
-  grep -q ": $size entries, " "$work/ctread.told" && break
-  kill -0 "$reader" 2>/dev/null || fail "ctread ended"
+  grep -q ": $size entries, " "$work/ctfollow.told" && break
+  kill -0 "$reader" 2>/dev/null || fail "ctfollow ended"
   sleep 0.2
 done
-kill "$reader" && wait "$reader" || fail "ctread didn't end well"
-heads=$(grep -c 'consistent, and all leaves are there$' "$work/ctread.told")
-grep -q "^$size entries were read, and all was right$" "$work/ctread.told" || fail "ctread hasn't read $size entries"
+kill "$reader" && wait "$reader" || fail "ctfollow didn't end well"
+heads=$(grep -c 'consistent, and all leaves are there$' "$work/ctfollow.told")
+grep -q "^$size entries were read, and all was right$" "$work/ctfollow.told" || fail "ctfollow hasn't read $size entries"
 echo "x/mod's tlog read $heads heads, each consistent with the one before, and all $size leaves."
 watch "$size"
 for kind in tiled ""; do
@@ -153,4 +153,4 @@ for kind in tiled ""; do
 done
 echo "ctwatch watched it by its tiles and by the API of RFC 6962, at 30 and $size entries."
 kill "${running%% *}" && wait "${running%% *}" || fail "ctserve didn't end well"
-"$here/../cmd/out/ctcheck" "$work/log/objects" "$work/log.pem"
+"$here/../cmd/out/ctfsck" "$work/log/objects" "$work/log.pem"

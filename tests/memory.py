@@ -23,7 +23,7 @@ The parts, of which all are tried if none is named:
   were no other, and take at most 64 MB, this script's included.
 
 --step refuses each N-th allocation, and otherwise every one. FOLDER has the built programs (by default crates; `rt run -- --help` in crates/ctlog and `rt test` in
-crates/house_tests build them). Libraries of tests/sweep, which cc builds, are loaded before the C library. So the programs under test are the built ones, unchanged.
+crates/house_tests build them). Libraries of tests/out_of_memory, which cc builds, are loaded before the C library. So the programs under test are the built ones, unchanged.
 
 A signal, an abort, a hang or another wrong reply is a fault. The status is 1 at the first run with a fault, and if no allocation was refused.
 """
@@ -76,11 +76,11 @@ def fail(why):
 
 
 class Preloaded:
-    """A library of tests/sweep that writes a number into the file that a variable names: how many allocations there were, or how many bytes were asked for."""
+    """A library of tests/out_of_memory that writes a number into the file that a variable names: how many allocations there were, or how many bytes were asked for."""
 
     def __init__(self, folder, name, variable):
         self.loaded, self.number, self.input, self.variable = folder / f"{name}.so", folder / name, folder / "input", variable
-        subprocess.run(["cc", "-shared", "-fPIC", "-O2", "-o", self.loaded, HERE / "sweep" / f"{name}.c", "-ldl"], check=True)
+        subprocess.run(["cc", "-shared", "-fPIC", "-O2", "-o", self.loaded, HERE / "out_of_memory" / f"{name}.c", "-ldl"], check=True)
 
     def run(self, words, given="", **variables):
         """Runs a program over an input: its status, its output, what it said on standard error, and the number."""

@@ -6,7 +6,7 @@ other pages, it has the name of the script that runs it.
 that is built and otherwise by expected.py. A command of README.md that this script doesn't know is a fault. It prints one line, and ends with status 1 at the
 first command that does something else than README.md says. If Go or one of its packages isn't installed, it says so, and runs no command that needs them.
 
-ELSEWHERE has the commands of the other pages, each with what runs it: this script, in that copy; bare/bare.py, on a bare Debian with the packages of a release;
+ELSEWHERE has the commands of the other pages, each with what runs it: this script, in that copy; installation/bare.py, on a bare Debian with the packages of a release;
 or nobody but a user. A command that is missing there is a fault, and one that is on no page is a fault too.
 """
 import collections

@@ -8,7 +8,7 @@ loader and a reader. Nodes, signer, witnesses and engines are killed (SIGKILL) o
 at once. With --kills nothing but nodes is killed, one in turn each minute, behind nginx if there are several; then the bounds of `ctserve audit` on
 availability and latency hold too.
 
-Four judge what happened: `ctserve audit` all the time; ctread, which reads the whole log; ctcheck, which compares all that was published, and all that was
+Four judge what happened: `ctserve audit` all the time; ctfollow, which reads the whole log; ctfsck, which compares all that was published, and all that was
 answered, at the end; and the witnesses. No process may take more than MEMORY bytes, panic, or not start again. The seed fixes the choices, and is printed.
 Their effect depends on the time. If something is wrong, the status is 1, and the folder has the output of all processes.
 """

@@ -1,6 +1,6 @@
 // Command ctload submits certificates and precertificates of an authority of its own to the nodes of a log, and
 // measures how long they take. It adds its root to a file of roots before it begins, has a command tell the nodes, and
-// waits until each has that. Each timestamp is written as a line that ctcheck judges (logcheck.Answer). A submission that
+// waits until each has that. Each timestamp is written as a line that ctfsck judges (logcheck.Answer). A submission that
 // isn't answered is sent again, to the next node, until it is.
 //
 // It ends after its time or at a signal, with status 1 where a submission was refused as wrong.

@@ -422,7 +422,7 @@ func TestPublicStoreOfALogThatExists(t *testing.T) {
 }
 
 // TestPublicFolder has a log on a folder be read through a plain file server, while its node is killed after answers,
-// and judged by ctcheck's package in the end.
+// and judged by ctfsck's package in the end.
 func TestPublicFolder(t *testing.T) {
 	t.Parallel()
 	at := newPlace(t)

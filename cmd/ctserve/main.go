@@ -21,7 +21,7 @@ import (
 
 	"wagtenib/internal/chains"
 	"wagtenib/internal/httpserver"
-	"wagtenib/internal/logapi"
+	"wagtenib/internal/loginterface"
 	"wagtenib/internal/logservice"
 	"wagtenib/internal/settingsfile"
 	"wagtenib/internal/stores"
@@ -31,7 +31,7 @@ import (
 
 // opened is a log that was opened.
 type opened struct {
-	log logapi.Log
+	log loginterface.Log
 	// proofs makes proofs from its tiles, and cutter a precertificate's entry.
 	proofs *tile.Prover
 	cutter chains.Cutter
@@ -165,7 +165,7 @@ func putEntry(s *settings, of *opened, entry []byte) error {
 const lookForHead = 100 * time.Millisecond
 
 // awaitHead waits for the first head of a log, for as long as a reading may take.
-func awaitHead(s *settings, of logapi.Log) {
+func awaitHead(s *settings, of loginterface.Log) {
 	ctx, cancel := context.WithTimeout(context.Background(), s.limits.Reading)
 	defer cancel()
 	for {
@@ -188,7 +188,7 @@ func tellLeftOut(roots *chains.Roots, lines *httpserver.Lines) {
 }
 
 // tellHead logs the published head at a start.
-func tellHead(s *settings, of logapi.Log, lines *httpserver.Lines) {
+func tellHead(s *settings, of loginterface.Log, lines *httpserver.Lines) {
 	ctx, cancel := context.WithTimeout(context.Background(), s.limits.Reading)
 	defer cancel()
 	head, err := of.Checkpoint(ctx)

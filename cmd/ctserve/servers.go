@@ -8,7 +8,7 @@ import (
 	"net/http"
 
 	"wagtenib/internal/httpserver"
-	"wagtenib/internal/logapi"
+	"wagtenib/internal/loginterface"
 )
 
 // served is one listener with its server.
@@ -74,7 +74,7 @@ func start(servers []*served) <-chan error {
 
 // ended has the log, which takes no more, publish and answer who waits, and then ends the servers, within the time for
 // it. Reading goes on until the log has ended.
-func ended(s *settings, of logapi.Log, servers []*served, why error) error {
+func ended(s *settings, of loginterface.Log, servers []*served, why error) error {
 	ctx, cancel := context.WithTimeout(context.Background(), s.endWithin)
 	defer cancel()
 	if err := of.End(ctx); why == nil {

@@ -52,7 +52,7 @@ func (s *auditSettings) defineLogs(flags *flag.FlagSet) {
 
 // defineEvidence defines the flag of the folder that gets evidence against logs.
 func (s *auditSettings) defineEvidence(flags *flag.FlagSet) {
-	flags.StringVar(&s.evidence, "evidence", "", "new `folder` that gets the evidence against logs, for ctcheck evidence")
+	flags.StringVar(&s.evidence, "evidence", "", "new `folder` that gets the evidence against logs, for ctfsck evidence")
 }
 
 // client returns how logs are asked.

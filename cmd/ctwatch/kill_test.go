@@ -27,7 +27,7 @@ var (
 
 // TestKilledProgram kills ctwatch by SIGKILL at random moments of reading two logs, one of which forks in the middle.
 // At the end each issuance had its alert, and no alert came twice without the word "again". The fork alerted once, and
-// its evidence convinces the judge of ctcheck.
+// its evidence convinces the judge of ctfsck.
 func TestKilledProgram(t *testing.T) {
 	authority, chance, folder := testcert.NewAuthority(t), rand.New(rand.NewPCG(*seed, 0)), t.TempDir()
 	first, second := serveLog(t, "a.example"), serveLog(t, "b.example")
@@ -90,7 +90,7 @@ func TestKilledProgram(t *testing.T) {
 	judgeFork(t, folder, second.PublicKey())
 }
 
-// judgeFork has the judge of ctcheck look at the first evidence of a store.
+// judgeFork has the judge of ctfsck look at the first evidence of a store.
 func judgeFork(t *testing.T, folder string, key []byte) {
 	t.Helper()
 	evidence := filepath.Join(folder, "evidence")

@@ -32,7 +32,7 @@ func runShow(ctx context.Context, words []string, out io.Writer) error {
 	flags := flagsOf("show", "", out)
 	s.defineLogs(flags)
 	flags.StringVar(&s.evidence, "evidence", "", "new `folder` that gets the entry, its audit path and the tree head "+
-		"that the log signed, for ctcheck evidence")
+		"that the log signed, for ctfsck evidence")
 	words, err := parseFlags(flags, words, 2, out)
 	if err != nil {
 		return err
@@ -94,7 +94,7 @@ func (s *auditSettings) writeEntry(log watch.Log, head watch.Head, entry watch.E
 	if err := writeFiles(s.evidence, evidence.Files); err != nil {
 		return err
 	}
-	_, err = fmt.Fprintf(out, "%s has the files that show this to others (ctcheck evidence %s KEY.PEM checks them).\n",
+	_, err = fmt.Fprintf(out, "%s has the files that show this to others (ctfsck evidence %s KEY.PEM checks them).\n",
 		s.evidence, s.evidence)
 	return err
 }

@@ -13,7 +13,7 @@ import (
 	"testing"
 
 	"wagtenib/internal/chains"
-	"wagtenib/internal/logapi"
+	"wagtenib/internal/loginterface"
 	"wagtenib/internal/stores"
 )
 
@@ -86,10 +86,12 @@ func TestAnswersWithEntriesCount(t *testing.T) {
 	f := newFixture(t, 0, func(o *Options) { o.Limits.AnswerBytes = 64 << 20 })
 	issuers := [][]byte{bytes.Repeat([]byte("a"), 1300), bytes.Repeat([]byte("b"), 1300),
 		bytes.Repeat([]byte("c"), 1300)}
-	var entries []logapi.Entry
+	var entries []loginterface.Entry
 	for i := 0; i < 256; i++ {
-		entries = append(entries, logapi.Entry{Type: chains.X509Entry, Certificate: []byte(fmt.Sprint("certificate ", i)),
-			Issuers: issuers})
+		entries = append(entries, loginterface.Entry{
+			Type: chains.X509Entry, Certificate: []byte(fmt.Sprint("certificate ", i)),
+			Issuers: issuers,
+		})
 	}
 	f.log.Add(entries)
 	paths := []string{"/ct/v1/get-entries?start=0&end=255", "/ct/v1/get-entry-and-proof?leaf_index=1&tree_size=256"}
@@ -118,7 +120,7 @@ func TestAnswersWithEntriesCount(t *testing.T) {
 // readsLong is a log that notes how many bytes of long objects are read at once, and keeps each reading until it is let
 // go.
 type readsLong struct {
-	logapi.Log
+	loginterface.Log
 	now, most atomic.Int64
 	let       chan struct{}
 }

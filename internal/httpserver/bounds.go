@@ -11,7 +11,7 @@ import (
 	"sync"
 	"sync/atomic"
 
-	"wagtenib/internal/logapi"
+	"wagtenib/internal/loginterface"
 	"wagtenib/internal/stores"
 )
 
@@ -60,7 +60,7 @@ func (h *held) change(bytes int64) error {
 		return refusal{status: http.StatusTooManyRequests, name: "too-many-bytes", after: 1}
 	} else if !h.of.take(bytes) {
 		h.ofClient.giveSome(h.client, int(bytes))
-		return fmt.Errorf("%w: answers have %d bytes", logapi.ErrBusy, h.of.used.Load())
+		return fmt.Errorf("%w: answers have %d bytes", loginterface.ErrBusy, h.of.used.Load())
 	}
 	h.bytes += bytes
 	return nil

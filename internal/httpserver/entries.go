@@ -15,7 +15,7 @@ import (
 	"golang.org/x/crypto/cryptobyte"
 
 	"wagtenib/internal/chains"
-	"wagtenib/internal/logapi"
+	"wagtenib/internal/loginterface"
 	"wagtenib/internal/stores"
 	"wagtenib/internal/tile"
 )
@@ -148,7 +148,7 @@ func (f *Front) dataTile(ctx context.Context, index, end uint64) ([]tile.Leaf, e
 		}
 		leaves, err := tile.ReadData(content)
 		if err != nil || uint64(len(leaves)) != name.width {
-			return nil, fmt.Errorf("%w: %s is not a tile of %d entries", logapi.ErrStore, name, name.width)
+			return nil, fmt.Errorf("%w: %s is not a tile of %d entries", loginterface.ErrStore, name, name.width)
 		}
 		return leaves, nil
 	}
@@ -175,7 +175,7 @@ func (f *Front) entryOf(ctx context.Context, leaf *tile.Leaf) (entryOf, error) {
 	}
 	data, err := extra.Bytes()
 	if err != nil {
-		return entryOf{}, fmt.Errorf("%w: a chain that is too long: %v", logapi.ErrStore, err)
+		return entryOf{}, fmt.Errorf("%w: a chain that is too long: %v", loginterface.ErrStore, err)
 	}
 	entry := entryOf{leaf.Input(), data}
 	// The answer has both in base64, and is held until it is sent. It must count before it is made: issuers may make it
@@ -211,7 +211,7 @@ func (f *Front) issuerOf(ctx context.Context, fingerprint [32]byte) ([]byte, err
 		return nil, missing(err)
 	}
 	if sha256.Sum256(certificate) != fingerprint {
-		return nil, fmt.Errorf("%w: %s has another content", logapi.ErrStore, name)
+		return nil, fmt.Errorf("%w: %s has another content", loginterface.ErrStore, name)
 	}
 	f.issuers.mutex.Lock()
 	defer f.issuers.mutex.Unlock()

@@ -6,7 +6,7 @@ import (
 	"net/http"
 	"net/netip"
 
-	"wagtenib/internal/logapi"
+	"wagtenib/internal/loginterface"
 )
 
 // Forwarder forwards submissions to the node of the log that makes the steps.
@@ -24,12 +24,12 @@ const maxForwards = 3
 // chain: the holder of a node's certificate may submit, and not more. So the node that forwards it checks nothing.
 func (f *Front) submit(ctx context.Context, w http.ResponseWriter, r *http.Request, client netip.Addr, body []byte,
 	check chainCheck) error {
-	var entry *logapi.Entry
+	var entry *loginterface.Entry
 	for tries := 0; ; tries++ {
 		if f.options.Forward == nil || tries == maxForwards {
-			ctx = logapi.Forwarded(ctx)
+			ctx = loginterface.Forwarded(ctx)
 		}
-		if !logapi.IsForwarded(ctx) {
+		if !loginterface.IsForwarded(ctx) {
 			isAnswered, err := f.options.Forward.Forward(w, r.WithContext(ctx), client, body)
 			if isAnswered {
 				return nil
@@ -38,7 +38,7 @@ func (f *Front) submit(ctx context.Context, w http.ResponseWriter, r *http.Reque
 				return ctx.Err()
 			}
 			if err != nil {
-				ctx = logapi.Forwarded(ctx)
+				ctx = loginterface.Forwarded(ctx)
 			}
 		}
 		if entry == nil {
@@ -47,12 +47,12 @@ func (f *Front) submit(ctx context.Context, w http.ResponseWriter, r *http.Reque
 				return err
 			}
 		}
-		if logapi.IsForwarded(ctx) {
+		if loginterface.IsForwarded(ctx) {
 			// (the entry has its own bytes)
 			body = nil
 		}
 		place, err := f.log.Submit(ctx, *entry)
-		if errors.Is(err, logapi.ErrElsewhere) && tries < maxForwards {
+		if errors.Is(err, loginterface.ErrElsewhere) && tries < maxForwards {
 			continue
 		}
 		if err != nil {
@@ -75,7 +75,7 @@ func (f *Front) Nodes() http.Handler {
 			http.Error(w, "this address is for submissions that other nodes forward", http.StatusNotFound)
 			return
 		}
-		ctx := context.WithValue(logapi.Forwarded(r.Context()), nodeKey{}, true)
+		ctx := context.WithValue(loginterface.Forwarded(r.Context()), nodeKey{}, true)
 		f.ServeHTTP(w, r.WithContext(ctx))
 	})
 }

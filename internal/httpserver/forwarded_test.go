@@ -9,7 +9,7 @@ import (
 	"testing"
 
 	"wagtenib/internal/httpserver/fakelog"
-	"wagtenib/internal/logapi"
+	"wagtenib/internal/loginterface"
 )
 
 // elsewhereAlways is a Forwarder to a node that answers everything, or nothing because of an error. It counts what it
@@ -34,7 +34,7 @@ func TestForwardsOnce(t *testing.T) {
 	other := &elsewhereAlways{}
 	f := newFixture(t, 0, func(o *Options) { o.Forward = other })
 	// The log answers at once: it takes no submission.
-	f.log.Fault = logapi.ErrBusy
+	f.log.Fault = loginterface.ErrBusy
 	for _, of := range []struct {
 		handler   http.Handler
 		status    int

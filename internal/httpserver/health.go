@@ -6,7 +6,7 @@ import (
 	"net/http"
 	"time"
 
-	"wagtenib/internal/logapi"
+	"wagtenib/internal/loginterface"
 )
 
 // healthz says that the process answers.
@@ -56,7 +56,7 @@ func (f *Front) unready(ctx context.Context) error {
 func (f *Front) Tell(ctx context.Context, every time.Duration) {
 	timer := time.NewTicker(every)
 	defer timer.Stop()
-	var before logapi.Figures
+	var before loginterface.Figures
 	seenMore := map[string]bool{}
 	for {
 		now := f.log.Figures()
@@ -72,7 +72,7 @@ func (f *Front) Tell(ctx context.Context, every time.Duration) {
 }
 
 // tellWitnesses logs which witnesses have seen more since the look before.
-func (f *Front) tellWitnesses(seenMore map[string]bool, witnesses []logapi.Witness) {
+func (f *Front) tellWitnesses(seenMore map[string]bool, witnesses []loginterface.Witness) {
 	for _, w := range witnesses {
 		if w.SeenMore && !seenMore[w.Name] {
 			f.options.Lines.Error("witness-seen-more", "witness", w.Name, "detail", w.Fault)
@@ -82,7 +82,7 @@ func (f *Front) tellWitnesses(seenMore map[string]bool, witnesses []logapi.Witne
 }
 
 // tellChanges logs what is another thing than at the look before.
-func (f *Front) tellChanges(before, now *logapi.Figures) {
+func (f *Front) tellChanges(before, now *loginterface.Figures) {
 	if now.Fault != before.Fault {
 		f.tellOf("fault", before.Fault, now.Fault)
 	}

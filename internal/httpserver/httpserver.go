@@ -1,8 +1,8 @@
 // Package httpserver answers a log's calls over HTTP/1.1: those of RFC 6962, section 4, and of C2SP static-ct-api. It
-// only transports. Its answers come from a logapi.Log, and a chains.Checker decides which chains are accepted. Nothing
-// in it grows without a bound: there are bounds for connections, for the bytes of bodies and waiting submissions, each
-// in all and by address, for the bytes of objects in responses, and for the time of each request. The submissions and
-// the calls of an address that read tiles may have a rate.
+// only transports. Its answers come from a loginterface.Log, and a chains.Checker decides which chains are accepted.
+// Nothing in it grows without a bound: there are bounds for connections, for the bytes of bodies and waiting
+// submissions, each in all and by address, for the bytes of objects in responses, and for the time of each request. The
+// submissions and the calls of an address that read tiles may have a rate.
 package httpserver
 
 import (
@@ -16,7 +16,7 @@ import (
 	"time"
 
 	"wagtenib/internal/chains"
-	"wagtenib/internal/logapi"
+	"wagtenib/internal/loginterface"
 	"wagtenib/internal/stores"
 	"wagtenib/internal/tile"
 )
@@ -105,7 +105,7 @@ type Options struct {
 
 // Front answers the calls of one log. It is an http.Handler, for clients; Operator is the one for operators.
 type Front struct {
-	log     logapi.Log
+	log     loginterface.Log
 	reader  *tile.Prover
 	checker *chains.Checker
 	options Options
@@ -118,7 +118,7 @@ type Front struct {
 }
 
 // New makes a front of a log, and of what makes proofs out of its tiles.
-func New(of logapi.Log, proofs *tile.Prover, checker *chains.Checker, options Options) *Front {
+func New(of loginterface.Log, proofs *tile.Prover, checker *chains.Checker, options Options) *Front {
 	limits := options.Limits
 	limits.Checks = max(limits.Checks, 1)
 	f := &Front{log: of, reader: proofs, checker: checker, options: options, limits: limits, uses: usesOf(limits)}

@@ -20,7 +20,7 @@ import (
 
 	"wagtenib/internal/chains"
 	"wagtenib/internal/httpserver/fakelog"
-	"wagtenib/internal/logapi"
+	"wagtenib/internal/loginterface"
 	"wagtenib/internal/stores"
 	"wagtenib/internal/testutil"
 	"wagtenib/internal/tile"
@@ -123,9 +123,9 @@ func (f *fixture) issue(poison bool) []byte {
 func (f *fixture) fill(count int) (certificates [][]byte) {
 	f.t.Helper()
 	one := f.issue(false)
-	var entries []logapi.Entry
+	var entries []loginterface.Entry
 	for i := 0; i < count; i++ {
-		entry := logapi.Entry{Certificate: append([]byte{byte(i >> 8), byte(i)}, one...),
+		entry := loginterface.Entry{Certificate: append([]byte{byte(i >> 8), byte(i)}, one...),
 			Issuers: [][]byte{f.authority.Root.Raw}}
 		certificates, entries = append(certificates, entry.Certificate), append(entries, entry)
 	}

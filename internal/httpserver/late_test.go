@@ -13,24 +13,26 @@ import (
 	"time"
 
 	"wagtenib/internal/httpserver/fakelog"
-	"wagtenib/internal/logapi"
+	"wagtenib/internal/loginterface"
 )
 
 // late is a log that gives an older head so many times.
 type late struct {
-	logapi.Log
-	head  logapi.Head
+	loginterface.Log
+	head  loginterface.Head
 	times int
 }
 
-func (l *late) Checkpoint(ctx context.Context) (logapi.Head, error) {
+func (l *late) Checkpoint(ctx context.Context) (loginterface.Head, error) {
 	if l.times--; l.times >= 0 {
 		return l.head, nil
 	}
 	return l.Log.Checkpoint(ctx)
 }
 
-func (l *late) HeadOf(ctx context.Context, _ uint64) (logapi.Head, error) { return l.Checkpoint(ctx) }
+func (l *late) HeadOf(ctx context.Context, _ uint64) (loginterface.Head, error) {
+	return l.Checkpoint(ctx)
+}
 
 // TestPartialTileThatWent: a partial tile that was deleted after the head was read is no fault if a newer head has the
 // full tile.
@@ -50,18 +52,18 @@ func TestPartialTileThatWent(t *testing.T) {
 
 // unasked is a log that knows a head, and whose newest one isn't answered.
 type unasked struct {
-	logapi.Log
-	head  logapi.Head
+	loginterface.Log
+	head  loginterface.Head
 	asked atomic.Int64
 }
 
-func (u *unasked) Checkpoint(ctx context.Context) (logapi.Head, error) {
+func (u *unasked) Checkpoint(ctx context.Context) (loginterface.Head, error) {
 	u.asked.Add(1)
 	<-ctx.Done()
-	return logapi.Head{}, ctx.Err()
+	return loginterface.Head{}, ctx.Err()
 }
 
-func (u *unasked) HeadOf(ctx context.Context, entries uint64) (logapi.Head, error) {
+func (u *unasked) HeadOf(ctx context.Context, entries uint64) (loginterface.Head, error) {
 	if entries <= u.head.TreeSize {
 		return u.head, nil
 	}

@@ -10,7 +10,7 @@ import (
 	"github.com/prometheus/client_golang/prometheus/collectors"
 	"github.com/prometheus/client_golang/prometheus/promhttp"
 
-	"wagtenib/internal/logapi"
+	"wagtenib/internal/loginterface"
 	"wagtenib/internal/stores"
 	"wagtenib/internal/version"
 )
@@ -195,7 +195,7 @@ func (c collected) flag(of *prometheus.Desc, is bool, labels ...string) {
 }
 
 // state collects what the log is, and whether it accepts submissions.
-func (c collected) state(f logapi.Figures, isReady bool) {
+func (c collected) state(f loginterface.Figures, isReady bool) {
 	c.gauge(descEntries, float64(f.Entries))
 	c.gauge(descHeadAge, f.HeadAge.Seconds())
 	c.gauge(descAhead, float64(f.Unpublished))
@@ -208,7 +208,7 @@ func (c collected) state(f logapi.Figures, isReady bool) {
 }
 
 // work collects what steps did.
-func (c collected) work(f logapi.Figures) {
+func (c collected) work(f loginterface.Figures) {
 	c.count(descSteps, f.Steps)
 	c.count(descLost, f.LostSwaps)
 	c.count(descUnknown, f.Unknown)
@@ -229,7 +229,7 @@ func (c collected) work(f logapi.Figures) {
 }
 
 // upkeep collects what was deleted, checked and repaired.
-func (c collected) upkeep(f logapi.Figures) {
+func (c collected) upkeep(f loginterface.Figures) {
 	c.count(descSwept, f.Swept)
 	c.count(descSweptHeads, f.SweptHeads)
 	c.count(descScrubbed, f.Scrubbed)
@@ -244,7 +244,7 @@ func (c collected) upkeep(f logapi.Figures) {
 }
 
 // witnesses collects what each witness did.
-func (c collected) witnesses(f logapi.Figures) {
+func (c collected) witnesses(f loginterface.Figures) {
 	for _, w := range f.Witnesses {
 		c.gauge(descLag, float64(w.Missed), w.Name)
 		c.count(descCosigned, w.Cosigned, w.Name)

@@ -10,7 +10,7 @@ import (
 	"net/url"
 
 	"wagtenib/bindings/go/wagtenib"
-	"wagtenib/internal/logapi"
+	"wagtenib/internal/loginterface"
 	"wagtenib/internal/stores"
 	"wagtenib/internal/tile"
 )
@@ -29,7 +29,7 @@ func (f *Front) getSTHConsistency(w http.ResponseWriter, r *http.Request) error 
 		return badParameter("first is after second")
 	}
 	var proof [][32]byte
-	err = f.underHead(r, second, func(ctx context.Context, head logapi.Head) error {
+	err = f.underHead(r, second, func(ctx context.Context, head loginterface.Head) error {
 		if first == 0 || first == second {
 			return nil
 		}
@@ -68,7 +68,7 @@ func (f *Front) getProofByHash(w http.ResponseWriter, r *http.Request) error {
 	}
 	size, index := numbers[0], uint64(0)
 	var path [][32]byte
-	err = f.underHead(r, size, func(ctx context.Context, head logapi.Head) error {
+	err = f.underHead(r, size, func(ctx context.Context, head loginterface.Head) error {
 		if index, err = f.log.IndexOf(ctx, leaf); errors.Is(err, stores.ErrAbsent) {
 			return noSuchLeaf
 		}
@@ -103,7 +103,7 @@ func (f *Front) getEntryAndProof(w http.ResponseWriter, r *http.Request) error {
 	}
 	var entry entryOf
 	var path [][32]byte
-	err = f.underHead(r, size, func(ctx context.Context, head logapi.Head) error {
+	err = f.underHead(r, size, func(ctx context.Context, head loginterface.Head) error {
 		entries, err := f.entries(ctx, index, index)
 		if err != nil {
 			return err
@@ -135,7 +135,7 @@ func numbersOf(r *http.Request, names ...string) (query url.Values, numbers []ui
 
 // underHead makes a proof of the tiles of a head that has at least size leaves. A partial tile may be deleted in
 // between, after the full tile was stored. Then underHead makes the proof again.
-func (f *Front) underHead(r *http.Request, size uint64, ask func(context.Context, logapi.Head) error) error {
+func (f *Front) underHead(r *http.Request, size uint64, ask func(context.Context, loginterface.Head) error) error {
 	client := f.clientOf(r)
 	if !f.uses.proofsOf.take(client) {
 		return tooMany
@@ -158,7 +158,7 @@ func (f *Front) underHead(r *http.Request, size uint64, ask func(context.Context
 }
 
 // headOf returns a head of this size if there is one. It is a known head or the newest one.
-func (f *Front) headOf(ctx context.Context, entries uint64, newest bool) (logapi.Head, error) {
+func (f *Front) headOf(ctx context.Context, entries uint64, newest bool) (loginterface.Head, error) {
 	if newest {
 		return f.log.Checkpoint(ctx)
 	}
@@ -170,12 +170,12 @@ func faultOf(err error) error {
 	var known refusal
 	switch {
 	case err == nil, errors.As(err, &known), errors.Is(err, context.DeadlineExceeded), errors.Is(err, context.Canceled),
-		errors.Is(err, logapi.ErrStore), errors.Is(err, logapi.ErrBusy):
+		errors.Is(err, loginterface.ErrStore), errors.Is(err, loginterface.ErrBusy):
 		return err
 	case errors.Is(err, tile.ErrBusy), errors.Is(err, wagtenib.ErrMemory):
-		return fmt.Errorf("%w: %v", logapi.ErrBusy, err)
+		return fmt.Errorf("%w: %v", loginterface.ErrBusy, err)
 	}
-	return fmt.Errorf("%w: %v", logapi.ErrStore, err)
+	return fmt.Errorf("%w: %v", loginterface.ErrStore, err)
 }
 
 func orElse(err, other error) error {
@@ -187,7 +187,7 @@ func orElse(err, other error) error {
 
 // rootAt returns the root of the first size leaves, at least one. The head's tiles must have a tree with the head's
 // root.
-func (f *Front) rootAt(ctx context.Context, head logapi.Head, size uint64) ([32]byte, error) {
+func (f *Front) rootAt(ctx context.Context, head loginterface.Head, size uint64) ([32]byte, error) {
 	if size == head.TreeSize {
 		return head.RootHash, nil
 	}
@@ -203,7 +203,9 @@ func (f *Front) rootAt(ctx context.Context, head logapi.Head, size uint64) ([32]
 }
 
 // path is the audit path from a leaf's hash to the root of the first size leaves.
-func (f *Front) path(ctx context.Context, head logapi.Head, index, size uint64, leaf [32]byte) ([][32]byte, error) {
+func (f *Front) path(
+	ctx context.Context, head loginterface.Head, index, size uint64, leaf [32]byte,
+) ([][32]byte, error) {
 	root, err := f.rootAt(ctx, head, size)
 	if err != nil {
 		return nil, err
@@ -216,7 +218,7 @@ func (f *Front) path(ctx context.Context, head logapi.Head, index, size uint64, 
 }
 
 // leafAt is the hash of a leaf as its tile has it.
-func (f *Front) leafAt(ctx context.Context, head logapi.Head, index uint64) (leaf [32]byte, err error) {
+func (f *Front) leafAt(ctx context.Context, head loginterface.Head, index uint64) (leaf [32]byte, err error) {
 	name := tileName{index: index / fullWidth, width: fullWidth}
 	if first := name.index * fullWidth; head.TreeSize-first < fullWidth {
 		name.width = head.TreeSize - first
@@ -226,7 +228,7 @@ func (f *Front) leafAt(ctx context.Context, head logapi.Head, index uint64) (lea
 		return leaf, err
 	}
 	if uint64(len(content)) != 32*name.width {
-		return leaf, fmt.Errorf("%w: %s has %d bytes", logapi.ErrStore, name, len(content))
+		return leaf, fmt.Errorf("%w: %s has %d bytes", loginterface.ErrStore, name, len(content))
 	}
 	copy(leaf[:], content[32*(index%fullWidth):])
 	return leaf, nil

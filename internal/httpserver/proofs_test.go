@@ -17,7 +17,7 @@ import (
 
 	"wagtenib/bindings/go/wagtenib"
 	"wagtenib/internal/httpserver/fakelog"
-	"wagtenib/internal/logapi"
+	"wagtenib/internal/loginterface"
 	"wagtenib/internal/stores"
 	"wagtenib/internal/testutil"
 	"wagtenib/internal/tile"
@@ -155,7 +155,7 @@ func TestProofs(t *testing.T) {
 
 // elsewhere is a log that reports one index for each leaf.
 type elsewhere struct {
-	logapi.Log
+	loginterface.Log
 	index uint64
 }
 

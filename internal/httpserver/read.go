@@ -9,7 +9,7 @@ import (
 	"net/http"
 	"strings"
 
-	"wagtenib/internal/logapi"
+	"wagtenib/internal/loginterface"
 	"wagtenib/internal/stores"
 )
 
@@ -64,13 +64,13 @@ func (f *Front) read(ctx context.Context, name string) ([]byte, error) {
 	case errors.Is(err, stores.ErrAbsent), errors.Is(err, stores.ErrName):
 		return nil, fmt.Errorf("%s: %w", name, err)
 	}
-	return nil, fmt.Errorf("%w: %s: %v", logapi.ErrStore, name, err)
+	return nil, fmt.Errorf("%w: %s: %v", loginterface.ErrStore, name, err)
 }
 
 // missing says of an object that the log has to have that it is the store's fault where it isn't there.
 func missing(err error) error {
 	if errors.Is(err, stores.ErrAbsent) || errors.Is(err, stores.ErrName) {
-		return fmt.Errorf("%w: %v", logapi.ErrStore, err)
+		return fmt.Errorf("%w: %v", loginterface.ErrStore, err)
 	}
 	return err
 }
@@ -128,7 +128,7 @@ func (f *Front) tile(w http.ResponseWriter, r *http.Request) error {
 		return err
 	}
 	if !name.isOf(content) {
-		return fmt.Errorf("%w: %s is not a tile of %d", logapi.ErrStore, name, name.width)
+		return fmt.Errorf("%w: %s is not a tile of %d", loginterface.ErrStore, name, name.width)
 	}
 	keep := forEver
 	if name.width != fullWidth {
@@ -165,7 +165,7 @@ func (f *Front) issuer(w http.ResponseWriter, r *http.Request) error {
 		return err
 	}
 	if hash := sha256.Sum256(content); hex.EncodeToString(hash[:]) != fingerprint {
-		return fmt.Errorf("%w: issuer/%s has another content", logapi.ErrStore, fingerprint)
+		return fmt.Errorf("%w: issuer/%s has another content", loginterface.ErrStore, fingerprint)
 	}
 	w.Header().Set("Cache-Control", forEver)
 	return writeParts(w, r, "application/pkix-cert", content)

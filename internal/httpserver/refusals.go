@@ -11,7 +11,7 @@ import (
 
 	"wagtenib/bindings/go/wagtenib"
 	"wagtenib/internal/chains"
-	"wagtenib/internal/logapi"
+	"wagtenib/internal/loginterface"
 	"wagtenib/internal/stores"
 )
 
@@ -42,19 +42,19 @@ func refusalOf(err error) refusal {
 	}
 	r := refusal{status: http.StatusServiceUnavailable, why: err}
 	switch {
-	case errors.Is(err, logapi.ErrBusy), errors.Is(err, wagtenib.ErrMemory):
+	case errors.Is(err, loginterface.ErrBusy), errors.Is(err, wagtenib.ErrMemory):
 		r.name, r.after = "busy", 1
-	case errors.Is(err, logapi.ErrTooLarge):
+	case errors.Is(err, loginterface.ErrTooLarge):
 		r.status, r.name = http.StatusBadRequest, "entry-too-large"
 		// (the log says how many bytes an entry may have)
-		if _, sizes, hasSizes := strings.Cut(err.Error(), logapi.ErrTooLarge.Error()+": "); hasSizes {
+		if _, sizes, hasSizes := strings.Cut(err.Error(), loginterface.ErrTooLarge.Error()+": "); hasSizes {
 			r.detail = sizes
 		}
-	case errors.Is(err, logapi.ErrEnded):
+	case errors.Is(err, loginterface.ErrEnded):
 		r.name, r.after = "ended", 10
-	case errors.Is(err, logapi.ErrClock):
+	case errors.Is(err, loginterface.ErrClock):
 		r.name, r.after = "clock", 10
-	case errors.Is(err, logapi.ErrStore):
+	case errors.Is(err, loginterface.ErrStore):
 		r.name, r.after = "store", 5
 	case errors.Is(err, context.DeadlineExceeded):
 		r.name, r.after = "late", 5

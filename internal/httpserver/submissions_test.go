@@ -16,7 +16,7 @@ import (
 	"wagtenib/bindings/go/wagtenib"
 	"wagtenib/internal/chains"
 	"wagtenib/internal/httpserver/fakelog"
-	"wagtenib/internal/logapi"
+	"wagtenib/internal/loginterface"
 	"wagtenib/internal/tile"
 )
 
@@ -164,7 +164,7 @@ func TestBytesByAddress(t *testing.T) {
 // TestTooLargeSaysTheBound: the refusal of an entry that is too large says how large one may be.
 func TestTooLargeSaysTheBound(t *testing.T) {
 	f := newFixture(t, 10*time.Millisecond, nil)
-	f.log.Break(fmt.Errorf("%w: it has 131073 bytes, and may have 131072", logapi.ErrTooLarge))
+	f.log.Break(fmt.Errorf("%w: it has 131073 bytes, and may have 131072", loginterface.ErrTooLarge))
 	w := f.do("POST", "/ct/v1/add-chain", fakelog.Submission(f.issue(false)))
 	if w.Code != 400 || !strings.Contains(w.Body.String(), "entry-too-large") ||
 		!strings.Contains(w.Body.String(), "it has 131073 bytes, and may have 131072") {
@@ -182,12 +182,12 @@ func TestErrorsOfTheLog(t *testing.T) {
 		name   string
 		after  string
 	}{
-		{logapi.ErrBusy, 503, "busy", "1"},
-		{logapi.ErrTooLarge, 400, "entry-too-large", ""},
-		{logapi.ErrEnded, 503, "ended", "10"},
-		{logapi.ErrClock, 503, "clock", "10"},
-		{logapi.ErrStore, 503, "store", "5"},
-		{fmt.Errorf("deep inside: %w", logapi.ErrStore), 503, "store", "5"},
+		{loginterface.ErrBusy, 503, "busy", "1"},
+		{loginterface.ErrTooLarge, 400, "entry-too-large", ""},
+		{loginterface.ErrEnded, 503, "ended", "10"},
+		{loginterface.ErrClock, 503, "clock", "10"},
+		{loginterface.ErrStore, 503, "store", "5"},
+		{fmt.Errorf("deep inside: %w", loginterface.ErrStore), 503, "store", "5"},
 		{fmt.Errorf("deep inside: %w", wagtenib.ErrMemory), 503, "busy", "1"},
 		{fmt.Errorf("deep inside: %w", tile.ErrReply), 500, "internal", ""},
 		{context.DeadlineExceeded, 503, "late", "5"},

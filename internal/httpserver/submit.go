@@ -10,7 +10,7 @@ import (
 	"slices"
 
 	"wagtenib/internal/chains"
-	"wagtenib/internal/logapi"
+	"wagtenib/internal/loginterface"
 )
 
 // signedTimestamp is the answer to a submission (RFC 6962, section 4.1). Bytes are in base64.
@@ -54,7 +54,7 @@ func (f *Front) add(w http.ResponseWriter, r *http.Request, check chainCheck) er
 	return f.submit(ctx, w, r, client, body, check)
 }
 
-func timestampOf(place logapi.Place) signedTimestamp {
+func timestampOf(place loginterface.Place) signedTimestamp {
 	return signedTimestamp{0, place.LogID[:], place.Timestamp, place.Extensions, place.Signature}
 }
 

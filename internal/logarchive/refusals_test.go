@@ -11,9 +11,9 @@ import (
 	"strings"
 	"testing"
 
-	"wagtenib/internal/logapi"
 	"wagtenib/internal/logarchive"
 	"wagtenib/internal/logclient"
+	"wagtenib/internal/loginterface"
 	"wagtenib/internal/signature"
 	"wagtenib/internal/stores"
 	"wagtenib/internal/testlog"
@@ -275,10 +275,10 @@ func TestServesNoDamage(t *testing.T) {
 	served, err := logarchive.Open(ctx, w.folder)
 	testutil.Must(t, err)
 	defer served.Close()
-	for name, due := range map[string]error{"tile/data/000": logapi.ErrStore, "tile/0/001": logapi.ErrStore,
-		"tile/data/002.p/88": logapi.ErrStore, "tile/data/001": nil, "tile/data/002.p/87": stores.ErrAbsent,
+	for name, due := range map[string]error{"tile/data/000": loginterface.ErrStore, "tile/0/001": loginterface.ErrStore,
+		"tile/data/002.p/88": loginterface.ErrStore, "tile/data/001": nil, "tile/data/002.p/87": stores.ErrAbsent,
 		"tile/data/003": stores.ErrAbsent, "checkpoint": stores.ErrName, "../signed-head.json": stores.ErrName} {
-		if errors.Is(due, logapi.ErrStore) {
+		if errors.Is(due, loginterface.ErrStore) {
 			path := filepath.Join(w.folder, "objects", filepath.FromSlash(name))
 			content, err := os.ReadFile(path)
 			testutil.Must(t, err)

@@ -10,18 +10,18 @@ import (
 	"time"
 
 	"wagtenib/bindings/go/wagtenib"
-	"wagtenib/internal/logapi"
+	"wagtenib/internal/loginterface"
 	"wagtenib/internal/signature"
 	"wagtenib/internal/signer"
 	"wagtenib/internal/stores"
 	"wagtenib/internal/tile"
 )
 
-// Served is an archive that is complete, as a log that takes no submissions: a logapi.Log. It believes neither its objects
-// nor its index. Its methods may be called at once.
+// Served is an archive that is complete, as a log that takes no submissions: a loginterface.Log. It believes neither
+// its objects nor its index. Its methods may be called at once.
 type Served struct {
 	of       Log
-	head     logapi.Head
+	head     loginterface.Head
 	tree     signer.Head
 	objects  stores.Objects
 	index    *leafIndex
@@ -83,16 +83,16 @@ func Open(ctx context.Context, path string) (s *Served, err error) {
 }
 
 // headOf returns a head as package log has it.
-func headOf(signed head, of Log) (logapi.Head, error) {
+func headOf(signed head, of Log) (loginterface.Head, error) {
 	sth, err := signature.ReadSTH(signed.answer)
 	if err != nil {
-		return logapi.Head{}, fmt.Errorf("%w: %w", ErrDamaged, err)
+		return loginterface.Head{}, fmt.Errorf("%w: %w", ErrDamaged, err)
 	}
 	note, err := signature.CheckpointOfSTH(signed.answer, of.Origin, of.PublicKey)
 	if err != nil {
-		return logapi.Head{}, fmt.Errorf("%w: %w", ErrDamaged, err)
+		return loginterface.Head{}, fmt.Errorf("%w: %w", ErrDamaged, err)
 	}
-	return logapi.Head{Note: note, TreeSize: signed.TreeSize, Timestamp: signed.Timestamp, RootHash: signed.Root,
+	return loginterface.Head{Note: note, TreeSize: signed.TreeSize, Timestamp: signed.Timestamp, RootHash: signed.Root,
 		Signature: sth.Signature}, nil
 }
 
@@ -160,18 +160,18 @@ func (s *Served) Close() {
 	}
 }
 
-// Submit is logapi.Log's.
-func (s *Served) Submit(context.Context, logapi.Entry) (logapi.Place, error) {
-	return logapi.Place{}, logapi.ErrEnded
+// Submit is loginterface.Log's.
+func (s *Served) Submit(context.Context, loginterface.Entry) (loginterface.Place, error) {
+	return loginterface.Place{}, loginterface.ErrEnded
 }
 
-// Checkpoint is logapi.Log's: the last head of the log.
-func (s *Served) Checkpoint(context.Context) (logapi.Head, error) { return s.head, nil }
+// Checkpoint is loginterface.Log's: the last head of the log.
+func (s *Served) Checkpoint(context.Context) (loginterface.Head, error) { return s.head, nil }
 
-// HeadOf is logapi.Log's.
-func (s *Served) HeadOf(context.Context, uint64) (logapi.Head, error) { return s.head, nil }
+// HeadOf is loginterface.Log's.
+func (s *Served) HeadOf(context.Context, uint64) (loginterface.Head, error) { return s.head, nil }
 
-// Object is logapi.Log's. Each tile is compared with the tree of the head.
+// Object is loginterface.Log's. Each tile is compared with the tree of the head.
 func (s *Served) Object(ctx context.Context, name string, most int64) ([]byte, error) {
 	of, isTile := tile.Parse(name)
 	if !isTile && !strings.HasPrefix(name, "issuer/") {
@@ -191,16 +191,16 @@ func (s *Served) Object(ctx context.Context, name string, most int64) ([]byte, e
 		err = s.comparer.Compare(ctx, s.tree, of, content)
 	}
 	if err != nil {
-		return nil, fmt.Errorf("%w: %w", logapi.ErrStore, err)
+		return nil, fmt.Errorf("%w: %w", loginterface.ErrStore, err)
 	}
 	return content, nil
 }
 
-// IndexOf is logapi.Log's.
+// IndexOf is loginterface.Log's.
 func (s *Served) IndexOf(ctx context.Context, leafHash [32]byte) (uint64, error) {
 	index, ok, err := s.index.find(ctx, leafHash)
 	if err != nil {
-		return 0, fmt.Errorf("%w: %w", logapi.ErrStore, err)
+		return 0, fmt.Errorf("%w: %w", loginterface.ErrStore, err)
 	}
 	if !ok {
 		return 0, fmt.Errorf("%w: a leaf of this hash", stores.ErrAbsent)
@@ -208,10 +208,10 @@ func (s *Served) IndexOf(ctx context.Context, leafHash [32]byte) (uint64, error)
 	return index, nil
 }
 
-// End is logapi.Log's. Nothing waits.
+// End is loginterface.Log's. Nothing waits.
 func (s *Served) End(context.Context) error { return nil }
 
-// Figures are logapi.Log's.
-func (s *Served) Figures() logapi.Figures {
-	return logapi.Figures{Entries: s.head.TreeSize, HeadAge: time.Since(time.UnixMilli(int64(s.head.Timestamp)))}
+// Figures are loginterface.Log's.
+func (s *Served) Figures() loginterface.Figures {
+	return loginterface.Figures{Entries: s.head.TreeSize, HeadAge: time.Since(time.UnixMilli(int64(s.head.Timestamp)))}
 }

@@ -3,7 +3,7 @@ package logservice_test
 import (
 	"testing"
 
-	"wagtenib/internal/logapi"
+	"wagtenib/internal/loginterface"
 )
 
 // Two nodes have a signer each, over one state of the guard. A submission that comes again to the one whose signer
@@ -16,14 +16,14 @@ func TestAgainAtANodeWhoseSignerIsBehind(t *testing.T) {
 	first, second := started(t, one), started(t, two)
 	for n := range 5 {
 		// (the second node's signer signs, and so it remembers this head)
-		_, err := second.Submit(logapi.Forwarded(limited(t)), entryOf(2*n))
+		_, err := second.Submit(loginterface.Forwarded(limited(t)), entryOf(2*n))
 		must(t, err)
-		due, err := first.Submit(logapi.Forwarded(limited(t)), entryOf(2*n+1))
+		due, err := first.Submit(loginterface.Forwarded(limited(t)), entryOf(2*n+1))
 		must(t, err)
 		eventually(t, "the second node knows the head of the first", func() bool {
 			return second.Figures().Entries > due.LeafIndex
 		})
-		place, err := second.Submit(logapi.Forwarded(limited(t)), entryOf(2*n+1))
+		place, err := second.Submit(loginterface.Forwarded(limited(t)), entryOf(2*n+1))
 		must(t, err)
 		if place.LeafIndex != due.LeafIndex || place.Timestamp != due.Timestamp {
 			t.Errorf("entry %d is at %d, and comes again at %d", 2*n+1, due.LeafIndex, place.LeafIndex)

@@ -8,7 +8,7 @@ import (
 	"testing"
 	"time"
 
-	"wagtenib/internal/logapi"
+	"wagtenib/internal/loginterface"
 	"wagtenib/internal/logservice"
 	"wagtenib/internal/node"
 	"wagtenib/internal/stores"
@@ -60,7 +60,7 @@ func TestClockAtStart(t *testing.T) {
 				got.add(entryOf(1000+int(test.by.Minutes())), place)
 				return
 			}
-			wants(t, err, logapi.ErrClock, node.ErrClock)
+			wants(t, err, loginterface.ErrClock, node.ErrClock)
 			if !strings.Contains(err.Error(), test.beside) || !strings.Contains(l.Figures().Fault, test.beside) {
 				t.Errorf("%v does not say %s", err, test.beside)
 			}
@@ -85,7 +85,7 @@ func TestClockSet(t *testing.T) {
 	got.submit(t, l, 0, 3)
 	clock.set(time.Minute, false)
 	_, err := l.Submit(limited(t), entryOf(5))
-	wants(t, err, logapi.ErrClock)
+	wants(t, err, loginterface.ErrClock)
 	clock.set(0, false)
 	eventually(t, "it goes on", func() bool { return l.Figures().Fault == "" })
 	got.submit(t, l, 5, 6)
@@ -104,7 +104,7 @@ func TestRequiresSynchronizedClock(t *testing.T) {
 	got.submit(t, l, 0, 3)
 	clock.set(0, false)
 	_, err := l.Submit(limited(t), entryOf(5))
-	wants(t, err, logapi.ErrClock)
+	wants(t, err, loginterface.ErrClock)
 	if !strings.Contains(err.Error(), "not synchronized") {
 		t.Error(err)
 	}
@@ -136,7 +136,7 @@ func TestNameDay(t *testing.T) {
 		t.Helper()
 		l := start()
 		_, err := l.Submit(limited(t), entryOf(5))
-		wants(t, err, logapi.ErrClock)
+		wants(t, err, loginterface.ErrClock)
 		if !strings.Contains(err.Error(), "ctserve clock") {
 			t.Errorf("%s: %v", why, err)
 		}

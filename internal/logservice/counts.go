@@ -6,7 +6,7 @@ import (
 	"sync/atomic"
 	"time"
 
-	"wagtenib/internal/logapi"
+	"wagtenib/internal/loginterface"
 	"wagtenib/internal/node"
 	"wagtenib/internal/node/decider"
 )
@@ -18,12 +18,12 @@ type counts struct {
 	written   atomic.Uint64
 
 	mu     sync.Mutex
-	phases map[string]logapi.Phase
+	phases map[string]loginterface.Phase
 	// batches says how many submissions steps had.
-	batches logapi.Batches
+	batches loginterface.Batches
 	happened
 	wentWell  time.Time
-	witnesses map[string]logapi.Witness
+	witnesses map[string]loginterface.Witness
 }
 
 // happened has the repaired objects, the faults, and the failures beside the steps.
@@ -38,8 +38,10 @@ type tally struct {
 func (t *tally) add(what string) { t.count, t.last = t.count+1, what }
 
 func newCounts() *counts {
-	return &counts{phases: map[string]logapi.Phase{}, wentWell: time.Now(), witnesses: map[string]logapi.Witness{},
-		batches: logapi.Batches{AtMost: map[int]uint64{}}}
+	return &counts{
+		phases: map[string]loginterface.Phase{}, wentWell: time.Now(), witnesses: map[string]loginterface.Witness{},
+		batches: loginterface.Batches{AtMost: map[int]uint64{}},
+	}
 }
 
 // phaseNames are the parts of a step in their order, by the names that metrics have.
@@ -58,7 +60,7 @@ func (c *counts) Took(part string, long time.Duration) {
 	c.mu.Lock()
 	defer c.mu.Unlock()
 	of := c.phases[part]
-	c.phases[part] = logapi.Phase{Name: part, Count: of.Count + 1, Took: of.Took + long}
+	c.phases[part] = loginterface.Phase{Name: part, Count: of.Count + 1, Took: of.Took + long}
 }
 
 // batchBounds are the numbers of submissions by which steps are counted.
@@ -109,7 +111,7 @@ func (c *counts) failed(err error) {
 // Cosigned is node.Observer's. Only whether a witness saw more is kept here: remote counts the rest.
 func (c *counts) Cosigned(name string, err error) {
 	if err == nil || errors.Is(err, node.ErrWitnessAhead) {
-		c.witness(name, func(w *logapi.Witness) {
+		c.witness(name, func(w *loginterface.Witness) {
 			if w.SeenMore = err != nil; w.SeenMore {
 				w.Missed, w.Fault = w.Missed+1, err.Error()
 			}
@@ -118,7 +120,7 @@ func (c *counts) Cosigned(name string, err error) {
 }
 
 // witness changes what is known of a witness.
-func (c *counts) witness(name string, change func(*logapi.Witness)) {
+func (c *counts) witness(name string, change func(*loginterface.Witness)) {
 	c.mu.Lock()
 	defer c.mu.Unlock()
 	w := c.witnesses[name]
@@ -128,7 +130,7 @@ func (c *counts) witness(name string, change func(*logapi.Witness)) {
 }
 
 // into writes what was counted into the figures of a log.
-func (c *counts) into(f *logapi.Figures) {
+func (c *counts) into(f *loginterface.Figures) {
 	f.LostSwaps, f.Unknown = c.of(node.LostSwap), c.of(node.UnknownSwap)
 	f.Helped, f.Repeats, f.HandedOver, f.Written = c.of(node.ResumedStep), c.of(node.Duplicate), c.forwarded.Load(),
 		c.written.Load()
@@ -139,7 +141,7 @@ func (c *counts) into(f *logapi.Figures) {
 		of.Name = name
 		f.Phases = append(f.Phases, of)
 	}
-	f.Steps, f.Batches = c.batches.Steps, logapi.Batches{Steps: c.batches.Steps, Submissions: c.batches.Submissions,
+	f.Steps, f.Batches = c.batches.Steps, loginterface.Batches{Steps: c.batches.Steps, Submissions: c.batches.Submissions,
 		AtMost: map[int]uint64{}}
 	for _, bound := range batchBounds {
 		f.Batches.AtMost[bound] = c.batches.AtMost[bound]
@@ -150,9 +152,9 @@ func (c *counts) into(f *logapi.Figures) {
 	f.TendFailures, f.TendFailure = c.failures.count, c.failures.last
 }
 
-// Figures is logapi.Log's.
-func (l *Log) Figures() logapi.Figures {
-	f := logapi.Figures{Queue: l.node.Waiting(), MaxQueue: l.config.Pace.MaxQueue}
+// Figures is loginterface.Log's.
+func (l *Log) Figures() loginterface.Figures {
+	f := loginterface.Figures{Queue: l.node.Waiting(), MaxQueue: l.config.Pace.MaxQueue}
 	if counted, ok := l.config.Signer.(interface{ Starts() uint64 }); ok {
 		f.SignerStarts = counted.Starts()
 	}

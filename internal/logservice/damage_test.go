@@ -10,7 +10,7 @@ import (
 	"testing"
 	"time"
 
-	"wagtenib/internal/logapi"
+	"wagtenib/internal/loginterface"
 	"wagtenib/internal/node"
 	"wagtenib/internal/stores"
 )
@@ -45,7 +45,7 @@ func TestDamagedTilesAreNotGiven(t *testing.T) {
 			must(t, err)
 			must(t, damage(p.object(name)))
 			_, err = l.Object(ctx, name, stores.MaxObject)
-			wants(t, err, logapi.ErrStore, node.ErrDamaged)
+			wants(t, err, loginterface.ErrStore, node.ErrDamaged)
 			if f := l.Figures(); f.Damaged == 0 || i == 0 && !strings.Contains(f.Damage, name) {
 				t.Errorf("%s, %s: %d tiles are damaged, %q", name, how, f.Damaged, f.Damage)
 			}
@@ -60,7 +60,7 @@ func TestDamagedTilesAreNotGiven(t *testing.T) {
 	}
 	for _, name := range []string{"tile/data/002", "tile/0/007", "tile/2/000", "tile/data/000.p/7"} {
 		if _, err := l.Object(ctx, name, stores.MaxObject); !errors.Is(err, stores.ErrAbsent) || errors.Is(err,
-			logapi.ErrStore) {
+			loginterface.ErrStore) {
 			t.Errorf("%s, which the tree does not have: %v", name, err)
 		}
 	}
@@ -70,7 +70,7 @@ func TestDamagedTilesAreNotGiven(t *testing.T) {
 	}
 	must(t, os.Remove(p.object("tile/data/002.p/88")))
 	_, err := l.Object(ctx, "tile/data/002.p/88", stores.MaxObject)
-	wants(t, err, logapi.ErrStore)
+	wants(t, err, loginterface.ErrStore)
 }
 
 // A duplicate whose data tile is damaged is refused, and everything else goes on. The janitor sees when the tile is put
@@ -93,7 +93,7 @@ func TestDamageOfADuplicate(t *testing.T) {
 	}
 	refused := 0
 	for n := range 300 {
-		if _, err := l.Submit(limited(t), entryOf(n)); errors.Is(err, logapi.ErrStore) {
+		if _, err := l.Submit(limited(t), entryOf(n)); errors.Is(err, loginterface.ErrStore) {
 			refused++
 		} else if err != nil {
 			t.Error(err)

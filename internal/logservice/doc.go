@@ -1,5 +1,6 @@
-// Package logservice serves one log out of a node: it is what internal/httpserver asks (internal/logapi.Log). The node
-// decides (internal/node), and this package has all that the node needs of a machine, and that readers need of a log.
+// Package logservice serves one log out of a node: it is what internal/httpserver asks (internal/loginterface.Log). The
+// node decides (internal/node), and this package has all that the node needs of a machine, and that readers need of a
+// log.
 //
 //   - logservice.go opens the log, and takes submissions;
 //   - reads.go and objects.go read heads and objects for clients, and compare each full tile with the tree;

@@ -12,7 +12,7 @@ import (
 	"sync/atomic"
 	"testing"
 
-	"wagtenib/internal/logapi"
+	"wagtenib/internal/loginterface"
 	"wagtenib/internal/logservice"
 )
 
@@ -58,13 +58,13 @@ func (p *place) leads(t *testing.T, l *logservice.Log, address string) {
 	config := p.config()
 	config.Address, config.Machine.Files.LatestHead = address, p.path("other-latest-head")
 	other := started(t, config)
-	var before logapi.Head
+	var before loginterface.Head
 	eventually(t, "the first head is published", func() (is bool) {
 		var err error
 		before, err = l.Checkpoint(limited(t))
 		return err == nil
 	})
-	_, err := other.Submit(logapi.Forwarded(limited(t)), entryOf(1000+int(before.TreeSize)))
+	_, err := other.Submit(loginterface.Forwarded(limited(t)), entryOf(1000+int(before.TreeSize)))
 	must(t, err)
 	ends(t, other)
 }
@@ -117,7 +117,7 @@ func TestForward(t *testing.T) {
 	if isAnswered, _, err := forwards(f); isAnswered || err == nil || o.asked.Load() != asked {
 		t.Errorf("it is asked again at once: %t, %v", isAnswered, err)
 	}
-	_, err := l.Submit(logapi.Forwarded(limited(t)), entryOf(1))
+	_, err := l.Submit(loginterface.Forwarded(limited(t)), entryOf(1))
 	must(t, err)
 }
 
@@ -136,7 +136,7 @@ func TestElsewhere(t *testing.T) {
 	defer letGo()
 	movable, own := make(chan error, 1), make(chan error, 1)
 	go func() {
-		_, err := l.Submit(logapi.Forwarded(limited(t)), entryOf(1))
+		_, err := l.Submit(loginterface.Forwarded(limited(t)), entryOf(1))
 		own <- err
 	}()
 	eventually(t, "it waits", func() bool { return l.Figures().Queue == 1 })
@@ -147,7 +147,7 @@ func TestElsewhere(t *testing.T) {
 	eventually(t, "both wait", func() bool { return l.Figures().Queue == 2 })
 	p.leads(t, l, o.URL)
 	letGo()
-	if err := <-movable; err != nil && !errors.Is(err, logapi.ErrElsewhere) {
+	if err := <-movable; err != nil && !errors.Is(err, loginterface.ErrElsewhere) {
 		t.Errorf("the movable one: %v", err)
 	}
 	must(t, <-own)
@@ -170,6 +170,6 @@ func TestForwardsOverTLSOnly(t *testing.T) {
 		}
 		return err != nil
 	})
-	_, err := l.Submit(logapi.Forwarded(limited(t)), entryOf(1))
+	_, err := l.Submit(loginterface.Forwarded(limited(t)), entryOf(1))
 	must(t, err)
 }

@@ -8,7 +8,7 @@ import (
 	"testing"
 	"time"
 
-	"wagtenib/internal/logapi"
+	"wagtenib/internal/loginterface"
 	"wagtenib/internal/node"
 )
 
@@ -77,7 +77,7 @@ func TestNoTimeOfAWrongClock(t *testing.T) {
 	}
 	clock.set(time.Minute, false)
 	_, err := l.Submit(limited(t), entryOf(5))
-	wants(t, err, logapi.ErrClock, node.ErrClock)
+	wants(t, err, loginterface.ErrClock, node.ErrClock)
 	if said := dates(); len(said) != 0 {
 		t.Errorf("with a wrong clock it says %q", said)
 	}
@@ -96,7 +96,7 @@ func TestWaitingSubmissionMoves(t *testing.T) {
 	defer letGo()
 	own, movable := make(chan error, 1), make(chan error, 1)
 	go func() {
-		_, err := l.Submit(logapi.Forwarded(limited(t)), entryOf(1))
+		_, err := l.Submit(loginterface.Forwarded(limited(t)), entryOf(1))
 		own <- err
 	}()
 	eventually(t, "it waits", func() bool { return l.Figures().Queue == 1 })
@@ -107,7 +107,7 @@ func TestWaitingSubmissionMoves(t *testing.T) {
 	eventually(t, "both wait", func() bool { return l.Figures().Queue == 2 })
 	p.leads(t, l, o.URL)
 	letGo()
-	wants(t, <-movable, logapi.ErrElsewhere)
+	wants(t, <-movable, loginterface.ErrElsewhere)
 	must(t, <-own)
 }
 

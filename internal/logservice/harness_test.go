@@ -19,8 +19,8 @@ import (
 	"time"
 
 	"wagtenib/internal/chains"
-	"wagtenib/internal/logapi"
 	"wagtenib/internal/logcheck"
+	"wagtenib/internal/loginterface"
 	"wagtenib/internal/logservice"
 	"wagtenib/internal/signer"
 	"wagtenib/internal/stores"
@@ -135,14 +135,14 @@ func eventually(t testing.TB, what string, is func() bool) {
 }
 
 // entryOf returns the entry of a number. Every third one is a precertificate's.
-func entryOf(i int) logapi.Entry {
+func entryOf(i int) loginterface.Entry {
 	text := []byte(strings.Repeat(fmt.Sprintf("%d;", i), 1+i%40))
 	issuers := [][]byte{[]byte(fmt.Sprint("issuer ", i%5)), []byte("root")}
 	if i%3 == 0 {
-		return logapi.Entry{Type: chains.PrecertEntry, IssuerKeyHash: sha256.Sum256(issuers[0]), TBSCertificate: text,
+		return loginterface.Entry{Type: chains.PrecertEntry, IssuerKeyHash: sha256.Sum256(issuers[0]), TBSCertificate: text,
 			Precertificate: append([]byte("pre"), text...), Issuers: issuers}
 	}
-	return logapi.Entry{Type: chains.X509Entry, Certificate: text, Issuers: issuers}
+	return loginterface.Entry{Type: chains.X509Entry, Certificate: text, Issuers: issuers}
 }
 
 // answers are what clients got.
@@ -151,7 +151,7 @@ type answers struct {
 	all []logcheck.Answer
 }
 
-func (a *answers) add(entry logapi.Entry, place logapi.Place) {
+func (a *answers) add(entry loginterface.Entry, place loginterface.Place) {
 	a.mu.Lock()
 	defer a.mu.Unlock()
 	one := logcheck.Answer{Certificate: entry.Certificate, Timestamp: place.Timestamp, Extensions: place.Extensions,
@@ -163,7 +163,7 @@ func (a *answers) add(entry logapi.Entry, place logapi.Place) {
 }
 
 // submit submits the numbers from one up to another, all at once, and each must be answered.
-func (a *answers) submit(t testing.TB, l logapi.Log, from, to int) {
+func (a *answers) submit(t testing.TB, l loginterface.Log, from, to int) {
 	t.Helper()
 	ctx := limited(t)
 	failed := make(chan error, to-from)

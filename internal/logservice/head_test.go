@@ -9,7 +9,7 @@ import (
 	"strings"
 	"testing"
 
-	"wagtenib/internal/logapi"
+	"wagtenib/internal/loginterface"
 	"wagtenib/internal/logservice"
 	"wagtenib/internal/node"
 )
@@ -54,7 +54,7 @@ func TestHeadWithAnotherSignatureIsNotServed(t *testing.T) {
 	again, err := logservice.Open(limited(t), p.config())
 	if err == nil {
 		t.Cleanup(func() { ends(t, again) })
-		var head logapi.Head
+		var head loginterface.Head
 		if head, err = again.Checkpoint(limited(t)); err == nil {
 			t.Fatalf("it serves %q", head.Note)
 		}

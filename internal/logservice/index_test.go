@@ -9,7 +9,7 @@ import (
 	"strings"
 	"testing"
 
-	"wagtenib/internal/logapi"
+	"wagtenib/internal/loginterface"
 	"wagtenib/internal/logservice"
 	"wagtenib/internal/node"
 	"wagtenib/internal/stores"
@@ -96,7 +96,7 @@ func TestLogCompletesIndex(t *testing.T) {
 	p, got := newPlace(t), &answers{}
 	l := started(t, p.config())
 	got.submit(t, l, 0, 600)
-	places := map[int]logapi.Place{}
+	places := map[int]loginterface.Place{}
 	for _, n := range []int{0, 100, 255, 256, 511, 599} {
 		place, err := l.Submit(limited(t), entryOf(n))
 		must(t, err)

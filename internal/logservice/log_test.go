@@ -13,7 +13,7 @@ import (
 	"time"
 
 	"wagtenib/internal/chains"
-	"wagtenib/internal/logapi"
+	"wagtenib/internal/loginterface"
 	"wagtenib/internal/logservice"
 	"wagtenib/internal/node"
 	"wagtenib/internal/signer"
@@ -29,7 +29,7 @@ func TestOneNode(t *testing.T) {
 	got.submit(t, l, 0, 400)
 	ends(t, l)
 	_, err := l.Submit(limited(t), entryOf(0))
-	wants(t, err, logapi.ErrEnded)
+	wants(t, err, loginterface.ErrEnded)
 	l = started(t, p.config())
 	got.submit(t, l, 300, 700)
 	if leaves := p.right(got); leaves != 700 {
@@ -76,7 +76,7 @@ func TestIndexOf(t *testing.T) {
 }
 
 // leafHash returns the hash of an entry's MerkleTreeLeaf (RFC 6962, sections 2.1 and 3.4).
-func leafHash(of logapi.Entry, at logapi.Place) [32]byte {
+func leafHash(of loginterface.Entry, at loginterface.Place) [32]byte {
 	leaf := append([]byte{0, 0, 0}, binary.BigEndian.AppendUint64(nil, at.Timestamp)...)
 	leaf = append(leaf, byte(of.Type>>8), byte(of.Type))
 	content := of.Certificate
@@ -138,7 +138,7 @@ func TestFullQueue(t *testing.T) {
 		eventually(t, "it waits", func() bool { return l.Figures().Queue == n })
 	}
 	_, err := l.Submit(limited(t), entryOf(9))
-	wants(t, err, logapi.ErrBusy)
+	wants(t, err, loginterface.ErrBusy)
 	cancel()
 	for range 3 {
 		wants(t, <-gaveUp, context.Canceled)
@@ -158,7 +158,7 @@ func TestTooLarge(t *testing.T) {
 	entry := entryOf(1)
 	entry.Certificate = make([]byte, logservice.MaxEntry+1)
 	_, err := l.Submit(limited(t), entry)
-	wants(t, err, logapi.ErrTooLarge)
+	wants(t, err, loginterface.ErrTooLarge)
 	entry.Certificate = entry.Certificate[1:]
 	_, err = l.Submit(limited(t), entry)
 	must(t, err)
@@ -189,7 +189,7 @@ func TestEnd(t *testing.T) {
 		ctx, cancel := context.WithTimeout(limited(t), 10*time.Millisecond)
 		defer cancel()
 		_, err := l.Submit(ctx, entryOf(8))
-		return errors.Is(err, logapi.ErrEnded)
+		return errors.Is(err, loginterface.ErrEnded)
 	})
 	letGo()
 	must(t, <-ended)
@@ -207,7 +207,7 @@ func TestEnd(t *testing.T) {
 	ctx, cancel := context.WithTimeout(context.Background(), 50*time.Millisecond)
 	defer cancel()
 	wants(t, l.End(ctx), context.DeadlineExceeded)
-	wants(t, <-outcome, logapi.ErrEnded)
+	wants(t, <-outcome, loginterface.ErrEnded)
 }
 
 // refusing is a store that refuses each put while it is set.
@@ -237,7 +237,7 @@ func TestFaultAndItsEnd(t *testing.T) {
 	got.submit(t, l, 0, 5)
 	full.is.Store(true)
 	_, err := l.Submit(limited(t), entryOf(10))
-	wants(t, err, logapi.ErrStore, errFull)
+	wants(t, err, loginterface.ErrStore, errFull)
 	if f := l.Figures(); !strings.Contains(f.Fault, errFull.Error()) || f.Faults != 1 || f.LastFault != f.Fault {
 		t.Errorf("%+v", f)
 	}

@@ -13,7 +13,7 @@ import (
 
 	"golang.org/x/sync/errgroup"
 
-	"wagtenib/internal/logapi"
+	"wagtenib/internal/loginterface"
 	"wagtenib/internal/node"
 	"wagtenib/internal/node/decider"
 	"wagtenib/internal/node/janitor"
@@ -114,7 +114,7 @@ type Keep struct {
 	Every, Reread time.Duration
 }
 
-// Log is one log, served by this node: a logapi.Log. Its methods may be called at once.
+// Log is one log, served by this node: a loginterface.Log. Its methods may be called at once.
 type Log struct {
 	config   Config
 	node     *node.Node
@@ -329,15 +329,15 @@ func NeedsOperator(err error) bool {
 func named(err error) error {
 	switch {
 	case errors.Is(err, node.ErrBusy):
-		return fault{logapi.ErrBusy, err}
+		return fault{loginterface.ErrBusy, err}
 	case errors.Is(err, node.ErrEnded):
-		return fault{logapi.ErrEnded, err}
+		return fault{loginterface.ErrEnded, err}
 	case errors.Is(err, node.ErrElsewhere):
-		return fault{logapi.ErrElsewhere, err}
+		return fault{loginterface.ErrElsewhere, err}
 	case errors.Is(err, node.ErrClock):
-		return fault{logapi.ErrClock, err}
+		return fault{loginterface.ErrClock, err}
 	}
-	return fault{logapi.ErrStore, err}
+	return fault{loginterface.ErrStore, err}
 }
 
 // fault is a failure of a kind that package log names.

@@ -8,16 +8,16 @@ import (
 
 	"golang.org/x/mod/sumdb/tlog"
 
-	"wagtenib/internal/logapi"
+	"wagtenib/internal/loginterface"
 	"wagtenib/internal/node"
 	"wagtenib/internal/signer"
 	"wagtenib/internal/stores"
 	"wagtenib/internal/tile"
 )
 
-// Object is logapi.Log's. A full tile is compared each time with the tile above it, which was compared up to the head's
-// root. One that is missing from the newest head's tree, or is not that tree's, is a fault of the store, and counts as
-// damaged. A partial tile is compared if something at the log's edge is damaged.
+// Object is loginterface.Log's. A full tile is compared each time with the tile above it, which was compared up to the
+// head's root. One that is missing from the newest head's tree, or is not that tree's, is a fault of the store, and
+// counts as damaged. A partial tile is compared if something at the log's edge is damaged.
 func (l *Log) Object(ctx context.Context, name string, most int64) ([]byte, error) {
 	if !strings.HasPrefix(name, tile.Prefix) && !strings.HasPrefix(name, issuersPrefix) {
 		return nil, fmt.Errorf("%w: %.80q is not published", stores.ErrName, name)
@@ -53,7 +53,7 @@ func (l *Log) stored(ctx context.Context, name string, most int64) ([]byte, erro
 		errors.As(err, &long) && long.Length <= stores.MaxObject:
 		return content, err
 	}
-	return nil, fault{logapi.ErrStore, err}
+	return nil, fault{loginterface.ErrStore, err}
 }
 
 // compared returns the content of a tile of a head's tree if it is that tree's. If it is not, or if the tile is
@@ -70,7 +70,7 @@ func (l *Log) compared(
 		l.janitor.Note(tile.FirstOf(of), err)
 	}
 	if err != nil {
-		return nil, fault{logapi.ErrStore, err}
+		return nil, fault{loginterface.ErrStore, err}
 	}
 	return content, nil
 }

@@ -6,7 +6,7 @@ import (
 	"sync"
 	"time"
 
-	"wagtenib/internal/logapi"
+	"wagtenib/internal/loginterface"
 	"wagtenib/internal/node"
 	"wagtenib/internal/stores"
 )
@@ -29,12 +29,12 @@ type readings struct {
 // reading is one of them. Its head and error may be read after done is closed.
 type reading struct {
 	done chan struct{}
-	head logapi.Head
+	head loginterface.Head
 	err  error
 }
 
 // join returns the reading that begins next. If none is being made, it begins at once.
-func (r *readings) join(read func(context.Context) (logapi.Head, error)) *reading {
+func (r *readings) join(read func(context.Context) (loginterface.Head, error)) *reading {
 	r.mu.Lock()
 	defer r.mu.Unlock()
 	if r.next == nil {
@@ -57,7 +57,7 @@ func (r *readings) take() *reading {
 }
 
 // goOn makes readings as long as somebody waits for one. After a slow one another coroutine goes on.
-func (r *readings) goOn(read func(context.Context) (logapi.Head, error)) {
+func (r *readings) goOn(read func(context.Context) (loginterface.Head, error)) {
 	for now := r.take(); now != nil; now = r.take() {
 		ctx, cancel := context.WithTimeout(context.Background(), maxReading)
 		slow := time.AfterFunc(slowReading, func() { r.beside(read) })
@@ -72,7 +72,7 @@ func (r *readings) goOn(read func(context.Context) (logapi.Head, error)) {
 }
 
 // beside makes readings beside a slow one, if somebody waits for one, or after somebody comes.
-func (r *readings) beside(read func(context.Context) (logapi.Head, error)) {
+func (r *readings) beside(read func(context.Context) (loginterface.Head, error)) {
 	r.mu.Lock()
 	defer r.mu.Unlock()
 	if r.isGoing = r.next != nil; r.isGoing {
@@ -80,31 +80,31 @@ func (r *readings) beside(read func(context.Context) (logapi.Head, error)) {
 	}
 }
 
-// Checkpoint returns the newest head, as logapi.Log says. It is never older than the head that was published at the time
-// of the call.
-func (l *Log) Checkpoint(ctx context.Context) (logapi.Head, error) {
+// Checkpoint returns the newest head, as loginterface.Log says. It is never older than the head that was published at
+// the time of the call.
+func (l *Log) Checkpoint(ctx context.Context) (loginterface.Head, error) {
 	shared := l.readings.join(l.newest)
 	select {
 	case <-shared.done:
 	case <-ctx.Done():
-		return logapi.Head{}, fmt.Errorf("serve: %w", ctx.Err())
+		return loginterface.Head{}, fmt.Errorf("serve: %w", ctx.Err())
 	}
 	if shared.err != nil {
-		return logapi.Head{}, fault{logapi.ErrStore, shared.err}
+		return loginterface.Head{}, fault{loginterface.ErrStore, shared.err}
 	}
 	return shared.head, nil
 }
 
-func (l *Log) newest(ctx context.Context) (logapi.Head, error) {
+func (l *Log) newest(ctx context.Context) (loginterface.Head, error) {
 	head, err := l.node.Newest(ctx)
 	if err != nil {
-		return logapi.Head{}, err
+		return loginterface.Head{}, err
 	}
 	return l.headOf(head)
 }
 
-// HeadOf is logapi.Log's. A request below a head that this node knows does not wait for the lock.
-func (l *Log) HeadOf(ctx context.Context, entries uint64) (logapi.Head, error) {
+// HeadOf is loginterface.Log's. A request below a head that this node knows does not wait for the lock.
+func (l *Log) HeadOf(ctx context.Context, entries uint64) (loginterface.Head, error) {
 	if now := l.node.Known(); now != nil && now.Size >= entries {
 		return l.headOf(*now)
 	}
@@ -112,20 +112,20 @@ func (l *Log) HeadOf(ctx context.Context, entries uint64) (logapi.Head, error) {
 }
 
 // headOf returns a head as package log has it.
-func (l *Log) headOf(head node.Head) (logapi.Head, error) {
+func (l *Log) headOf(head node.Head) (loginterface.Head, error) {
 	signature, err := l.node.Signature(head)
 	if err != nil {
-		return logapi.Head{}, fault{logapi.ErrStore, err}
+		return loginterface.Head{}, fault{loginterface.ErrStore, err}
 	}
-	return logapi.Head{Note: head.Note, TreeSize: head.Size, Timestamp: head.Timestamp, RootHash: head.Root,
+	return loginterface.Head{Note: head.Note, TreeSize: head.Size, Timestamp: head.Timestamp, RootHash: head.Root,
 		Signature: signature}, nil
 }
 
-// IndexOf is logapi.Log's.
+// IndexOf is loginterface.Log's.
 func (l *Log) IndexOf(ctx context.Context, leafHash [32]byte) (uint64, error) {
 	found, err := l.config.Stores.Index.FindLeaves(ctx, []stores.Identity{leafHash})
 	if err != nil {
-		return 0, fault{logapi.ErrStore, err}
+		return 0, fault{loginterface.ErrStore, err}
 	}
 	place, ok := found[leafHash]
 	if !ok {

@@ -11,7 +11,7 @@ import (
 
 	"golang.org/x/mod/sumdb/note"
 
-	"wagtenib/internal/logapi"
+	"wagtenib/internal/loginterface"
 	"wagtenib/internal/stores"
 	"wagtenib/internal/witness"
 )
@@ -32,7 +32,7 @@ type remote struct {
 func newRemote(of witness.One, counts *counts, sources *sources) *remote {
 	client := &http.Client{Transport: &http.Transport{MaxIdleConnsPerHost: 2, IdleConnTimeout: time.Minute,
 		TLSHandshakeTimeout: cosignWithin}}
-	counts.witness(of.Name, func(*logapi.Witness) {})
+	counts.witness(of.Name, func(*loginterface.Witness) {})
 	return &remote{Client: witness.Client{One: of, HTTP: client}, counts: counts, sources: sources,
 		turn: make(chan struct{}, 1)}
 }
@@ -92,7 +92,9 @@ func (r *remote) ask(ctx context.Context, body []byte) (came answered) {
 		if r.isElsewhere.Load() {
 			r.sources.hearWitness(r.Name, came.answer, before)
 		}
-		r.counts.witness(r.Name, func(w *logapi.Witness) { *w = logapi.Witness{Name: r.Name, Cosigned: w.Cosigned + 1} })
+		r.counts.witness(r.Name, func(w *loginterface.Witness) {
+			*w = loginterface.Witness{Name: r.Name, Cosigned: w.Cosigned + 1}
+		})
 	}
 	return came
 }
@@ -109,11 +111,11 @@ func (r *remote) isCosigned(body []byte, answer string) bool {
 
 // missed keeps why the witness did not cosign. One that does not answer has seen no less than before.
 func (r *remote) missed(err error) {
-	r.counts.witness(r.Name, func(w *logapi.Witness) { w.Missed, w.Fault = w.Missed+1, err.Error() })
+	r.counts.witness(r.Name, func(w *loginterface.Witness) { w.Missed, w.Fault = w.Missed+1, err.Error() })
 }
 
 // standing returns the witness's state for the log.
-func (r *remote) standing() logapi.Witness {
+func (r *remote) standing() loginterface.Witness {
 	r.counts.mu.Lock()
 	defer r.counts.mu.Unlock()
 	return r.counts.witnesses[r.Name]

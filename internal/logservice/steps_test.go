@@ -12,14 +12,14 @@ import (
 	"testing"
 	"time"
 
-	"wagtenib/internal/logapi"
+	"wagtenib/internal/loginterface"
 	"wagtenib/internal/logservice"
 	"wagtenib/internal/node"
 	"wagtenib/internal/stores"
 )
 
 // identityOf is SHA-256 over the type of a certificate's entry and the certificate.
-func identityOf(entry logapi.Entry) stores.Identity {
+func identityOf(entry loginterface.Entry) stores.Identity {
 	return sha256.Sum256(append([]byte{0, 0}, entry.Certificate...))
 }
 

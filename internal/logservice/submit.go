@@ -7,56 +7,56 @@ import (
 	"fmt"
 
 	"wagtenib/internal/chains"
-	"wagtenib/internal/logapi"
+	"wagtenib/internal/loginterface"
 	"wagtenib/internal/node"
 	"wagtenib/internal/node/step"
 	"wagtenib/internal/tile"
 )
 
-// Submit is logapi.Log's. A submission that the log has already is answered with the first timestamp of its entry, without
-// waiting for a step. Others wait for one, unless another node makes the steps: then the error is logapi.ErrElsewhere if
-// the submission may be forwarded (logapi.IsForwarded).
-func (l *Log) Submit(ctx context.Context, entry logapi.Entry) (logapi.Place, error) {
+// Submit is loginterface.Log's. A submission that the log has already is answered with the first timestamp of its
+// entry, without waiting for a step. Others wait for one, unless another node makes the steps: then the error is
+// loginterface.ErrElsewhere if the submission may be forwarded (loginterface.IsForwarded).
+func (l *Log) Submit(ctx context.Context, entry loginterface.Entry) (loginterface.Place, error) {
 	submission, err := submissionOf(entry)
 	if err != nil {
-		return logapi.Place{}, err
+		return loginterface.Place{}, err
 	}
 	if l.node.IsEnding() {
-		return logapi.Place{}, fault{logapi.ErrEnded, node.ErrEnded}
+		return loginterface.Place{}, fault{loginterface.ErrEnded, node.ErrEnded}
 	}
 	if err := l.node.Lasting(); err != nil {
-		return logapi.Place{}, named(err)
+		return loginterface.Place{}, named(err)
 	}
 	if err := l.issuers.put(ctx, entry.Issuers); err != nil {
-		return logapi.Place{}, l.why(ctx, err)
+		return loginterface.Place{}, l.why(ctx, err)
 	}
 	r := l.node.Request(submission)
-	if l.config.Address != "" && !logapi.IsForwarded(ctx) {
+	if l.config.Address != "" && !loginterface.IsForwarded(ctx) {
 		r.Movable()
 	}
 	for range maxKnown {
 		place, err := l.lookup(ctx, r)
 		if err != nil {
-			return logapi.Place{}, l.why(ctx, err)
+			return loginterface.Place{}, l.why(ctx, err)
 		}
 		if place != nil {
 			return l.placeOf(*place), nil
 		}
 		ticket, err := r.Enqueue()
 		if err != nil {
-			return logapi.Place{}, named(err)
+			return loginterface.Place{}, named(err)
 		}
 		answer, err := r.Wait(ctx, ticket)
 		switch {
 		case err != nil:
-			return logapi.Place{}, err
+			return loginterface.Place{}, err
 		case answer.Err != nil:
-			return logapi.Place{}, named(answer.Err)
+			return loginterface.Place{}, named(answer.Err)
 		case !answer.Known:
 			return l.placeOf(answer.Place), nil
 		}
 	}
-	return logapi.Place{}, fault{logapi.ErrStore,
+	return loginterface.Place{}, fault{loginterface.ErrStore,
 		errors.New("serve: the index says again and again that the log has the entry, which is not there")}
 }
 
@@ -88,13 +88,13 @@ func (l *Log) why(ctx context.Context, err error) error {
 }
 
 // placeOf returns a place as package log has it.
-func (l *Log) placeOf(of node.Place) logapi.Place {
-	return logapi.Place{LeafIndex: of.Index, Timestamp: of.Timestamp, Extensions: tile.Extensions(of.Index),
+func (l *Log) placeOf(of node.Place) loginterface.Place {
+	return loginterface.Place{LeafIndex: of.Index, Timestamp: of.Timestamp, Extensions: tile.Extensions(of.Index),
 		Signature: of.Signature, LogID: l.running.logID}
 }
 
-// submissionOf returns an entry as the step takes it. The error is logapi.ErrTooLarge if it has too many bytes.
-func submissionOf(entry logapi.Entry) (step.Submission, error) {
+// submissionOf returns an entry as the step takes it. The error is loginterface.ErrTooLarge if it has too many bytes.
+func submissionOf(entry loginterface.Entry) (step.Submission, error) {
 	var s step.Submission
 	switch entry.Type {
 	case chains.X509Entry:
@@ -106,7 +106,7 @@ func submissionOf(entry logapi.Entry) (step.Submission, error) {
 		return s, fmt.Errorf("%w: an entry of type %d", node.ErrConfig, entry.Type)
 	}
 	if bytes := len(s.LeafCertificate) + len(s.PreCertificate) + len(s.TBSCertificate); bytes > MaxEntry {
-		return s, fmt.Errorf("%w: it has %d bytes, and may have %d", logapi.ErrTooLarge, bytes, MaxEntry)
+		return s, fmt.Errorf("%w: it has %d bytes, and may have %d", loginterface.ErrTooLarge, bytes, MaxEntry)
 	}
 	isWhole := len(s.LeafCertificate) > 0 || len(s.PreCertificate) > 0 && len(s.TBSCertificate) > 0
 	if !isWhole || len(entry.Issuers) > chains.MaxCertificates {

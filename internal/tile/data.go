@@ -68,7 +68,7 @@ func Extensions(index uint64) []byte {
 }
 
 // ReadData returns the leaves of a data tile, at most Width. The error is ErrTile. A judge of a log from outside
-// (internal/logcheck, cmd/ctread) has a reader of its own.
+// (internal/logcheck, cmd/ctfollow) has a reader of its own.
 func ReadData(tile []byte) (leaves []Leaf, err error) {
 	for rest := cryptobyte.String(tile); !rest.Empty(); {
 		leaf, ok := readLeaf(&rest)

@@ -10,7 +10,7 @@ func TestLine(t *testing.T) {
 	}
 	number, commit = "1.2.3", "0123456789ab"
 	defer func() { number, commit = "", "" }()
-	if said := Line("ctread"); said != "ctread 1.2.3 (commit 0123456789ab)\n" {
+	if said := Line("ctfollow"); said != "ctfollow 1.2.3 (commit 0123456789ab)\n" {
 		t.Errorf("%q", said)
 	}
 }

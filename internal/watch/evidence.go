@@ -12,7 +12,7 @@ import (
 	"wagtenib/internal/signature"
 )
 
-// The verdicts of evidence. `ctcheck evidence FOLDER` checks the files of each (wagtenib/internal/logcheck).
+// The verdicts of evidence. `ctfsck evidence FOLDER` checks the files of each (wagtenib/internal/logcheck).
 const (
 	VerdictFork         = "fork"               // two roots of one size
 	VerdictShrunk       = "shrunk"             // fewer leaves, and no earlier timestamp

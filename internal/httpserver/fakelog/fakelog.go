@@ -18,7 +18,7 @@ import (
 	"golang.org/x/crypto/cryptobyte"
 
 	"wagtenib/internal/chains"
-	"wagtenib/internal/logapi"
+	"wagtenib/internal/loginterface"
 	"wagtenib/internal/stores"
 )
 
@@ -56,12 +56,12 @@ type tree struct {
 	objects map[string][]byte
 	leaves  [][]byte
 	hashes  [][32]byte
-	head    logapi.Head
+	head    loginterface.Head
 }
 
 type waiting struct {
-	entry logapi.Entry
-	place chan logapi.Place
+	entry loginterface.Entry
+	place chan loginterface.Place
 }
 
 // New makes a log without entries, which publishes every so often; with 0 only where Publish is called.
@@ -96,39 +96,39 @@ func (l *Log) run() {
 	}
 }
 
-// Submit is logapi.Log's.
-func (l *Log) Submit(ctx context.Context, entry logapi.Entry) (logapi.Place, error) {
-	w := waiting{entry, make(chan logapi.Place, 1)}
+// Submit is loginterface.Log's.
+func (l *Log) Submit(ctx context.Context, entry loginterface.Entry) (loginterface.Place, error) {
+	w := waiting{entry, make(chan loginterface.Place, 1)}
 	l.mutex.Lock()
 	var err error
 	switch {
 	case l.Fault != nil:
 		err = l.Fault
 	case l.ended:
-		err = logapi.ErrEnded
+		err = loginterface.ErrEnded
 	case len(l.waiting) >= l.MaxQueue:
-		err = logapi.ErrBusy
+		err = loginterface.ErrBusy
 	default:
 		l.waiting = append(l.waiting, w)
 	}
 	l.mutex.Unlock()
 	if err != nil {
-		return logapi.Place{}, err
+		return loginterface.Place{}, err
 	}
 	select {
 	case place := <-w.place:
 		return place, nil
 	case <-ctx.Done():
-		return logapi.Place{}, ctx.Err()
+		return loginterface.Place{}, ctx.Err()
 	}
 }
 
 // Add publishes entries, whose places nobody waits for.
-func (l *Log) Add(entries []logapi.Entry) {
+func (l *Log) Add(entries []loginterface.Entry) {
 	l.mutex.Lock()
 	defer l.mutex.Unlock()
 	for _, entry := range entries {
-		l.waiting = append(l.waiting, waiting{entry, make(chan logapi.Place, 1)})
+		l.waiting = append(l.waiting, waiting{entry, make(chan loginterface.Place, 1)})
 	}
 	l.publish()
 }
@@ -146,13 +146,13 @@ func (l *Log) publish() {
 	now := uint64(time.Now().UnixMilli())
 	batch := l.waiting
 	l.waiting = nil
-	var places []logapi.Place
+	var places []loginterface.Place
 	for _, w := range batch {
 		places = append(places, l.take(w.entry, now))
 	}
 	l.tiles()
 	root := MerkleTreeHash(l.tree.hashes)
-	l.tree.head = logapi.Head{TreeSize: uint64(len(l.tree.leaves)), Timestamp: now, RootHash: root}
+	l.tree.head = loginterface.Head{TreeSize: uint64(len(l.tree.leaves)), Timestamp: now, RootHash: root}
 	l.tree.head.Note = []byte(fmt.Sprintf("log.example/stand-in\n%d\n%s\n\n— log.example/stand-in AAAAAA==\n",
 		len(l.tree.leaves), base64.StdEncoding.EncodeToString(root[:])))
 	l.tree.head.Signature = l.sign(HeadSigned(l.tree.head))
@@ -162,7 +162,7 @@ func (l *Log) publish() {
 }
 
 // take settles an entry.
-func (l *Log) take(entry logapi.Entry, now uint64) logapi.Place {
+func (l *Log) take(entry loginterface.Entry, now uint64) loginterface.Place {
 	index := uint64(len(l.tree.leaves))
 	extensions := []byte{0, 0, 5, byte(index >> 32), byte(index >> 24), byte(index >> 16),
 		byte(index >> 8), byte(index)}
@@ -180,11 +180,11 @@ func (l *Log) take(entry logapi.Entry, now uint64) logapi.Place {
 	})
 	l.tree.leaves = append(l.tree.leaves, leaf.BytesOrPanic())
 	l.tree.hashes = append(l.tree.hashes, LeafHash(append([]byte{0, 0}, timestamped...)))
-	return logapi.Place{LeafIndex: index, Timestamp: now, Extensions: extensions, LogID: l.id,
+	return loginterface.Place{LeafIndex: index, Timestamp: now, Extensions: extensions, LogID: l.id,
 		Signature: l.sign(append([]byte{0, 0}, timestamped...))}
 }
 
-func timestampedEntry(entry logapi.Entry, now uint64, extensions []byte) []byte {
+func timestampedEntry(entry loginterface.Entry, now uint64, extensions []byte) []byte {
 	var b cryptobyte.Builder
 	b.AddUint64(now)
 	b.AddUint16(uint16(entry.Type))
@@ -240,20 +240,22 @@ func (l *Log) sign(signed []byte) []byte {
 	return append([]byte{4, 3, 0, byte(len(signature))}, signature...)
 }
 
-// Checkpoint is logapi.Log's.
-func (l *Log) Checkpoint(ctx context.Context) (logapi.Head, error) {
+// Checkpoint is loginterface.Log's.
+func (l *Log) Checkpoint(ctx context.Context) (loginterface.Head, error) {
 	if err := l.slowly(ctx); err != nil {
-		return logapi.Head{}, err
+		return loginterface.Head{}, err
 	}
 	l.mutex.Lock()
 	defer l.mutex.Unlock()
 	return l.tree.head, l.Fault
 }
 
-// HeadOf is logapi.Log's.
-func (l *Log) HeadOf(ctx context.Context, _ uint64) (logapi.Head, error) { return l.Checkpoint(ctx) }
+// HeadOf is loginterface.Log's.
+func (l *Log) HeadOf(ctx context.Context, _ uint64) (loginterface.Head, error) {
+	return l.Checkpoint(ctx)
+}
 
-// Object is logapi.Log's.
+// Object is loginterface.Log's.
 func (l *Log) Object(ctx context.Context, name string, most int64) ([]byte, error) {
 	if err := l.slowly(ctx); err != nil {
 		return nil, err
@@ -319,7 +321,7 @@ func (l *Log) Bend(damage string) {
 	l.Damage = damage
 }
 
-// IndexOf is logapi.Log's.
+// IndexOf is loginterface.Log's.
 func (l *Log) IndexOf(ctx context.Context, leafHash [32]byte) (uint64, error) {
 	if err := l.slowly(ctx); err != nil {
 		return 0, err
@@ -334,7 +336,7 @@ func (l *Log) IndexOf(ctx context.Context, leafHash [32]byte) (uint64, error) {
 	return 0, stores.ErrAbsent
 }
 
-// End is logapi.Log's.
+// End is loginterface.Log's.
 func (l *Log) End(ctx context.Context) error {
 	l.mutex.Lock()
 	defer l.mutex.Unlock()
@@ -346,22 +348,22 @@ func (l *Log) End(ctx context.Context) error {
 	return ctx.Err()
 }
 
-// Figures is logapi.Log's.
-func (l *Log) Figures() logapi.Figures {
+// Figures is loginterface.Log's.
+func (l *Log) Figures() loginterface.Figures {
 	l.mutex.Lock()
 	defer l.mutex.Unlock()
-	figures := logapi.Figures{
+	figures := loginterface.Figures{
 		Queue: len(l.waiting), MaxQueue: l.MaxQueue, Entries: l.tree.head.TreeSize,
 		HeadAge: time.Since(time.UnixMilli(int64(l.tree.head.Timestamp))),
-		Rounds: logapi.Rounds{LostSwaps: 3, Unpublished: 18, SinceRound: 2500 * time.Millisecond, Written: 16,
-			Phases:  []logapi.Phase{{Name: "stage", Count: 17, Took: 1500 * time.Millisecond}},
-			Batches: logapi.Batches{Steps: 20, Submissions: 21, AtMost: map[int]uint64{1: 18, 8: 20}}},
-		Answers: logapi.Answers{SignerStarts: 7, WrongSignatures: 22},
-		Janitor: logapi.Janitor{Swept: 4, SweptHeads: 8, Scrubbed: 5, SweptBundles: 11, Staged: 12, TendFailures: 13,
+		Rounds: loginterface.Rounds{LostSwaps: 3, Unpublished: 18, SinceRound: 2500 * time.Millisecond, Written: 16,
+			Phases:  []loginterface.Phase{{Name: "stage", Count: 17, Took: 1500 * time.Millisecond}},
+			Batches: loginterface.Batches{Steps: 20, Submissions: 21, AtMost: map[int]uint64{1: 18, 8: 20}}},
+		Answers: loginterface.Answers{SignerStarts: 7, WrongSignatures: 22},
+		Janitor: loginterface.Janitor{Swept: 4, SweptHeads: 8, Scrubbed: 5, SweptBundles: 11, Staged: 12, TendFailures: 13,
 			TendFailure: "nothing is deleted", SweptTo: 512, ReadNext: 19},
-		Damages:  logapi.Damages{Damaged: 6, Damage: l.Damage, DamagedIssuers: 9, Mended: 10, LastMended: "issuer/07"},
-		Faulting: logapi.Faulting{Faults: l.faults, LastFault: l.lastFault},
-		Witnesses: []logapi.Witness{{Name: "w.example", Missed: 14, Cosigned: 15, SeenMore: true,
+		Damages:  loginterface.Damages{Damaged: 6, Damage: l.Damage, DamagedIssuers: 9, Mended: 10, LastMended: "issuer/07"},
+		Faulting: loginterface.Faulting{Faults: l.faults, LastFault: l.lastFault},
+		Witnesses: []loginterface.Witness{{Name: "w.example", Missed: 14, Cosigned: 15, SeenMore: true,
 			Fault: "it has seen 7 entries"}},
 	}
 	if l.Fault != nil {
@@ -390,7 +392,7 @@ func MerkleTreeHash(hashes [][32]byte) [32]byte {
 }
 
 // HeadSigned are the bytes under a head's signature (RFC 6962, section 3.5).
-func HeadSigned(head logapi.Head) []byte {
+func HeadSigned(head loginterface.Head) []byte {
 	var b cryptobyte.Builder
 	b.AddUint16(1)
 	b.AddUint64(head.Timestamp)
@@ -400,6 +402,6 @@ func HeadSigned(head logapi.Head) []byte {
 }
 
 // TimestampSigned are the bytes under a timestamp's signature (RFC 6962, section 3.2).
-func TimestampSigned(entry logapi.Entry, timestamp uint64, extensions []byte) []byte {
+func TimestampSigned(entry loginterface.Entry, timestamp uint64, extensions []byte) []byte {
 	return append([]byte{0, 0}, timestampedEntry(entry, timestamp, extensions)...)
 }

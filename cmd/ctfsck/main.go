@@ -1,8 +1,8 @@
-// Command ctcheck judges a log from what it published in a folder or a bucket: ctcheck FOLDER|s3://.. KEY.PEM
+// Command ctfsck judges a log from what it published in a folder or a bucket: ctfsck FOLDER|s3://.. KEY.PEM
 // [ANSWERS..]. KEY.PEM has the log's public key. A file of answers is one that ctload --answers wrote: each line is a
 // JSON object, as logcheck.Answer has it. It says what it saw, or what is wrong, with status 1.
 //
-// ctcheck evidence FOLDER KEY.PEM judges the evidence against a log that a monitor kept in a folder. It prints what the
+// ctfsck evidence FOLDER KEY.PEM judges the evidence against a log that a monitor kept in a folder. It prints what the
 // files show, and what must be believed beside them. The status is 1 if they do not show what evidence.json says.
 package main
 
@@ -21,8 +21,8 @@ import (
 )
 
 const (
-	usage = "ctcheck FOLDER|s3://.. KEY.PEM [ANSWERS..]\nctcheck evidence FOLDER KEY.PEM\n"
-	page  = `ctcheck FOLDER|s3://.. KEY.PEM [ANSWERS..]
+	usage = "ctfsck FOLDER|s3://.. KEY.PEM [ANSWERS..]\nctfsck evidence FOLDER KEY.PEM\n"
+	page  = `ctfsck FOLDER|s3://.. KEY.PEM [ANSWERS..]
 
 Judges a log from what it published. It prints what it saw, or what is wrong, with status 1.
 
@@ -30,7 +30,7 @@ Judges a log from what it published. It prints what it saw, or what is wrong, wi
   KEY.PEM         the file with the log's public key in PEM
   ANSWERS         a file that ctload --answers wrote. Each timestamp in it must be the log's, and have its entry
 
-ctcheck evidence FOLDER KEY.PEM
+ctfsck evidence FOLDER KEY.PEM
 
 Judges evidence against a log. It prints what the files show, and what must be believed beside them. The status is 1 if
 they do not show what evidence.json says.
@@ -38,7 +38,7 @@ they do not show what evidence.json says.
   FOLDER          the folder with the files that ctwatch evidence or ctwatch --evidence wrote
   KEY.PEM         the file with the log's public key in PEM, from a log list and not from FOLDER
 
-ctcheck --version prints the version. ctwatch audit --sct judges a single answer of add-chain.
+ctfsck --version prints the version. ctwatch audit --sct judges a single answer of add-chain.
 `
 )
 
@@ -55,7 +55,7 @@ func asksForHelp(words []string) bool {
 
 func main() {
 	if version.Asked(os.Args[1:]) {
-		fmt.Print(version.Line("ctcheck"))
+		fmt.Print(version.Line("ctfsck"))
 		return
 	}
 	if asksForHelp(os.Args[1:]) {
@@ -63,7 +63,7 @@ func main() {
 		return
 	}
 	if len(os.Args) < 3 {
-		fmt.Fprint(os.Stderr, usage+"ctcheck --help says what each argument is.\n")
+		fmt.Fprint(os.Stderr, usage+"ctfsck --help says what each argument is.\n")
 		os.Exit(2)
 	}
 	if len(os.Args) == 4 && os.Args[1] == "evidence" {
@@ -92,7 +92,7 @@ func readKey(keyFile string) ([]byte, error) {
 	}
 	block, _ := pem.Decode(content)
 	if block == nil || block.Type != "PUBLIC KEY" {
-		return nil, fmt.Errorf("ctcheck: %s is no public key in PEM", keyFile)
+		return nil, fmt.Errorf("ctfsck: %s is no public key in PEM", keyFile)
 	}
 	return block.Bytes, nil
 }
@@ -117,7 +117,7 @@ func judge(folder, keyFile string, answerFiles []string) (logcheck.Report, error
 		}
 	}
 	if strings.HasPrefix(folder, "s3://") {
-		copied, err := os.MkdirTemp("", "ctcheck")
+		copied, err := os.MkdirTemp("", "ctfsck")
 		if err != nil {
 			return logcheck.Report{}, err
 		}
@@ -167,16 +167,16 @@ func readAnswers(name string, answers []logcheck.Answer) ([]logcheck.Answer, err
 			err = json.Unmarshal(lines.Bytes(), &fields)
 		}
 		if err != nil {
-			return nil, fmt.Errorf("ctcheck: %s: not an answers file of ctload: line %d: %w", name, number, err)
+			return nil, fmt.Errorf("ctfsck: %s: not an answers file of ctload: line %d: %w", name, number, err)
 		}
 		if field := missing(fields); field != "" {
-			return nil, fmt.Errorf("ctcheck: %s: not an answers file of ctload: line %d has no field %s "+
+			return nil, fmt.Errorf("ctfsck: %s: not an answers file of ctload: line %d has no field %s "+
 				"(ctwatch audit --sct judges an answer of add-chain)", name, number, field)
 		}
 		answers = append(answers, a)
 	}
 	if err := lines.Err(); err != nil {
-		return nil, fmt.Errorf("ctcheck: %s: line %d: %w (a line has at most %d bytes)", name, number, err, maxLine)
+		return nil, fmt.Errorf("ctfsck: %s: line %d: %w (a line has at most %d bytes)", name, number, err, maxLine)
 	}
 	return answers, nil
 }

@@ -60,7 +60,7 @@ func TestEvidence(t *testing.T) {
 }
 
 // TestEvidenceOfAFork: a log that ctwatch follows signs another root. The evidence in the store of ctwatch convinces
-// ctcheck, with the log's key and without the log, in one command.
+// ctfsck, with the log's key and without the log, in one command.
 func TestEvidenceOfAFork(t *testing.T) {
 	for _, kind := range []string{"tiled", "RFC 6962"} {
 		log, err := testlog.New("log.example/2027")

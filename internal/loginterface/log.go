@@ -1,6 +1,6 @@
-// Package logapi says what a front sees of a log: submissions that are answered with their places, the newest published
-// head, and the published objects. The log of wagtenib/internal/logservice is one.
-package logapi
+// Package loginterface says what a front sees of a log: submissions that are answered with their places, the newest
+// published head, and the published objects. The log of wagtenib/internal/logservice is one.
+package loginterface
 
 import (
 	"context"

@@ -9,9 +9,9 @@ is archived, and the archive is served (docs/ARCHIVE.md).
 It needs root and mmdebstrap (Debian's package of that name). The release is made here, from the builds (crates/NAME/out, cmd/out). If ctlog is not
 built, a program that only says so is in its place, and no line runs it. The release that the page upgrades to is this one with another VERSION.
 
-Debian's packages come from its mirror. Everything else happens in a network of its own, which has only loopback. No systemd runs there: tests/bare/systemctl does
-what the units' files say, and systemd-analyze looks at these. Beside the page's lines, certspotter, tlog (x/mod, in ctread) and curl read the log through
-nginx over TLS. Prometheus has its metrics and alerts. An older copy of the log is restored, and refused. ctcheck judges the log from its folder, with all
+Debian's packages come from its mirror. Everything else happens in a network of its own, which has only loopback. No systemd runs there: tests/installation/systemctl does
+what the units' files say, and systemd-analyze looks at these. Beside the page's lines, certspotter, tlog (x/mod, in ctfollow) and curl read the log through
+nginx over TLS. Prometheus has its metrics and alerts. An older copy of the log is restored, and refused. ctfsck judges the log from its folder, with all
 answers. The script prints what it saw, and ends with status 1 if something differs from the page.
 """
 import argparse
@@ -116,7 +116,7 @@ class Bare:
         words = ["mmdebstrap", "--variant=apt", "--quiet", "--dpkgopt=force-unsafe-io", "--include=systemd", "bookworm", self.folder]
         if subprocess.run(words, stdout=subprocess.DEVNULL, preexec_fn=self.network.leave).returncode:
             fail("mmdebstrap makes no Debian")
-        for name, text in (("usr/sbin/policy-rc.d", "#!/bin/sh\nexit 101\n"), ("usr/local/sbin/systemctl", (ROOT / "tests/bare/systemctl").read_text())):
+        for name, text in (("usr/sbin/policy-rc.d", "#!/bin/sh\nexit 101\n"), ("usr/local/sbin/systemctl", (ROOT / "tests/installation/systemctl").read_text())):
             (self.folder / name).write_text(text)
             (self.folder / name).chmod(0o755)
         for path in debs:
@@ -232,7 +232,7 @@ class Trial:
         self.behind = {
             "nginx -t": lambda said: bare.run(f"echo 127.0.0.1 {HOST} >> /etc/hosts", quiet=True), "promtool": self.figures, "ctload": self.submitted, "rm /etc/ctserve/roots": self.root_went,
             "curl -s --cacert": self.checkpoint, "systemctl start": self.goes_on, "cp -an /root/backup": self.issuer_is_back, "systemctl restart ctserve": self.upgraded,
-            "ctread": self.mirrored, "ctcheck": self.judged, "systemctl enable --now ctwitness": self.witnessed, "ctwatch cosign": self.cosigned,
+            "ctfollow": self.mirrored, "ctfsck": self.judged, "systemctl enable --now ctwitness": self.witnessed, "ctwatch cosign": self.cosigned,
             "ctserve roots": self.roots_came, "ctserve audit": self.passed, "runuser -u ctserve -- ctserve archive": self.archived, "curl -s --fail http://127.0.0.1:8628": self.archive_served,
         }
 
@@ -320,7 +320,7 @@ class Trial:
 
     def judged(self, said):
         if f" {self.size} leaves " not in said or not said.endswith(": all as they have to be\n"):
-            fail(f"ctcheck says of the backup {said}")
+            fail(f"ctfsck says of the backup {said}")
 
     def make_table(self):
         """A table as CCADB has them, of Debian's roots: the first is for mail only, and the second was removed."""
@@ -383,10 +383,10 @@ class Trial:
             fail(f"certspotter reports {len(names)} names of {self.size}")
 
     def readers(self):
-        """tlog of x/mod, in ctread, and curl read the log through nginx over TLS."""
-        said = self.bare.run(f"ctread --nodes {SITE} --origin {HOST} --key 2027h1.pem --once")
+        """tlog of x/mod, in ctfollow, and curl read the log through nginx over TLS."""
+        said = self.bare.run(f"ctfollow --nodes {SITE} --origin {HOST} --key 2027h1.pem --once")
         if f"{self.size} entries, root" not in said or "all was right" not in said:
-            fail(f"ctread says {said}")
+            fail(f"ctfollow says {said}")
         entries = json.loads(self.bare.run(f"curl -s --fail '{SITE}/ct/v1/get-entries?start=0&end=0'"))["entries"]
         version = self.bare.run(f"curl -s --fail -o tile -w '%{{http_version}} %{{http_code}}' {SITE}/tile/data/000{'' if self.size >= 256 else f'.p/{self.size}'}")
         if len(entries) != 1 or version != "2 200":
@@ -413,7 +413,7 @@ class Trial:
             if unit in said:
                 fail(f"systemd-analyze says {said}")
         self.bare.run(f"systemctl stop ctserve@{NAME}")
-        print(self.bare.run(f"ctcheck /var/lib/ctserve/{NAME}/objects 2027h1.pem answers"), end="")
+        print(self.bare.run(f"ctfsck /var/lib/ctserve/{NAME}/objects 2027h1.pem answers"), end="")
         listed = json.loads(self.bare.run(f"ctserve list-entry --config /etc/ctserve/{NAME}.conf --operator An-operator --email mail@log.example"))
         if listed["operators"][0]["tiled_logs"][0]["submission_url"] != f"{SITE}/":
             fail(f"the list's entry is {listed}")

@@ -218,9 +218,9 @@ func TestStatus(t *testing.T) {
 			"1 heads, 1 leaves (0 repeats), 2 tiles, 0 issuers, 1 timestamps: all as they have to be\n", ""},
 		{[]string{l.folder, l.key, file(t, wrong)}, 1, "", "a timestamp of another log"},
 		{[]string{t.TempDir(), l.key}, 1, "", "there is no head"},
-		{[]string{l.folder}, 2, "", "ctcheck FOLDER"},
-		{nil, 2, "", "ctcheck FOLDER"},
-		{[]string{"--version"}, 0, "ctcheck ", ""},
+		{[]string{l.folder}, 2, "", "ctfsck FOLDER"},
+		{nil, 2, "", "ctfsck FOLDER"},
+		{[]string{"--version"}, 0, "ctfsck ", ""},
 	} {
 		if status, out, problem := testutil.Runs(t, of.words...); status != of.status || !strings.HasPrefix(out, of.out) ||
 			(of.out == "") != (out == "") ||

@@ -54,7 +54,7 @@ func TestProgram(t *testing.T) {
 		{append(words, "word"), `unexpected argument "word"`},
 	} {
 		if status, out, problem := testutil.Runs(t, of.words...); status != 1 || out != "" ||
-			!strings.HasPrefix(problem, "ctread: ") || !strings.Contains(problem, of.says) {
+			!strings.HasPrefix(problem, "ctfollow: ") || !strings.Contains(problem, of.says) {
 			t.Errorf("%q: status %d, %q and %q", of.says, status, out, problem)
 		}
 	}
@@ -64,7 +64,7 @@ func TestProgram(t *testing.T) {
 		problem != "" {
 		t.Errorf("nobody answers: status %d, %q and %q", status, out, problem)
 	}
-	if status, out, _ := testutil.Runs(t, "--version"); status != 0 || !strings.HasPrefix(out, "ctread ") {
+	if status, out, _ := testutil.Runs(t, "--version"); status != 0 || !strings.HasPrefix(out, "ctfollow ") {
 		t.Errorf("--version: status %d, %q", status, out)
 	}
 }
