@@ -102,25 +102,49 @@ func (w *watch) begins(ctx context.Context, name string) func() {
 	}
 }
 
-// taken returns the calls since the last time, and how many there are in the longest chain of which each began after
-// the end of the one before.
-func (w *watch) taken() (names []string, chain int) {
+// steps returns the calls of each recorded step, which begins as its batch is put and ends as the published size is
+// raised, and all calls that were made between steps.
+func (w *watch) steps() (steps [][]watched, between []watched) {
 	w.mu.Lock()
 	defer w.mu.Unlock()
-	to := make([]int, len(w.calls))
-	for i, call := range w.calls {
+	var isIn bool
+	for _, call := range w.calls {
+		if call.name == "put staging" {
+			steps, isIn = append(steps, nil), true
+		}
+		if !isIn {
+			between = append(between, call)
+			continue
+		}
+		steps[len(steps)-1] = append(steps[len(steps)-1], call)
+		isIn = call.name != "raise lock"
+	}
+	return steps, between
+}
+
+// namesOf returns the calls' names in the order of the alphabet.
+func namesOf(calls []watched) []string {
+	var names []string
+	for _, call := range calls {
 		names = append(names, call.name)
+	}
+	sort.Strings(names)
+	return names
+}
+
+// chainOf returns how many calls there are in the longest chain of which each began after the end of the one before.
+func chainOf(calls []watched) (chain int) {
+	to := make([]int, len(calls))
+	for i, call := range calls {
 		to[i] = 1
 		for before := range i {
-			if w.calls[before].end < call.began {
+			if calls[before].end < call.began {
 				to[i] = max(to[i], to[before]+1)
 			}
 		}
 		chain = max(chain, to[i])
 	}
-	w.calls = nil
-	sort.Strings(names)
-	return names, chain
+	return chain
 }
 
 // turn starts to record, or stops.
@@ -222,9 +246,9 @@ func (i watchedIndex) Replace(ctx context.Context, rows []stores.Row) error {
 	return i.Index.Replace(ctx, rows)
 }
 
-// TestCallsOfAStep: if the node made the step before, and no fault is open, a step of one entry makes eight calls to
+// TestCallsOfAStep: if the node made the step before, and no fault is open, a step of one entry makes seven calls to
 // stores, and five of them wait for one another. If the heads were not listed for a while, they are listed beside the
-// swap. Before the step, the submission is looked up.
+// swap, as the eighth. Between two steps, a submission is looked up, and a staged batch is deleted.
 func TestCallsOfAStep(t *testing.T) {
 	t.Parallel()
 	p, got, w := newPlace(t), &answers{}, &watch{beside: map[string]*group{}}
@@ -237,31 +261,41 @@ func TestCallsOfAStep(t *testing.T) {
 	// The issuers of these entries are put once, and the node makes the newest state.
 	got.submit(t, l, 0, 5)
 	got.submit(t, l, 5, 6)
-	w.expects("put staging", "delete staging")
 	w.expects("put tile", "put tile/data", "add to index")
 	w.turn(true)
-	makes := func(entry int, calls string) {
-		t.Helper()
+	const short = 10
+	for entry := 6; entry < 6+short; entry++ {
 		got.submit(t, l, entry, entry+1)
-		names, chain := w.taken()
-		if made := strings.Join(names, ", "); made != calls {
-			t.Errorf("a step made other calls than expected:\n%s\n%s", made, calls)
-		}
-		// The first one of the chain is the look-up.
-		if chain != 1+5 {
-			t.Errorf("%d calls of a step wait for one another, and not 5", chain-1)
-		}
-	}
-	for i := range 10 {
-		makes(6+i, "add to index, delete staging, find in index, put heads, put staging, put tile, put tile/data, "+
-			"raise lock, swap lock")
 	}
 	clock.elapsed.Add(int64(time.Second))
 	w.expects("swap lock", "list heads")
-	makes(16, "add to index, delete staging, find in index, list heads, put heads, put staging, put tile, "+
-		"put tile/data, raise lock, swap lock")
+	got.submit(t, l, 6+short, 7+short)
 	w.turn(false)
-	if leaves := p.right(got); leaves != 17 {
+	steps, between := w.steps()
+	if len(steps) != short+1 {
+		t.Fatalf("%d steps were made", len(steps))
+	}
+	for i, calls := range steps {
+		expected := "add to index, put heads, put staging, put tile, put tile/data, raise lock, swap lock"
+		if i == short {
+			expected = "add to index, list heads, put heads, put staging, put tile, put tile/data, raise lock, swap lock"
+		}
+		if made := strings.Join(namesOf(calls), ", "); made != expected {
+			t.Errorf("a step made other calls than expected:\n%s\n%s", made, expected)
+		}
+		if chain := chainOf(calls); chain != 5 {
+			t.Errorf("%d calls of a step wait for one another, and not 5", chain)
+		}
+	}
+	seen := map[string]int{}
+	for _, name := range namesOf(between) {
+		seen[name]++
+	}
+	// The deletion after the last step may come later, and the one before the first step may have been recorded.
+	if len(seen) != 2 || seen["find in index"] != short+1 || seen["delete staging"] < short {
+		t.Errorf("between the steps there were %v", seen)
+	}
+	if leaves := p.right(got); leaves != 7+short {
 		t.Errorf("the log has %d entries", leaves)
 	}
 }

@@ -37,8 +37,8 @@ type last struct {
 	signed *signer.Head
 	// checkpoint is a head that the object checkpoint had, or nil.
 	checkpoint *Head
-	// unneeded are names of staged batches that may be deleted once the decider says so.
-	unneeded []string
+	// unneeded are names of staged batches that may be deleted once the decider says so. Of deletable it has said so.
+	unneeded, deletable []string
 	// decided says that this round had a step decided by the lock, won or lost. A round that writes nothing does not
 	// show that a store takes writes.
 	decided bool
@@ -90,9 +90,12 @@ func (l *Loop) Run(ctx context.Context) error {
 // MaxBack is how long the clients that were answered are waited for at most.
 const MaxBack = 15 * time.Millisecond
 
+// maxDeletable is how many staged batches are left to delete if no step is followed by a pause.
+const maxDeletable = 16
+
 // rest waits until the next step may begin, after a round that began then had one decided. It also waits a moment for
-// as many submissions as this round answered: without that, two halves of the clients wait for each other's steps.
-// While the node ends, it does not wait.
+// as many submissions as this round answered: without that, two halves of the clients wait for each other's steps. In
+// this pause it deletes staged batches, so that a step need not. While the node ends, it does not wait.
 func (l *Loop) rest(ctx context.Context, began time.Duration) {
 	if !l.last.decided || l.pool.isEnding() {
 		return
@@ -102,7 +105,10 @@ func (l *Loop) rest(ctx context.Context, began time.Duration) {
 		apart = max(apart, time.Duration(float64(l.last.written)/float64(most)*float64(time.Second)))
 	}
 	took := l.config.Machine.Clock.Elapsed() - began
-	if left := apart - took; left > 0 {
+	if took < apart || l.pool.count() < l.last.answered || len(l.last.deletable) >= maxDeletable {
+		l.deleteStaged(ctx)
+	}
+	if left := began + apart - l.config.Machine.Clock.Elapsed(); left > 0 {
 		// An error is the context's end, which the loop sees.
 		_ = l.config.Machine.Clock.Wait(ctx, left, nil)
 	}
@@ -166,6 +172,9 @@ func (l *Loop) round(ctx context.Context) error {
 	if ready, err := p.isReady(ctx); err != nil || !ready {
 		return err
 	}
+	if err := l.askWhatGoes(); err != nil {
+		return err
+	}
 	batch := l.pool.take()
 	defer func() { l.pool.giveBack(batch) }()
 	added, err := l.withoutKnown(ctx, k, batch)
@@ -174,7 +183,8 @@ func (l *Loop) round(ctx context.Context) error {
 	}
 	if len(added) == 0 {
 		if isDue, err := l.isDue(ctx, k); err != nil || !isDue {
-			return errors.Join(err, l.deleteUnneeded(ctx))
+			l.deleteStaged(ctx)
+			return err
 		}
 	}
 	l.took("take", began)

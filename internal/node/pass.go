@@ -113,15 +113,10 @@ func (p *pass) reach(ctx context.Context) (bool, error) {
 	return true, nil
 }
 
-// advance has a step made of a batch, and has that decided and published. Beside the making and staging of the step it
-// deletes the staged batches that no node needs any more.
+// advance has a step made of a batch, and has that decided and published.
 func (p *pass) advance(ctx context.Context, batch []*Ticket) error {
 	p.batch = batch
-	calls, err := p.deletions()
-	if err != nil {
-		return err
-	}
-	if err := p.config.Machine.Parallel(ctx, append(calls, p.stagesNext)...); err != nil {
+	if err := p.step(ctx); err != nil {
 		return err
 	}
 	for p.command.Do != decider.Read {
@@ -130,15 +125,6 @@ func (p *pass) advance(ctx context.Context, batch []*Ticket) error {
 		}
 	}
 	return nil
-}
-
-// stagesNext has the step made and staged.
-func (p *pass) stagesNext(ctx context.Context) error {
-	if err := p.step(ctx); err != nil {
-		return err
-	}
-	_, err := p.carryOut(ctx)
-	return err
 }
 
 // look looks whether the head of the state is published. If it is not for a while, the staged batch is read.

@@ -56,36 +56,39 @@ func (l *Loop) putRight(ctx context.Context, name string, content []byte) error 
 	return nil
 }
 
-// deletions returns what deletes the staged batches that this node knows of, if the decider says that no node needs
-// them any more. They may be deleted beside the commands that follow, since a command may be carried out late
-// (docs/NODE.md, "The machine").
-func (l *Loop) deletions() (calls []func(context.Context) error, err error) {
+// askWhatGoes asks the decider, at the step that may come next, which of the staged batches that this node knows of no
+// node needs any more. They may be deleted later, since a command may be carried out late (docs/NODE.md, "The
+// machine").
+func (l *Loop) askWhatGoes() error {
 	for _, name := range l.last.unneeded {
 		next, err := l.config.Proved.Decider.Next(l.last.stepping, decider.Listed(name))
 		if err != nil {
-			return nil, fmt.Errorf("node: %w", err)
+			return fmt.Errorf("node: %w", err)
 		}
-		if next.Do != decider.Delete {
-			continue
+		if next.Do == decider.Delete {
+			l.last.deletable = append(l.last.deletable, next.Bundle)
 		}
+	}
+	l.last.unneeded = nil
+	return nil
+}
+
+// deleteStaged deletes the staged batches that no node needs any more.
+func (l *Loop) deleteStaged(ctx context.Context) {
+	var calls []func(context.Context) error
+	for _, name := range l.last.deletable {
 		calls = append(calls, func(ctx context.Context) error {
 			defer l.took(decider.Delete, l.config.Machine.Clock.Elapsed())
 			// An object that stays takes room only, so the outcome does not matter.
-			_ = l.config.Stores.Objects.Delete(ctx, next.Bundle)
+			_ = l.config.Stores.Objects.Delete(ctx, name)
 			return nil
 		})
 	}
-	l.last.unneeded = nil
-	return calls, nil
-}
-
-// deleteUnneeded deletes the staged batches that this node knows of and that no node needs any more.
-func (l *Loop) deleteUnneeded(ctx context.Context) error {
-	calls, err := l.deletions()
-	if err != nil || len(calls) == 0 {
-		return err
+	l.last.deletable = nil
+	if len(calls) > 0 {
+		// These calls return no error.
+		_ = l.config.Machine.Parallel(ctx, calls...)
 	}
-	return l.config.Machine.Parallel(ctx, calls...)
 }
 
 // references names objects for the decider.

@@ -300,8 +300,8 @@ func (j *judge) shows(m *machine, p stores.Published) {
 }
 
 // creates judges a lock that a machine makes: it may not have found one gone from a log that has heads.
-func (j *judge) creates(m *machine) {
-	if m.process.known.isGone {
+func (j *judge) creates(m *machine, isGone bool) {
+	if isGone {
 		j.breaks("a lock that is gone is not made again", "%s makes one, and the store had heads when it found none", m.name)
 	}
 }

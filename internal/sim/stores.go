@@ -240,11 +240,13 @@ type lock struct{ m *machine }
 
 func (l lock) Create(ctx context.Context, text string) error {
 	s := &l.m.w.stores
+	// The call may take effect late, when the node has read the lock once more.
+	isGone := l.m.process.known.isGone
 	return l.m.call(ctx, "lock", "create "+short(text), true, func() error {
 		if s.created {
 			return stores.ErrExists
 		}
-		l.m.w.judge.creates(l.m)
+		l.m.w.judge.creates(l.m, isGone)
 		s.created = true
 		s.setLock(text, stores.Published{})
 		return nil
