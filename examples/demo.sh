@@ -11,10 +11,6 @@ set -eu
 export PYTHONDONTWRITEBYTECODE=1
 program=${CTLOG:+$(realpath "$CTLOG")}
 cd "$(dirname "$0")/.."
-if [ $# = 0 ]; then
-  [ -z "$program" ] || exec examples/build.py --show examples/demo.sh log=
-  exec examples/build.py --show examples/demo.sh path=ct_verify log=ctlog
-fi
 program=${program:-crates/ctlog/out/ctlog}
 ring=32
 open_at=1767225600000
@@ -128,7 +124,15 @@ END
   echo "Another (tests/check.py) finds that the tickets, the order of the entries, and all receipts and proofs in it are right."
 }
 
-case $1 in
+case ${1:-all} in
   path | log) "show_$1" ;;
+  all)
+    if [ -z "${CTLOG:-}" ]; then
+      examples/build.py ct_verify
+      show_path
+      examples/build.py ctlog
+    fi
+    show_log
+    ;;
   *) fail "no part is named $1" ;;
 esac
