@@ -29,7 +29,7 @@ from served import HERE, Ideal, Log, disk_used, free_port, listens, machine, mem
 
 SUITE, GO = "trixie", "golang-1.24-go"
 WANTED = ["golang-github-google-trillian-dev", "golang-github-google-certificate-transparency-dev", GO]
-MARIADB = ["mariadb-server-core", "mariadb-client-core", "mariadb-common", "mysql-common", "libmariadb3", "liburing2"]
+MARIADB = ["mariadb-server-core", "mariadb-client-core", "mariadb-common", "mysql-common", "libmariadb3"]
 COMMANDS = [f"github.com/google/{name}" for name in (
     "trillian/cmd/trillian_log_server", "trillian/cmd/trillian_log_signer", "trillian/cmd/createtree", "certificate-transparency-go/trillian/ctfe/ct_server")]
 # What Debian has not, and a log over MariaDB doesn't call: packages that answer with an error.
@@ -116,7 +116,9 @@ def fetch(folder):
     names = re.findall(r"^Inst (golang-\S+)", planned, re.M)
     run("apt-get", "download", *names, env=there, cwd=packages / SUITE)
     run("apt-get", "source", "--download-only", "--tar-only", "trillian", env=there, cwd=folder / "source")
-    run("apt-get", "download", *MARIADB, cwd=packages / "own")
+    # (with the libraries that this machine lacks)
+    planned = run("apt-get", "install", "--simulate", "--no-install-recommends", *MARIADB)
+    run("apt-get", "download", *{*MARIADB, *re.findall(r"^Inst (\S+)", planned, re.M)}, cwd=packages / "own")
     unpack(packages / SUITE, folder / "go")
     unpack(packages / "own", folder / "mariadb")
     (tarball,) = (folder / "source").glob("trillian_*.orig.tar.*")
