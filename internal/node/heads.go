@@ -139,7 +139,11 @@ func (l *Loop) restore(ctx context.Context, k *state) (Head, error) {
 	if !errors.Is(err, stores.ErrAbsent) && !errors.Is(err, errOtherHead) {
 		return head, err
 	}
-	if head, err = l.signedHead(ctx, k, resumed.Head, resumed.Objects); err != nil {
+	head, err = l.signedHead(ctx, k, resumed.Head, resumed.Objects)
+	if errors.Is(err, signer.ErrRefused) {
+		err = l.whyRefused(ctx, k, err)
+	}
+	if err != nil {
 		return Head{}, err
 	}
 	if err := l.cosign(ctx, k, &head, resumed.Objects); err != nil {
@@ -162,9 +166,7 @@ func (l *Loop) putHead(
 		if stored, absent := l.headOf(ctx, k); absent == nil {
 			return stored, nil
 		}
-		if newest, learned := l.learn(ctx); learned == nil && newest.text != k.text {
-			return Head{}, errMoves
-		}
+		err = l.whyRefused(ctx, k, err)
 	}
 	if err != nil {
 		return Head{}, err
@@ -183,6 +185,19 @@ func (l *Loop) putHead(
 		return Head{}, fmt.Errorf("node: the head: %w", err)
 	}
 	return made, nil
+}
+
+// whyRefused returns what the signer's refusal of a state's head means. The refusal is an alarm only if the lock has the
+// state still: if it has another one, other nodes went on, and if it cannot be read, they may have.
+func (l *Loop) whyRefused(ctx context.Context, k *state, refused error) error {
+	newest, err := l.learn(ctx)
+	if err != nil {
+		return err
+	}
+	if newest.text != k.text {
+		return errMoves
+	}
+	return refused
 }
 
 // putRestored puts a state's head over anything else under its name, but not over one that another node restored
