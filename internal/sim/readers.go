@@ -39,7 +39,7 @@ func (w *world) reader() {
 			if last[i] == nil || m.process != last[i].of {
 				last[i] = &reading{of: m.process}
 			}
-			if m.node == nil {
+			if m.node == nil || m.process.dead {
 				continue
 			}
 			if last[i].asked < most && w.random.Intn(each) == 0 {
