@@ -102,24 +102,23 @@ func (w *watch) begins(ctx context.Context, name string) func() {
 	}
 }
 
-// steps returns the calls of each recorded step, which begins as its batch is put and ends as the published size is
-// raised, and all calls that were made between steps.
-func (w *watch) steps() (steps [][]watched, between []watched) {
+// steps returns the calls of each recorded step, which ends as the published size is raised. A look-up of a submission is
+// none of its calls.
+func (w *watch) steps() (steps [][]watched) {
 	w.mu.Lock()
 	defer w.mu.Unlock()
-	var isIn bool
+	isNew := true
 	for _, call := range w.calls {
-		if call.name == "put staging" {
-			steps, isIn = append(steps, nil), true
-		}
-		if !isIn {
-			between = append(between, call)
+		if call.name == "find in index" {
 			continue
 		}
+		if isNew {
+			steps = append(steps, nil)
+		}
 		steps[len(steps)-1] = append(steps[len(steps)-1], call)
-		isIn = call.name != "raise lock"
+		isNew = call.name == "raise lock"
 	}
-	return steps, between
+	return steps
 }
 
 // namesOf returns the calls' names in the order of the alphabet.
@@ -246,21 +245,24 @@ func (i watchedIndex) Replace(ctx context.Context, rows []stores.Row) error {
 	return i.Index.Replace(ctx, rows)
 }
 
-// TestCallsOfAStep: if the node made the step before, and no fault is open, a step of one entry makes seven calls to
+// TestCallsOfAStep: if the node made the step before, and no fault is open, a step of one entry makes eight calls to
 // stores, and five of them wait for one another. If the heads were not listed for a while, they are listed beside the
-// swap, as the eighth. Between two steps, a submission is looked up, and a staged batch is deleted.
+// swap, and no staged batch is deleted. A submission is looked up before its step.
 func TestCallsOfAStep(t *testing.T) {
 	t.Parallel()
 	p, got, w := newPlace(t), &answers{}, &watch{beside: map[string]*group{}}
 	config := p.config()
 	clock := &stopped{Clock: config.Machine.Of}
 	config.Machine.Of = clock
+	// The next step may begin at once, as after a step that took longer than the interval.
+	config.Pace.Interval, config.Pace.MaxWritten = 0, 0
 	config.Stores.Objects, config.Stores.Lock, config.Stores.Index = watchedObjects{config.Stores.Objects, w},
 		watchedLock{config.Stores.Lock, w}, watchedIndex{config.Stores.Index, w}
 	l := started(t, config)
 	// The issuers of these entries are put once, and the node makes the newest state.
 	got.submit(t, l, 0, 5)
 	got.submit(t, l, 5, 6)
+	w.expects("put staging", "delete staging")
 	w.expects("put tile", "put tile/data", "add to index")
 	w.turn(true)
 	const short = 10
@@ -268,15 +270,16 @@ func TestCallsOfAStep(t *testing.T) {
 		got.submit(t, l, entry, entry+1)
 	}
 	clock.elapsed.Add(int64(time.Second))
+	w.expects("put staging")
 	w.expects("swap lock", "list heads")
 	got.submit(t, l, 6+short, 7+short)
 	w.turn(false)
-	steps, between := w.steps()
+	steps := w.steps()
 	if len(steps) != short+1 {
 		t.Fatalf("%d steps were made", len(steps))
 	}
 	for i, calls := range steps {
-		expected := "add to index, put heads, put staging, put tile, put tile/data, raise lock, swap lock"
+		expected := "add to index, delete staging, put heads, put staging, put tile, put tile/data, raise lock, swap lock"
 		if i == short {
 			expected = "add to index, list heads, put heads, put staging, put tile, put tile/data, raise lock, swap lock"
 		}
@@ -286,14 +289,6 @@ func TestCallsOfAStep(t *testing.T) {
 		if chain := chainOf(calls); chain != 5 {
 			t.Errorf("%d calls of a step wait for one another, and not 5", chain)
 		}
-	}
-	seen := map[string]int{}
-	for _, name := range namesOf(between) {
-		seen[name]++
-	}
-	// The deletion after the last step may come later, and the one before the first step may have been recorded.
-	if len(seen) != 2 || seen["find in index"] != short+1 || seen["delete staging"] < short {
-		t.Errorf("between the steps there were %v", seen)
 	}
 	if leaves := p.right(got); leaves != 7+short {
 		t.Errorf("the log has %d entries", leaves)

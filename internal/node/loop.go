@@ -90,12 +90,12 @@ func (l *Loop) Run(ctx context.Context) error {
 // MaxBack is how long the clients that were answered are waited for at most.
 const MaxBack = 15 * time.Millisecond
 
-// maxDeletable is how many staged batches are left to delete if no step is followed by a pause.
+// maxDeletable is how many staged batches are left to delete while no step ends before the next one may begin.
 const maxDeletable = 16
 
 // rest waits until the next step may begin, after a round that began then had one decided. It also waits a moment for
-// as many submissions as this round answered: without that, two halves of the clients wait for each other's steps. In
-// this pause it deletes staged batches, so that a step need not. While the node ends, it does not wait.
+// as many submissions as this round answered: without that, two halves of the clients wait for each other's steps.
+// While the node ends, it does not wait. Before the next step may begin, it deletes the staged batches that steps left.
 func (l *Loop) rest(ctx context.Context, began time.Duration) {
 	if !l.last.decided || l.pool.isEnding() {
 		return
@@ -105,7 +105,7 @@ func (l *Loop) rest(ctx context.Context, began time.Duration) {
 		apart = max(apart, time.Duration(float64(l.last.written)/float64(most)*float64(time.Second)))
 	}
 	took := l.config.Machine.Clock.Elapsed() - began
-	if took < apart || l.pool.count() < l.last.answered || len(l.last.deletable) >= maxDeletable {
+	if took < apart || len(l.last.deletable) >= maxDeletable {
 		l.deleteStaged(ctx)
 	}
 	if left := began + apart - l.config.Machine.Clock.Elapsed(); left > 0 {

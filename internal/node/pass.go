@@ -22,6 +22,8 @@ type pass struct {
 	command *decider.Command
 	made    made
 	batch   []*Ticket
+	// heads is the list of heads for the swap of this pass's own step.
+	heads *listing
 }
 
 // places are those of a step's entries. replaced are those that the index has wrong.
@@ -113,10 +115,15 @@ func (p *pass) reach(ctx context.Context) (bool, error) {
 	return true, nil
 }
 
-// advance has a step made of a batch, and has that decided and published.
+// advance has a step made of a batch, and has that decided and published. Beside the making and staging of the step it
+// deletes a staged batch, unless the step must list the heads: a step makes at most eight calls to stores.
 func (p *pass) advance(ctx context.Context, batch []*Ticket) error {
-	p.batch = batch
-	if err := p.step(ctx); err != nil {
+	p.batch, p.heads = batch, p.listing()
+	calls := []func(context.Context) error{p.stagesNext}
+	if p.heads.isMade {
+		calls = append(calls, p.deletions(1)...)
+	}
+	if err := p.config.Machine.Parallel(ctx, calls...); err != nil {
 		return err
 	}
 	for p.command.Do != decider.Read {
@@ -125,6 +132,15 @@ func (p *pass) advance(ctx context.Context, batch []*Ticket) error {
 		}
 	}
 	return nil
+}
+
+// stagesNext has the step made and staged.
+func (p *pass) stagesNext(ctx context.Context) error {
+	if err := p.step(ctx); err != nil {
+		return err
+	}
+	_, err := p.carryOut(ctx)
+	return err
 }
 
 // look looks whether the head of the state is published. If it is not for a while, the staged batch is read.

@@ -73,10 +73,10 @@ func (l *Loop) askWhatGoes() error {
 	return nil
 }
 
-// deleteStaged deletes the staged batches that no node needs any more.
-func (l *Loop) deleteStaged(ctx context.Context) {
-	var calls []func(context.Context) error
-	for _, name := range l.last.deletable {
+// deletions returns calls that delete so many of the staged batches that no node needs any more.
+func (l *Loop) deletions(most int) (calls []func(context.Context) error) {
+	count := min(most, len(l.last.deletable))
+	for _, name := range l.last.deletable[:count] {
 		calls = append(calls, func(ctx context.Context) error {
 			defer l.took(decider.Delete, l.config.Machine.Clock.Elapsed())
 			// An object that stays takes room only, so the outcome does not matter.
@@ -84,8 +84,13 @@ func (l *Loop) deleteStaged(ctx context.Context) {
 			return nil
 		})
 	}
-	l.last.deletable = nil
-	if len(calls) > 0 {
+	l.last.deletable = l.last.deletable[count:]
+	return calls
+}
+
+// deleteStaged deletes all staged batches that no node needs any more.
+func (l *Loop) deleteStaged(ctx context.Context) {
+	if calls := l.deletions(len(l.last.deletable)); len(calls) > 0 {
 		// These calls return no error.
 		_ = l.config.Machine.Parallel(ctx, calls...)
 	}

@@ -21,8 +21,8 @@ func (p *pass) swap(ctx context.Context) (decider.Told, error) {
 	if err := p.isMade(); err != nil {
 		return nil, err
 	}
-	began, heads, won := p.config.Machine.Clock.Elapsed(), p.listing(), false
-	err := p.config.Machine.Parallel(ctx, heads.run, func(ctx context.Context) (err error) {
+	began, won := p.config.Machine.Clock.Elapsed(), false
+	err := p.config.Machine.Parallel(ctx, p.heads.run, func(ctx context.Context) (err error) {
 		won, err = p.swapped(ctx, p.command.Seen.Text, p.command.New.Text)
 		return err
 	})
@@ -46,10 +46,10 @@ func (p *pass) swap(ctx context.Context) (decider.Told, error) {
 	p.recent.add(p.from, k, p.made.rows)
 	p.hears(k, began)
 	p.from = k
-	if err := p.descends(ctx, k, p.made.objects, heads.after); err != nil {
+	if err := p.descends(ctx, k, p.made.objects, p.heads.after); err != nil {
 		return nil, err
 	}
-	p.seen.listed = heads.before(k)
+	p.seen.listed = p.heads.before(k)
 	return decider.Done(), nil
 }
 
@@ -90,20 +90,20 @@ type listing struct {
 	err    error
 }
 
-// listing returns the list that the next swap needs. It is made already if there was one a moment ago: the swaps of
-// this node since then were won, so no other node has put a head unless the lock was rolled back.
+// listing returns the list that the next step's swap needs. It is made already if there was one a moment ago: the swaps
+// of this node since then were won, so no other node has put a head unless the lock was rolled back.
 func (l *Loop) listing() *listing {
 	now := l.config.Machine.Clock.Elapsed()
 	if made := l.seen.listed; made != nil && made.from == l.newestAccepted() && now-made.began <= maxUnlisted/2 {
 		return made
 	}
-	return &listing{Loop: l, from: l.newestAccepted(), began: now}
+	return &listing{Loop: l, from: l.newestAccepted()}
 }
 
 // run makes the list, unless it is made. It keeps an error for the comparison, so that the swap beside it goes on.
 func (h *listing) run(ctx context.Context) error {
 	if !h.isMade {
-		h.isMade = true
+		h.isMade, h.began = true, h.config.Machine.Clock.Elapsed()
 		h.names, h.err = h.listHeads(ctx, h.from)
 	}
 	return nil

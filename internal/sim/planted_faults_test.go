@@ -35,7 +35,7 @@ var all = []planted{
 		},
 	}},
 	{"a state is not compared after the swap", []edit{
-		{"swap.go", "	if err := p.descends(ctx, k, p.made.objects, heads.after); err != nil {", "	if false {"},
+		{"swap.go", "	if err := p.descends(ctx, k, p.made.objects, p.heads.after); err != nil {", "	if false {"},
 	}},
 	{"a tile is not put", []edit{
 		{"pass.go", "range p.made.objects {\n		calls", "range p.made.objects[1:] {\n		calls"},
@@ -198,7 +198,7 @@ var all = []planted{
 	}},
 	{"nothing is compared at all", []edit{
 		{"seen.go", "	if l.isAccepted(k) {", "	if true {"},
-		{"swap.go", "	if err := p.descends(ctx, k, p.made.objects, heads.after); err != nil {", "	if false {"},
+		{"swap.go", "	if err := p.descends(ctx, k, p.made.objects, p.heads.after); err != nil {", "	if false {"},
 	}},
 	{"an older text of the lock is taken", []edit{
 		{"loop.go",
@@ -215,7 +215,7 @@ var all = []planted{
 			"		if false {",
 		},
 		{"seen.go", "	if l.isAccepted(k) {", "	if true {"},
-		{"swap.go", "	if err := p.descends(ctx, k, p.made.objects, heads.after); err != nil {", "	if false {"},
+		{"swap.go", "	if err := p.descends(ctx, k, p.made.objects, p.heads.after); err != nil {", "	if false {"},
 	}},
 	{"a node that was away does not look back", []edit{
 		{"loop.go", "	if l.config.Machine.Clock.Elapsed()-l.seen.heard > maxUnheard {", "	if false {"},
@@ -408,7 +408,7 @@ var all = []planted{
 	}},
 	{"a node that was away does not look back, and a state is not compared after the swap", []edit{
 		{"loop.go", "	if l.config.Machine.Clock.Elapsed()-l.seen.heard > maxUnheard {", "	if false {"},
-		{"swap.go", "	if err := p.descends(ctx, k, p.made.objects, heads.after); err != nil {", "	if false {"},
+		{"swap.go", "	if err := p.descends(ctx, k, p.made.objects, p.heads.after); err != nil {", "	if false {"},
 	}},
 	{"a start is never refused, and nothing is compared at all", []edit{
 		{"start.go",
@@ -416,7 +416,7 @@ var all = []planted{
 			"	if errors.As(err, &refusal) && f.k != nil {\n		err = nil\n	} else if errors.As(err, &refusal) {",
 		},
 		{"seen.go", "	if l.isAccepted(k) {", "	if true {"},
-		{"swap.go", "	if err := p.descends(ctx, k, p.made.objects, heads.after); err != nil {", "	if false {"},
+		{"swap.go", "	if err := p.descends(ctx, k, p.made.objects, p.heads.after); err != nil {", "	if false {"},
 	}},
 	{"an older checkpoint wins", []edit{
 		{"checkpoint.go", "		if stored.Note != nil && !stored.before(head) {", "		if false {"},

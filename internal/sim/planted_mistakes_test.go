@@ -42,7 +42,7 @@ var mistakes = []planted{
 	}},
 	{"the edge is kept before the lock decides", []edit{
 		{"swap.go", "	p.keepEdge()\n", ""},
-		{"swap.go", "	began, heads, won := ", "	p.keepEdge()\n	began, heads, won := "},
+		{"swap.go", "	began, won := ", "	p.keepEdge()\n	began, won := "},
 	}},
 	{"the newest head counts as cosigned before the witnesses answer", []edit{
 		{"witnesses.go",
