@@ -324,8 +324,11 @@ func (m *machine) isKept(ctx *simulated, store, what string, writes bool, fate *
 		w.spawn(nil, func() {
 			w.wait(ctx.left()+fate.Long, nil)
 			if m.takes(store, writes) == nil && cuts == w.judge.counts[StepLost] {
-				// No caller waits for the outcome any more.
+				// No caller waits for the outcome any more. If a bent tile is deleted late, another node may have put the
+				// right one meanwhile, and that one is lost.
 				w.log("store", what, fmt.Sprint(do()), "done late")
+				isMending := store == "objects" && strings.HasPrefix(what, "delete tile/") && w.bentAt > 0
+				w.excuses.loss = w.excuses.loss || isMending
 			}
 		})
 	default:
