@@ -98,6 +98,12 @@ func (l *Loop) find(ctx context.Context, remembered *signer.Head) (f found, err 
 		if f.k, err = l.read(f.Register); err != nil {
 			return f, err
 		}
+		if before := l.seen.newest; before != nil && f.k.head() != before.head() &&
+			!follows(f.k.Size, f.k.Timestamp, before.head()) {
+			return f, fmt.Errorf("%w: it had %d entries at %d ms, and has %d at %d ms", ErrRolledBack, before.Size,
+				before.Timestamp, f.k.Size, f.k.Timestamp)
+		}
+		l.seen.newest = f.k
 	} else if f.Stands, err = l.hasLog(ctx); err != nil {
 		return f, err
 	}
@@ -212,8 +218,16 @@ func (l *Loop) newestHead(ctx context.Context, after string) (newest string, err
 // movedSince reports whether another node set the lock, or had a head signed, since this was found.
 func (l *Loop) movedSince(ctx context.Context, f found) (bool, error) {
 	text, _, err := l.lockText(ctx)
-	if err != nil || text != f.Register {
-		return true, err
+	if err != nil {
+		return false, err
+	}
+	if text != f.Register {
+		// The next try must not take an older text than this one.
+		before := l.seen.newest
+		if now, err := l.read(text); err == nil && (before == nil || follows(now.Size, now.Timestamp, before.head())) {
+			l.seen.newest = now
+		}
+		return true, nil
 	}
 	last, err := l.config.Signer.Last(ctx)
 	if err != nil {

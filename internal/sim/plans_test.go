@@ -275,6 +275,14 @@ func TestTwoNodesRestoreOneHead(t *testing.T) {
 	}
 }
 
+// TestStartBesideARollback has a node read a text of the lock at its start, as another node goes on. The lock is rolled
+// back before the start looks again. The older text must be refused.
+func TestStartBesideARollback(t *testing.T) {
+	if result := sim.Run(sim.NewPlan(42_027_860), proved, false); result.Violation != nil {
+		t.Error(result.Violation)
+	}
+}
+
 // TestRefusalOverAnOlderHead has a node ask for a signature over the head that it had signed before, while another node
 // had a later one signed. The signer refuses, and does not answer which head is its last. That is no refusal of the head.
 func TestRefusalOverAnOlderHead(t *testing.T) {
