@@ -19,6 +19,8 @@ import (
 type stopped struct {
 	logservice.Clock
 	elapsed atomic.Int64
+	// waits says that the node waits, and that nothing has woken it yet.
+	waits atomic.Bool
 }
 
 func (s *stopped) Elapsed() time.Duration { return time.Duration(s.elapsed.Load()) }
@@ -27,6 +29,13 @@ func (s *stopped) Wait(ctx context.Context, long time.Duration, wake <-chan stru
 	if wake == nil {
 		return s.Clock.Wait(ctx, long, nil)
 	}
+	select {
+	case <-wake:
+		return nil
+	default:
+	}
+	s.waits.Store(true)
+	defer s.waits.Store(false)
 	select {
 	case <-wake:
 		return nil
@@ -259,20 +268,27 @@ func TestCallsOfAStep(t *testing.T) {
 	config.Stores.Objects, config.Stores.Lock, config.Stores.Index = watchedObjects{config.Stores.Objects, w},
 		watchedLock{config.Stores.Lock, w}, watchedIndex{config.Stores.Index, w}
 	l := started(t, config)
+	// A submission that comes while the node does not wait may be followed by a round without submissions.
+	submits := func(from, to int) {
+		t.Helper()
+		eventually(t, "the node waits", clock.waits.Load)
+		got.submit(t, l, from, to)
+		eventually(t, "the node waits", clock.waits.Load)
+	}
 	// The issuers of these entries are put once, and the node makes the newest state.
-	got.submit(t, l, 0, 5)
-	got.submit(t, l, 5, 6)
+	submits(0, 5)
+	submits(5, 6)
 	w.expects("put staging", "delete staging")
 	w.expects("put tile", "put tile/data", "add to index")
 	w.turn(true)
 	const short = 10
 	for entry := 6; entry < 6+short; entry++ {
-		got.submit(t, l, entry, entry+1)
+		submits(entry, entry+1)
 	}
 	clock.elapsed.Add(int64(time.Second))
 	w.expects("put staging")
 	w.expects("swap lock", "list heads")
-	got.submit(t, l, 6+short, 7+short)
+	submits(6+short, 7+short)
 	w.turn(false)
 	steps := w.steps()
 	if len(steps) != short+1 {
