@@ -59,7 +59,7 @@ func Make(ctx context.Context, path string, of Log, options Options) (wagtenib.T
 	if err != nil {
 		return wagtenib.TreeHead{}, err
 	}
-	if err := m.hasIndex(ctx); err != nil {
+	if err := m.restoreIndex(ctx); err != nil {
 		return wagtenib.TreeHead{}, err
 	}
 	if m.entries < wanted.TreeSize {
@@ -227,7 +227,7 @@ func (m *maker) write(ctx context.Context, part *chunk, wanted wagtenib.TreeHead
 		if _, err := m.edge.End(); err != nil {
 			return err
 		}
-		if err := m.hasRoot(ctx, wanted); err != nil {
+		if err := m.checkRoot(ctx, wanted); err != nil {
 			return err
 		}
 	}
@@ -241,8 +241,8 @@ func (m *maker) write(ctx context.Context, part *chunk, wanted wagtenib.TreeHead
 	return nil
 }
 
-// hasRoot compares the root of the hash tiles in the folder with the head's.
-func (m *maker) hasRoot(ctx context.Context, of wagtenib.TreeHead) error {
+// checkRoot compares the root of the hash tiles in the folder with the head's.
+func (m *maker) checkRoot(ctx context.Context, of wagtenib.TreeHead) error {
 	root, err := tile.NewProver(m.objects.Get, 1).Root(ctx, of.TreeSize, of.TreeSize)
 	if err != nil {
 		return fmt.Errorf("archive: %w", err)
@@ -256,7 +256,7 @@ func (m *maker) hasRoot(ctx context.Context, of wagtenib.TreeHead) error {
 // finish publishes the head, after all its tiles are there. The partial tiles that only the head before has go after
 // that: until then, a server that opens the archive has to find them.
 func (m *maker) finish(ctx context.Context, of head) error {
-	if err := m.hasRoot(ctx, of.TreeHead); err != nil {
+	if err := m.checkRoot(ctx, of.TreeHead); err != nil {
 		return err
 	}
 	signed, err := keptHead(m.path, signedName, m.of)
@@ -311,8 +311,8 @@ func (m *maker) dropObsolete(ctx context.Context, size uint64) error {
 	return nil
 }
 
-// hasIndex builds the index again from the hash tiles, unless it has the last entry of the folder.
-func (m *maker) hasIndex(ctx context.Context) error {
+// restoreIndex builds the index again from the hash tiles, unless it has the last entry of the folder.
+func (m *maker) restoreIndex(ctx context.Context) error {
 	if m.entries == 0 {
 		return nil
 	}

@@ -73,7 +73,7 @@ func Open(ctx context.Context, path string) (s *Served, err error) {
 		err = s.keepEdge(ctx)
 	}
 	if err == nil {
-		err = s.isWhole(ctx)
+		err = s.checkWhole(ctx)
 	}
 	if err != nil {
 		s.Close()
@@ -108,8 +108,8 @@ func (s *Served) keepEdge(ctx context.Context) error {
 	return nil
 }
 
-// isWhole returns ErrDamaged unless the hash tiles have the root of the head, and the index has the last entry.
-func (s *Served) isWhole(ctx context.Context) error {
+// checkWhole returns ErrDamaged unless the hash tiles have the root of the head, and the index has the last entry.
+func (s *Served) checkWhole(ctx context.Context) error {
 	root, err := tile.NewProver(s.Object, 1).Root(ctx, s.tree.Size, s.tree.Size)
 	if err != nil {
 		return fmt.Errorf("%w: %w", ErrDamaged, err)

@@ -70,8 +70,8 @@ func storedIDs(ctx context.Context, in stores.Objects) ([]string, error) {
 	return names, nil
 }
 
-// hasItsIndex returns node.ErrIndex unless the index has the id that the store has. If neither has one, it sets both.
-func (l *Log) hasItsIndex(ctx context.Context) error {
+// checkIndex returns node.ErrIndex unless the index has the id that the store has. If neither has one, it sets both.
+func (l *Log) checkIndex(ctx context.Context) error {
 	index, objects := l.config.Stores.Index, l.config.Stores.Objects
 	names, err := storedIDs(ctx, objects)
 	if err != nil {

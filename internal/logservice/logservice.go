@@ -168,7 +168,7 @@ func Open(ctx context.Context, config Config) (*Log, error) {
 		return nil, err
 	}
 	l.node = n
-	if err := l.hasItsIndex(ctx); err != nil {
+	if err := l.checkIndex(ctx); err != nil {
 		return nil, err
 	}
 	if l.janitor, err = janitor.New(l.janitorConfig()); err != nil {

@@ -37,7 +37,8 @@ type last struct {
 	signed *signer.Head
 	// checkpoint is a head that the object checkpoint had, or nil.
 	checkpoint *Head
-	// unneeded are names of staged batches that may be deleted once the decider says so. Of deletable it has said so.
+	// unneeded are the names of staged batches that this node's steps left. The decider has not said yet whether they
+	// may be deleted. deletable are the names of those that it said may be deleted.
 	unneeded, deletable []string
 	// decided says that this round had a step decided by the lock, won or lost. A round that writes nothing does not
 	// show that a store takes writes.
@@ -90,12 +91,21 @@ func (l *Loop) Run(ctx context.Context) error {
 // MaxBack is how long the clients that were answered are waited for at most.
 const MaxBack = 15 * time.Millisecond
 
-// maxDeletable is how many staged batches are left to delete while no step ends before the next one may begin.
+// maxDeletable is how many deletable staged batches may lie in the store before a busy node takes the time to delete
+// them.
 const maxDeletable = 16
 
-// rest waits until the next step may begin, after a round that began then had one decided. It also waits a moment for
-// as many submissions as this round answered: without that, two halves of the clients wait for each other's steps.
-// While the node ends, it does not wait. Before the next step may begin, it deletes the staged batches that steps left.
+// rest is the pause between a round that had a step decided and the next round. Began is when the round began, by
+// Elapsed.
+//
+//   - It lasts at least until the next step may begin: until Pace.Interval after the round began, or later if the step
+//     wrote so much that MaxWritten bytes a second would be exceeded.
+//   - Then it waits for as many submissions as the round answered, at most for as long as the round took, and at most
+//     MaxBack. Without that, two halves of the clients wait for each other's steps.
+//   - It deletes the staged batches that steps left, if there is time until the next step may begin, or if there are
+//     maxDeletable of them.
+//
+// While the node ends, there is no pause.
 func (l *Loop) rest(ctx context.Context, began time.Duration) {
 	if !l.last.decided || l.pool.isEnding() {
 		return
@@ -172,7 +182,7 @@ func (l *Loop) round(ctx context.Context) error {
 	if ready, err := p.isReady(ctx); err != nil || !ready {
 		return err
 	}
-	if err := l.askWhatGoes(); err != nil {
+	if err := l.findDeletable(); err != nil {
 		return err
 	}
 	batch := l.pool.take()
@@ -272,9 +282,8 @@ func (l *Loop) learn(ctx context.Context) (*state, error) {
 		if k, err = l.read(text); err != nil {
 			return nil, err
 		}
-		if k.head() != before.head() && !follows(k.Size, k.Timestamp, before.head()) {
-			return nil, fmt.Errorf("%w: it had %d entries at %d ms, and has %d at %d ms", ErrRolledBack, before.Size,
-				before.Timestamp, k.Size, k.Timestamp)
+		if err := l.continues(k); err != nil {
+			return nil, err
 		}
 	}
 	if l.config.Machine.Clock.Elapsed()-l.seen.heard > maxUnheard {

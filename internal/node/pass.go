@@ -276,18 +276,18 @@ func (p *pass) stepOver(ctx context.Context) (*step.Stepped, error) {
 	return stepped, nil
 }
 
-// isMade returns an error unless the command is about this pass's own step: from the text that was read to the text,
-// the staged batch and the objects that it made. A lock that is swapped to any other text could not be gone on from.
-func (p *pass) isMade() error {
+// checkStep returns an error unless the command is about this pass's own step: from the text that was read to the text,
+// the staged batch and the objects that it made. No node could go on from a lock with any other text.
+func (p *pass) checkStep() error {
 	of, m := p.command, &p.made
 	if !m.isNew || of.Seen.Text != p.from.text || of.New.Text != m.text || of.New.Bundle != m.bundle {
 		return fmt.Errorf("%w: %s of another step than this round's", errCommand, of.Do)
 	}
-	return p.hasObjects()
+	return p.checkObjects()
 }
 
-// hasObjects returns an error unless the command is about the objects that this pass has.
-func (p *pass) hasObjects() error {
+// checkObjects returns an error unless the command is about the objects that this pass has.
+func (p *pass) checkObjects() error {
 	named := references(p.made.objects)
 	if len(named) != len(p.command.Objects) {
 		return fmt.Errorf("%w: %s of %d objects and not of %d", errCommand, p.command.Do,
@@ -301,8 +301,8 @@ func (p *pass) hasObjects() error {
 	return nil
 }
 
-// isFrom returns an error unless the command is about the state that this pass is at.
-func (p *pass) isFrom() error {
+// checkState returns an error unless the command is about the state that this pass is at.
+func (p *pass) checkState() error {
 	if p.command.New.Text != p.from.text {
 		return fmt.Errorf("%w: %s of another text", errCommand, p.command.Do)
 	}
@@ -311,7 +311,7 @@ func (p *pass) isFrom() error {
 
 // stage keeps what a step writes, before the lock decides on it.
 func (p *pass) stage(ctx context.Context) (decider.Told, error) {
-	if err := p.isMade(); err != nil {
+	if err := p.checkStep(); err != nil {
 		return nil, err
 	}
 	// What is in the staged batch is put once more, as objects.
@@ -325,7 +325,7 @@ func (p *pass) stage(ctx context.Context) (decider.Told, error) {
 // put puts a state's objects under their public names. Beside that it adds the places of its entries, and keeps the
 // state as the newest one that this node accepted. None of these needs another one, and the head needs all.
 func (p *pass) put(ctx context.Context) (decider.Told, error) {
-	if err := errors.Join(p.isFrom(), p.hasObjects()); err != nil {
+	if err := errors.Join(p.checkState(), p.checkObjects()); err != nil {
 		return nil, err
 	}
 	calls := []func(context.Context) error{
@@ -357,12 +357,12 @@ func (p *pass) put(ctx context.Context) (decider.Told, error) {
 
 // place does nothing: the places were added beside the objects.
 func (p *pass) place(context.Context) (decider.Told, error) {
-	return decider.Done(), p.isFrom()
+	return decider.Done(), p.checkState()
 }
 
 // publish has a state's head signed, puts it, and says that it is published.
 func (p *pass) publish(ctx context.Context) (decider.Told, error) {
-	if err := p.isFrom(); err != nil {
+	if err := p.checkState(); err != nil {
 		return nil, err
 	}
 	head, err := p.putHead(ctx, p.from, p.made.head, p.made.objects, p.sign)
@@ -392,7 +392,7 @@ func (p *pass) sign(ctx context.Context) error {
 // answer signs the timestamps of the batch, if they are not signed yet, and answers it. Its entries are under a
 // published head. After this node's own step, the next round may begin from the state that it made.
 func (p *pass) answer(ctx context.Context) (decider.Told, error) {
-	if err := p.isFrom(); err != nil {
+	if err := p.checkState(); err != nil {
 		return nil, err
 	}
 	if len(p.batch) > 0 && p.made.signatures == nil {

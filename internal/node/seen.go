@@ -132,7 +132,7 @@ func (l *Loop) headsUpTo(ctx context.Context, k *state, isNext bool, heads liste
 		}
 		for _, name := range names {
 			if name > own {
-				return last, l.isLater(ctx, k, name)
+				return last, l.whyLater(ctx, k, name)
 			}
 			if name == own {
 				continue
@@ -159,9 +159,28 @@ func foreign(k *state, name string) error {
 	return fmt.Errorf("%w: it has %d entries at %d ms, and the store has %s", ErrRolledBack, k.Size, k.Timestamp, name)
 }
 
-// isMoved returns errMoves if the lock has another text than a state's by now. If that is a later one than the newest that
-// this node knows, the node keeps it, so that it never takes an older one after it.
-func (l *Loop) isMoved(ctx context.Context, k *state) error {
+// continues returns ErrRolledBack if the state of a text that was read is neither the newest one that this node knows nor
+// a later one.
+func (l *Loop) continues(k *state) error {
+	before := l.seen.newest
+	if before == nil || k.head() == before.head() || follows(k.Size, k.Timestamp, before.head()) {
+		return nil
+	}
+	return fmt.Errorf("%w: it had %d entries at %d ms, and has %d at %d ms", ErrRolledBack, before.Size,
+		before.Timestamp, k.Size, k.Timestamp)
+}
+
+// keepLater keeps the state of a text that was read, if it is later than the newest one that this node knows: a node
+// must never take an older text than one that it read. A text that is not a log's is refused when it is read again.
+func (l *Loop) keepLater(text string) {
+	before := l.seen.newest
+	if k, err := l.read(text); err == nil && (before == nil || follows(k.Size, k.Timestamp, before.head())) {
+		l.seen.newest = k
+	}
+}
+
+// checkCurrent returns errMoves if the lock has another text than a state's by now. If that one is later, it is kept.
+func (l *Loop) checkCurrent(ctx context.Context, k *state) error {
 	text, err := l.config.Stores.Lock.Read(ctx)
 	if err != nil {
 		return fmt.Errorf("node: the lock: %w", err)
@@ -169,16 +188,14 @@ func (l *Loop) isMoved(ctx context.Context, k *state) error {
 	if text == k.text {
 		return nil
 	}
-	now, err := l.read(text)
-	if before := l.seen.newest; err == nil && before != nil && follows(now.Size, now.Timestamp, before.head()) {
-		l.seen.newest = now
-	}
+	l.keepLater(text)
 	return errMoves
 }
 
-// isLater says what a later head than a state's is: other nodes went on meanwhile, or the lock was rolled back.
-func (l *Loop) isLater(ctx context.Context, k *state, name string) error {
-	if err := l.isMoved(ctx, k); err != nil {
+// whyLater returns why the store has a later head, of that name, than a state's: errMoves if other nodes went on
+// meanwhile, or else ErrRolledBack.
+func (l *Loop) whyLater(ctx context.Context, k *state, name string) error {
+	if err := l.checkCurrent(ctx, k); err != nil {
 		return err
 	}
 	return foreign(k, name)
@@ -218,7 +235,7 @@ func (l *Loop) looksBack(ctx context.Context, k *state) error {
 		return fmt.Errorf("node: the heads: %w", err)
 	}
 	if len(later) > 0 {
-		return l.isLater(ctx, k, later[0])
+		return l.whyLater(ctx, k, later[0])
 	}
 	published, err := l.config.Stores.Lock.Published(ctx)
 	if err != nil {
@@ -227,7 +244,7 @@ func (l *Loop) looksBack(ctx context.Context, k *state) error {
 	if !k.published().Before(published) {
 		return nil
 	}
-	if err := l.isMoved(ctx, k); err != nil {
+	if err := l.checkCurrent(ctx, k); err != nil {
 		return err
 	}
 	return fmt.Errorf("%w: it has %d entries at %d ms, and %d at %d ms are published", ErrRolledBack, k.Size,

@@ -56,10 +56,10 @@ func (l *Loop) putRight(ctx context.Context, name string, content []byte) error 
 	return nil
 }
 
-// askWhatGoes asks the decider, at the step that may come next, which of the staged batches that this node knows of no
-// node needs any more. They may be deleted later, since a command may be carried out late (docs/NODE.md, "The
-// machine").
-func (l *Loop) askWhatGoes() error {
+// findDeletable asks the decider which of the unneeded staged batches no node needs any more, and moves these to the
+// deletable ones. It asks at the step that may come next. They may be deleted at any time after that, since a command
+// may be carried out late (docs/NODE.md, "The machine").
+func (l *Loop) findDeletable() error {
 	for _, name := range l.last.unneeded {
 		next, err := l.config.Proved.Decider.Next(l.last.stepping, decider.Listed(name))
 		if err != nil {
@@ -73,7 +73,7 @@ func (l *Loop) askWhatGoes() error {
 	return nil
 }
 
-// deletions returns calls that delete so many of the staged batches that no node needs any more.
+// deletions returns calls that delete deletable staged batches, at most so many.
 func (l *Loop) deletions(most int) (calls []func(context.Context) error) {
 	count := min(most, len(l.last.deletable))
 	for _, name := range l.last.deletable[:count] {
@@ -88,7 +88,7 @@ func (l *Loop) deletions(most int) (calls []func(context.Context) error) {
 	return calls
 }
 
-// deleteStaged deletes all staged batches that no node needs any more.
+// deleteStaged deletes all deletable staged batches.
 func (l *Loop) deleteStaged(ctx context.Context) {
 	if calls := l.deletions(len(l.last.deletable)); len(calls) > 0 {
 		// These calls return no error.

@@ -98,10 +98,8 @@ func (l *Loop) find(ctx context.Context, remembered *signer.Head) (f found, err 
 		if f.k, err = l.read(f.Register); err != nil {
 			return f, err
 		}
-		if before := l.seen.newest; before != nil && f.k.head() != before.head() &&
-			!follows(f.k.Size, f.k.Timestamp, before.head()) {
-			return f, fmt.Errorf("%w: it had %d entries at %d ms, and has %d at %d ms", ErrRolledBack, before.Size,
-				before.Timestamp, f.k.Size, f.k.Timestamp)
+		if err = l.continues(f.k); err != nil {
+			return f, err
 		}
 		l.seen.newest = f.k
 	} else if f.Stands, err = l.hasLog(ctx); err != nil {
@@ -222,11 +220,7 @@ func (l *Loop) movedSince(ctx context.Context, f found) (bool, error) {
 		return false, err
 	}
 	if text != f.Register {
-		// The next try must not take an older text than this one.
-		before := l.seen.newest
-		if now, err := l.read(text); err == nil && (before == nil || follows(now.Size, now.Timestamp, before.head())) {
-			l.seen.newest = now
-		}
+		l.keepLater(text)
 		return true, nil
 	}
 	last, err := l.config.Signer.Last(ctx)

@@ -18,7 +18,7 @@ import (
 // tiles, a head of the same state, and marks that never go back. Tiles and heads that were deleted meanwhile are
 // deleted again, and the signer refuses a head that is older than its last one.
 func (p *pass) swap(ctx context.Context) (decider.Told, error) {
-	if err := p.isMade(); err != nil {
+	if err := p.checkStep(); err != nil {
 		return nil, err
 	}
 	began, won := p.config.Machine.Clock.Elapsed(), false

@@ -190,7 +190,7 @@ func (l *Loop) gather(ctx context.Context, a *asking) ([]byte, error) {
 
 // unwitnessed returns what it means that a witness saw more: other nodes went on meanwhile, or the log was rolled back.
 func (l *Loop) unwitnessed(ctx context.Context, a *asking) error {
-	if err := l.isMoved(ctx, a.k); err != nil {
+	if err := l.checkCurrent(ctx, a.k); err != nil {
 		return err
 	}
 	return fmt.Errorf("%w: it has %d entries at %d ms: %v", ErrRolledBack, a.k.Size, a.k.Timestamp, a.behind)

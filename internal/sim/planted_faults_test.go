@@ -48,7 +48,7 @@ var all = []planted{
 	}},
 	{"the head is put before the tiles", []edit{
 		{"pass.go",
-			"	if err := errors.Join(p.isFrom(), p.hasObjects()); err != nil {",
+			"	if err := errors.Join(p.checkState(), p.checkObjects()); err != nil {",
 			"	if _, err := p.publish(ctx); err != nil {",
 		},
 	}},
@@ -201,19 +201,13 @@ var all = []planted{
 		{"swap.go", "	if err := p.descends(ctx, k, p.made.objects, p.heads.after); err != nil {", "	if false {"},
 	}},
 	{"an older text of the lock is taken", []edit{
-		{"loop.go",
-			"		if k.head() != before.head() && !follows(k.Size, k.Timestamp, before.head()) {",
-			"		if false {",
-		},
+		{"loop.go", "		if err := l.continues(k); err != nil {", "		if err := error(nil); err != nil {"},
 	}},
 	{"a text that was replaced is taken again", []edit{
 		{"loop.go", "	if text == l.seen.left {", "	if false {"},
 	}},
 	{"an older text is taken and nothing is compared", []edit{
-		{"loop.go",
-			"		if k.head() != before.head() && !follows(k.Size, k.Timestamp, before.head()) {",
-			"		if false {",
-		},
+		{"loop.go", "		if err := l.continues(k); err != nil {", "		if err := error(nil); err != nil {"},
 		{"seen.go", "	if l.isAccepted(k) {", "	if true {"},
 		{"swap.go", "	if err := p.descends(ctx, k, p.made.objects, p.heads.after); err != nil {", "	if false {"},
 	}},
@@ -393,10 +387,7 @@ var all = []planted{
 	}},
 	{"an older text is taken, and a state need not go on from the accepted one", []edit{
 		{"seen.go", "	if err := l.extends(ctx, k, accepted.head(), objects); err != nil || between == \"\" {", "	if true {"},
-		{"loop.go",
-			"		if k.head() != before.head() && !follows(k.Size, k.Timestamp, before.head()) {",
-			"		if false {",
-		},
+		{"loop.go", "		if err := l.continues(k); err != nil {", "		if err := error(nil); err != nil {"},
 	}},
 	{"a lock that is gone is made again, the engine lets it, and a start is never refused", []edit{
 		{"start.go",
@@ -423,10 +414,10 @@ var all = []planted{
 	}},
 	{"the checkpoint is put before the tiles", []edit{
 		{"pass.go",
-			"	if err := errors.Join(p.isFrom(), p.hasObjects()); err != nil {",
+			"	if err := errors.Join(p.checkState(), p.checkObjects()); err != nil {",
 			"	if head, err := p.signedHead(ctx, p.from, p.made.head, p.made.objects); err == nil {\n" +
 				"		if err := p.putCheckpoint(ctx, head); err != nil {\n			return nil, err\n		}\n	}\n" +
-				"	if err := errors.Join(p.isFrom(), p.hasObjects()); err != nil {",
+				"	if err := errors.Join(p.checkState(), p.checkObjects()); err != nil {",
 		},
 	}},
 	{"a restored object is not put", []edit{

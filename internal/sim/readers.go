@@ -54,7 +54,7 @@ func (w *world) reader() {
 
 // looksAt judges the head that a machine shows.
 func (w *world) looksAt(m *machine, now node.Snapshot, last *reading) {
-	w.isWhole(m, now.Head.Head)
+	w.judgeTree(m, now.Head.Head)
 	if now.Head.Head == last.shown {
 		return
 	}
@@ -82,7 +82,7 @@ func (w *world) asksNewest(m *machine, last *reading) {
 		if err != nil {
 			return
 		}
-		w.isWhole(m, head.Head)
+		w.judgeTree(m, head.Head)
 		w.judge.read(m, head.Head, string(head.Note), before)
 		if head.Timestamp > last.newest.Timestamp {
 			last.newest = head.Head
@@ -95,8 +95,8 @@ func (w *world) asksNewest(m *machine, last *reading) {
 	})
 }
 
-// isWhole judges whether the tree of a head that a reader gets is in the store, although janitors delete.
-func (w *world) isWhole(m *machine, head signer.Head) {
+// judgeTree judges whether the tree of a head that a reader gets is in the store, although janitors delete.
+func (w *world) judgeTree(m *machine, head signer.Head) {
 	if w.plan.Janitors && !w.excuses.missing {
 		// A reader may still read a head that it saw before.
 		w.judge.treeOf(head, fmt.Sprintf("%s shows a head whose tree is not whole", m.name))

@@ -72,7 +72,7 @@ func (l *levelFiles) Open(fd storage.FileDesc) (storage.Reader, error) {
 	}
 	content = content[:untorn(content)]
 	if fd.Type == storage.TypeManifest {
-		if err := l.isNewest(content); err != nil {
+		if err := l.checkNewest(content); err != nil {
 			_ = r.Close()
 			return nil, levelerrors.NewErrCorrupted(fd, err)
 		}
@@ -80,10 +80,10 @@ func (l *levelFiles) Open(fd storage.FileDesc) (storage.Reader, error) {
 	return levelJournal{bytes.NewReader(content), r}, nil
 }
 
-// isNewest returns an error unless the journal is there that a manifest names. After the rows of a journal are in a
+// checkNewest returns an error unless the journal is there that a manifest names. After the rows of a journal are in a
 // table, the manifest names the table and the next journal, and then the journal is deleted. So if the manifest has
 // lost that record, the journal that it names is missing. Before the first journal there is no table.
-func (l *levelFiles) isNewest(manifest []byte) error {
+func (l *levelFiles) checkNewest(manifest []byte) error {
 	number, err := journalIn(manifest)
 	if err != nil {
 		return err

@@ -195,7 +195,7 @@ func (s *Server) add(ctx context.Context, body []byte) answer {
 func (s *Server) decide(ctx context.Context, log *Log, text string, before state, r Request) (came answer, again bool) {
 	last, err := readState(text, log.Origin)
 	if err == nil {
-		err = isBehind(last, before)
+		err = checkNotBehind(last, before)
 	}
 	if err != nil {
 		return s.failed("state", log.Origin, err), false

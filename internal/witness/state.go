@@ -146,14 +146,14 @@ func (s *Server) newestSeen(origin string) state {
 func (s *Server) see(of state) {
 	s.mu.Lock()
 	defer s.mu.Unlock()
-	if before, ok := s.seen[of.origin]; !ok || isBehind(of, before) == nil {
+	if before, ok := s.seen[of.origin]; !ok || checkNotBehind(of, before) == nil {
 		s.seen[of.origin] = of
 	}
 }
 
-// isBehind returns an error if a state is older than one that was seen before the state was read, or has another tree
+// checkNotBehind returns an error if a state is older than one that was seen before the state was read, or has another tree
 // of the same size: it was rolled back, and cosigning from it would make a fork.
-func isBehind(last, before state) error {
+func checkNotBehind(last, before state) error {
 	if before.message == nil {
 		return nil
 	}
