@@ -119,14 +119,14 @@ func openArchive(ctx context.Context, n node) (*opened, error) {
 const archiveNotice = "This is an archive of a log that has ended. " +
 	"It takes no submissions, and its tree head is the last one that the log signed."
 
-// settleArchive fills in the settings of an archive, which has no key, no roots and no other stores.
-func (s *settings) settleArchive() error {
+// validateArchive fills in the settings of an archive, which has no key, no roots and no other stores.
+func (s *settings) validateArchive() error {
 	n := &s.node
 	if n.archive == "" {
 		return nil
 	}
 	for name, given := range map[string]string{"origin": n.origin, "signing-key": n.signingKey,
-		"signer-socket": n.signerAt, "roots": strings.Join(s.roots.Paths, ""), "store": n.store, "lock": n.register,
+		"signer-socket": n.signerAt, "roots": strings.Join(s.roots.Paths, ""), "store": n.store, "lock": n.lock,
 		"index": n.index} {
 		if given != "" {
 			return fmt.Errorf("--archive has everything of the log: remove --%s", name)
@@ -162,5 +162,5 @@ func checkArchive(n node) (string, error) {
 		return "", err
 	}
 	defer of.Close()
-	return fmt.Sprintf("%s, %d entries", n.archive, of.Figures().Entries), nil
+	return fmt.Sprintf("%s, %d entries", n.archive, of.Metrics().Entries), nil
 }

@@ -93,7 +93,7 @@ func TestSettings(t *testing.T) {
 		s.rules.Window.From.Year() != 2027 ||
 		s.node.guardState != "file:ct-log.guard" || s.node.latestHead != "ct-log.latest-head" ||
 		s.node.namedDay != "ct-log.day" || !s.node.isGuarded() || s.node.store != "folder:ct-log/objects" ||
-		s.node.register != "file:ct-log/register" || s.node.index != "leveldb:ct-log/index" {
+		s.node.lock != "file:ct-log/register" || s.node.index != "leveldb:ct-log/index" {
 		t.Errorf("%+v", s)
 	}
 	if s, err := parse(file(needed+"submitters 203.0.113.9/24=512, 2001:db8::7=9"), io.Discard); err != nil ||

@@ -13,32 +13,32 @@ import (
 	"wagtenib/internal/testutil"
 )
 
-// TestReadsGoOn has a log's register be missing, be locked by another process, and the file system be read-only.
+// TestReadsGoOn has a log's lock be missing, has another process lock its lock file, and has the file system be read-only.
 // Submissions are refused by name. Heads, tiles, entries and proofs are answered all the time. Afterwards submissions
 // are accepted again.
 func TestReadsGoOn(t *testing.T) {
 	t.Parallel()
 	for what, takes := range map[string]func(t *testing.T, disk string) (back func()){
-		"the register is away": func(t *testing.T, disk string) func() {
-			register := filepath.Join(disk, "register")
-			if err := os.Rename(register, register+".away"); err != nil {
+		"the lock is away": func(t *testing.T, disk string) func() {
+			lock := filepath.Join(disk, "register")
+			if err := os.Rename(lock, lock+".away"); err != nil {
 				t.Fatal(err)
 			}
 			return func() {
-				if err := os.Rename(register+".away", register); err != nil {
+				if err := os.Rename(lock+".away", lock); err != nil {
 					t.Fatal(err)
 				}
 			}
 		},
-		"the register is locked": func(t *testing.T, disk string) func() {
-			lock, err := os.Open(filepath.Join(disk, "register", "lock"))
+		"another process has the lock file": func(t *testing.T, disk string) func() {
+			taken, err := os.Open(filepath.Join(disk, "register", "lock"))
 			if err == nil {
-				err = syscall.Flock(int(lock.Fd()), syscall.LOCK_EX)
+				err = syscall.Flock(int(taken.Fd()), syscall.LOCK_EX)
 			}
 			if err != nil {
 				t.Fatal(err)
 			}
-			return func() { lock.Close() }
+			return func() { taken.Close() }
 		},
 		"the disk isn't written": func(t *testing.T, disk string) func() {
 			remounts := func(flags uintptr) {

@@ -82,7 +82,7 @@ func TestWhatCantBeOpened(t *testing.T) {
 		at.path("file/index"):            {"--index", "leveldb:" + at.path("file/index")},
 		"open " + at.path("none.pem"):    {"--signing-key", at.path("none.pem")},
 		"objects are at folder:PATH":     {"--store", "nowhere:x"},
-		"a register is at file:PATH":     {"--lock", "nowhere:x"},
+		"a lock is at file:PATH":         {"--lock", "nowhere:x"},
 		"an index is at leveldb:PATH":    {"--index", "nowhere:x"},
 	} {
 		whole := at.realWords("--signing-key", at.path("log.pem"))

@@ -117,9 +117,9 @@ func (c *checks) lookAtStores(s *settings) {
 		check    func(string) error
 	}{
 		{"store", s.node.store, stores.CheckObjects},
-		{"lock", s.node.register, stores.CheckRegister},
+		{"lock", s.node.lock, stores.CheckLock},
 		{"index", s.node.index, stores.CheckIndex},
-		{"guard-state", s.node.guardState, stores.CheckRegister},
+		{"guard-state", s.node.guardState, stores.CheckLock},
 	} {
 		if address.text == "" {
 			continue

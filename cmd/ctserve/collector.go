@@ -19,8 +19,8 @@ const (
 	maxHeld = 768 << 20
 )
 
-// settleCollector sets the limits of the garbage collector, unless the environment sets them (GOGC, GOMEMLIMIT).
-func settleCollector() {
+// setCollectorLimits sets the limits of the garbage collector, unless the environment sets them (GOGC, GOMEMLIMIT).
+func setCollectorLimits() {
 	if os.Getenv("GOGC") == "" {
 		boundGarbage()
 	}

@@ -34,7 +34,7 @@ func TestCollectorOfProcess(t *testing.T) {
 	if os.Getenv(collectorKey) == "" {
 		t.Skip("TestCollector starts it")
 	}
-	settleCollector()
+	setCollectorLimits()
 	wantHeld := int64(maxHeld)
 	if os.Getenv("GOMEMLIMIT") != "" {
 		wantHeld = 5 << 30

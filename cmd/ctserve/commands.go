@@ -62,7 +62,7 @@ func commandFlags(name, page string, faults io.Writer) *flag.FlagSet {
 
 // parseWords reads words that are flags, up to the first other one. The error wraps flag.ErrHelp or errUsage.
 func parseWords(flags *flag.FlagSet, words []string) error {
-	err := settingsfile.ParseWords(flags, words)
+	err := settingsfile.ParseArguments(flags, words)
 	if err != nil && !errors.Is(err, flag.ErrHelp) {
 		return fmt.Errorf("%w: %v", errUsage, err)
 	}

@@ -47,7 +47,7 @@ func fill(t *testing.T, folder string, but int64) (room func()) {
 	}
 }
 
-// TestFullDisk: a disk that is full except for a few bytes, below a whole log (objects, register, index, the guard's
+// TestFullDisk: a disk that is full except for a few bytes, below a whole log (objects, lock, index, the guard's
 // state, the latest head). Submissions are refused by name, and reads are answered. After there is space again,
 // submissions are accepted. What was answered is in its place.
 func TestFullDisk(t *testing.T) {

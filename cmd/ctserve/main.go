@@ -55,7 +55,7 @@ type opener func(context.Context, node) (*opened, error)
 const looksEvery = time.Second
 
 func main() {
-	settleCollector()
+	setCollectorLimits()
 	os.Exit(run(os.Args[1:], os.Stderr, openNode))
 }
 

@@ -69,11 +69,11 @@ func openStores(ctx context.Context, n node) (s *shared, err error) {
 	if current != nil {
 		s.Current = s.calls.Current(current)
 	}
-	lock, err := stores.RegisterAt(ctx, n.register)
+	lock, err := stores.LockAt(ctx, n.lock)
 	if err != nil {
 		return s, err
 	}
-	s.Lock, s.closers = s.calls.Register(lock), append(s.closers, lock.Close)
+	s.Lock, s.closers = s.calls.Lock(lock), append(s.closers, lock.Close)
 	index, err := indexAt(ctx, n.index)
 	if err != nil {
 		return s, err

@@ -36,9 +36,9 @@ type settings struct {
 type node struct {
 	origin, signingKey string
 	// guard is whether the signer has a guard. nil means that no setting says so, and then it has one.
-	guard                          *bool
-	guardState, signerAt           string
-	folder, store, register, index string
+	guard                      *bool
+	guardState, signerAt       string
+	folder, store, lock, index string
 	// archive is the folder of an archive that is served in place of a log. It is empty for a log.
 	archive                          string
 	latestHead, namedDay             string
@@ -61,7 +61,7 @@ func (n *node) isGuarded() bool { return n.guard == nil || *n.guard }
 
 // isAway reports whether a store is not a folder or file of this machine.
 func (n *node) isAway() bool {
-	return !strings.HasPrefix(n.store, "folder:") || !strings.HasPrefix(n.register, "file:") ||
+	return !strings.HasPrefix(n.store, "folder:") || !strings.HasPrefix(n.lock, "file:") ||
 		!strings.HasPrefix(n.index, "leveldb:")
 }
 
@@ -98,7 +98,7 @@ func parseTo(flags *flag.FlagSet, words []string) (*settings, error) {
 	s.node.paceFlags(flags)
 	s.node.witnessFlags(flags)
 	s.node.peers.flags(flags)
-	if err := fileRules.Settle(flags, words, s.settle, errUsage); err != nil {
+	if err := fileRules.ParseAndValidate(flags, words, s.validate, errUsage); err != nil {
 		return nil, err
 	}
 	return s, nil
@@ -198,7 +198,7 @@ func (n *node) storeFlags(flags *flag.FlagSet) {
 	flags.StringVar(&n.folder, "folder", "ct-log",
 		"`folder` for the objects, the lock and the index, if no other addresses are given")
 	flags.StringVar(&n.store, "store", "", "`address` of the objects: folder:PATH, s3://HOST/BUCKET")
-	flags.StringVar(&n.register, "lock", "",
+	flags.StringVar(&n.lock, "lock", "",
 		"`address` of the lock, which has the log's newest state: "+
 			"file:PATH, etcd://HOST:PORT/PREFIX, postgres://HOST/DATABASE?log=NAME")
 	flags.StringVar(&n.index, "index", "",

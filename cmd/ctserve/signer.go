@@ -65,7 +65,7 @@ func runSigner(given []string, from io.Reader, answers, to io.Writer) int {
 	openWithin := flags.Duration("open-timeout", signsWithin, "time within which the guard's state must open")
 	listen := flags.String("listen", "",
 		"`path` of a socket for nodes of this user or group. Without it, requests come over standard input")
-	if status, ends := settingsfile.Ends(settingsfile.ParseWords(flags, given), to); ends {
+	if status, ends := settingsfile.Ends(settingsfile.ParseArguments(flags, given), to); ends {
 		return status
 	}
 	if flags.NArg() > 0 || *key == "" {
@@ -88,7 +88,7 @@ func serveSigner(keyAt string, guard bool, stateAt string, create bool, openWith
 	}
 	var s signer.Signer = key
 	if guard {
-		state, err := stores.RegisterAt(ctx, stateAt)
+		state, err := stores.LockAt(ctx, stateAt)
 		if err != nil {
 			return err
 		}

@@ -140,7 +140,7 @@ func flagsOf(name, help string, out io.Writer) *flag.FlagSet {
 func parseFlags(flags *flag.FlagSet, words []string, count int, out io.Writer) ([]string, error) {
 	var others []string
 	for {
-		if err := settingsfile.ParseWords(flags, words); errors.Is(err, flag.ErrHelp) {
+		if err := settingsfile.ParseArguments(flags, words); errors.Is(err, flag.ErrHelp) {
 			fmt.Fprintf(out, "%s:\n", flags.Name())
 			flags.SetOutput(out)
 			flags.PrintDefaults()

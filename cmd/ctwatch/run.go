@@ -113,7 +113,7 @@ func (s *settings) watch(ctx context.Context, out io.Writer, lines *httpserver.L
 		return err
 	}
 	defer func() { err = errors.Join(err, w.store.Close()) }()
-	if err := errors.Join(w.register(), w.store.UseList(s.logs.list, s.logs.listKey)); err != nil {
+	if err := errors.Join(w.lock(), w.store.UseList(s.logs.list, s.logs.listKey)); err != nil {
 		return err
 	}
 	var keeper watch.Keeper = w.store
@@ -152,8 +152,8 @@ func (w *watching) wake() {
 	}
 }
 
-// register makes the outputs known to the store.
-func (w *watching) register() error {
+// lock makes the outputs known to the store.
+func (w *watching) lock() error {
 	var names []string
 	for _, output := range w.outputs {
 		if slices.Contains(names, output.Name()) {

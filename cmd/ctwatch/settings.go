@@ -67,7 +67,7 @@ func parse(words []string, out io.Writer) (*settings, error) {
 	s := &settings{}
 	flags := flagsOf("run", "", out)
 	s.define(flags)
-	err := fileRules.Settle(flags, words, s.validate, errUsage)
+	err := fileRules.ParseAndValidate(flags, words, s.validate, errUsage)
 	if errors.Is(err, flag.ErrHelp) {
 		fmt.Fprint(out, "ctwatch run follows logs, and alerts to each certificate for the watched names.\n"+
 			"Each setting except --config and --once is a flag, or a line 'name value' in the file that --config "+

@@ -177,15 +177,15 @@ func TestListenerThatFails(t *testing.T) {
 	}
 }
 
-// closing is a register that counts how often it is closed.
+// closing is a lock that counts how often it is closed.
 type closing struct {
-	stores.Register
+	stores.Lock
 	closed int
 }
 
 func (c *closing) Close() error {
 	c.closed++
-	return c.Register.Close()
+	return c.Lock.Close()
 }
 
 // TestOpenedOnce: a log's state is opened once, however often the logs are reloaded, and closed at the end.
@@ -198,15 +198,15 @@ func TestOpenedOnce(t *testing.T) {
 	must(t, err)
 	must(t, w.takeUp(s))
 	of, found := s.log("a.example")
-	if w.registers["a.example"] == nil || !found {
+	if w.locks["a.example"] == nil || !found {
 		t.Fatal("it isn't open")
 	}
-	only := &closing{Register: w.registers["a.example"]}
-	w.registers["a.example"] = only
+	only := &closing{Lock: w.locks["a.example"]}
+	w.locks["a.example"] = only
 	must(t, w.takeUp(s))
 	log, err := w.log(ctx, s, of)
 	must(t, err)
-	if log.State != only || w.registers["a.example"] != only {
+	if log.State != only || w.locks["a.example"] != only {
 		t.Errorf("%T is opened beside it", log.State)
 	}
 	if w.close(); only.closed != 1 {
@@ -223,13 +223,13 @@ func TestRemovedLogIsClosed(t *testing.T) {
 	w, err := open(s, httpserver.NewLines(io.Discard))
 	must(t, err)
 	must(t, w.takeUp(s))
-	removed := &closing{Register: w.registers["a.example"]}
-	w.registers["a.example"] = removed
+	removed := &closing{Lock: w.locks["a.example"]}
+	w.locks["a.example"] = removed
 	without := *s
 	without.logs = nil
 	must(t, w.takeUp(&without))
-	if removed.closed != 1 || len(w.registers) != 0 {
-		t.Errorf("closed %d times, and %d are open", removed.closed, len(w.registers))
+	if removed.closed != 1 || len(w.locks) != 0 {
+		t.Errorf("closed %d times, and %d are open", removed.closed, len(w.locks))
 	}
 	must(t, w.takeUp(s))
 	if w.close(); removed.closed != 1 {
@@ -237,8 +237,8 @@ func TestRemovedLogIsClosed(t *testing.T) {
 	}
 }
 
-// standing is a register that gives no answer.
-type standing struct{ stores.Register }
+// standing is a lock that gives no answer.
+type standing struct{ stores.Lock }
 
 func (standing) Read(ctx context.Context) (string, error) {
 	<-ctx.Done()
@@ -250,7 +250,7 @@ func (standing) Create(ctx context.Context, _ string) error {
 	return ctx.Err()
 }
 
-// TestOpenWithin: a register that does not answer is waited for until the timeout, when states are created and when
+// TestOpenWithin: a lock that does not answer is waited for until the timeout, when states are created and when
 // they are opened.
 func TestOpenWithin(t *testing.T) {
 	p, _ := ofOneLog(t)
@@ -258,7 +258,7 @@ func TestOpenWithin(t *testing.T) {
 	must(t, err)
 	w, err := open(s, httpserver.NewLines(io.Discard))
 	must(t, err)
-	w.registers["a.example"] = standing{}
+	w.locks["a.example"] = standing{}
 	for what, opens := range map[string]func() error{"takes up": func() error { return w.takeUp(s) },
 		"makes": func() error { return w.create(s, httpserver.NewLines(io.Discard)) }} {
 		if err := opens(); !errors.Is(err, context.DeadlineExceeded) {
@@ -309,9 +309,9 @@ func ofOneLog(t *testing.T) (p place, signed func(size int) []byte) {
 	return p, signed
 }
 
-// held is a register that can be made to wait in Read.
+// held is a lock that can be made to wait in Read.
 type held struct {
-	stores.Register
+	stores.Lock
 	waits      atomic.Bool
 	asked, may chan struct{}
 }
@@ -325,10 +325,10 @@ func (h *held) Read(ctx context.Context) (string, error) {
 			return "", ctx.Err()
 		}
 	}
-	return h.Register.Read(ctx)
+	return h.Lock.Read(ctx)
 }
 
-// startedOver runs a witness of one log, whose state's register answers the next request only once it may.
+// startedOver runs a witness of one log, whose state's lock answers the next request only once it may.
 func (p place) startedOver(more ...string) (*process, *held) {
 	p.t.Helper()
 	s, err := parse(p.words(more...), io.Discard)
@@ -339,9 +339,9 @@ func (p place) startedOver(more ...string) (*process, *held) {
 		w, err := open(s, lines)
 		must(p.t, err)
 		defer w.close()
-		of.Register, err = stores.RegisterOf(testutil.Limited(p.t, testutil.Longest), s.state, "a.example")
+		of.Lock, err = stores.LockOf(testutil.Limited(p.t, testutil.Longest), s.state, "a.example")
 		must(p.t, err)
-		w.registers["a.example"] = of
+		w.locks["a.example"] = of
 		return statusOf(w.serve(s, lines, signals), lines)
 	})
 	of.waits.Store(true)
@@ -375,7 +375,7 @@ func TestEndAnswers(t *testing.T) {
 	}
 }
 
-// TestEndIsLate: an end takes at most its timeout, even if a state's register does not answer. Requests that still wait
+// TestEndIsLate: an end takes at most its timeout, even if a state's lock does not answer. Requests that still wait
 // then are not answered, which is logged, with status 1.
 func TestEndIsLate(t *testing.T) {
 	p, ofA := ofOneLog(t)

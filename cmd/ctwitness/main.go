@@ -84,10 +84,10 @@ func statusOf(err error, lines *httpserver.Lines) int {
 	return 0
 }
 
-// running is a witness, with the registers that it opened.
+// running is a witness, with the locks that it opened.
 type running struct {
-	server    *witness.Server
-	registers map[string]stores.Register
+	server *witness.Server
+	locks  map[string]stores.Lock
 }
 
 func open(s *settings, lines *httpserver.Lines) (*running, error) {
@@ -99,30 +99,30 @@ func open(s *settings, lines *httpserver.Lines) (*running, error) {
 	if err != nil {
 		return nil, err
 	}
-	return &running{server, map[string]stores.Register{}}, nil
+	return &running{server, map[string]stores.Lock{}}, nil
 }
 
-// close closes the registers.
+// close closes the locks.
 func (w *running) close() {
-	for _, register := range w.registers {
-		_ = register.Close()
+	for _, lock := range w.locks {
+		_ = lock.Close()
 	}
 }
 
 // log opens a log's state. One that was opened before stays as it is.
 func (w *running) log(ctx context.Context, s *settings, of logSetting) (witness.Log, error) {
-	log := witness.Log{Origin: of.origin, Keys: of.keys, State: w.registers[of.origin]}
+	log := witness.Log{Origin: of.origin, Keys: of.keys, State: w.locks[of.origin]}
 	if path := s.accepted[of.origin]; path != "" {
 		log.Accepted = func() (uint64, [32]byte, error) { return witness.AcceptedBy(path, of.origin, of.keys) }
 	}
 	if log.State != nil {
 		return log, nil
 	}
-	register, err := stores.RegisterOf(ctx, s.state, of.origin)
+	lock, err := stores.LockOf(ctx, s.state, of.origin)
 	if err != nil {
 		return log, err
 	}
-	w.registers[of.origin], log.State = register, register
+	w.locks[of.origin], log.State = lock, lock
 	return log, nil
 }
 
@@ -167,13 +167,13 @@ func (w *running) takeUp(s *settings) error {
 	return nil
 }
 
-// closeOthers closes the registers of logs that the settings don't have any more. A request of such a log that is under
+// closeOthers closes the locks of logs that the settings don't have any more. A request of such a log that is under
 // way may fail.
 func (w *running) closeOthers(s *settings) {
-	for origin, register := range w.registers {
+	for origin, lock := range w.locks {
 		if _, stays := s.log(origin); !stays {
-			_ = register.Close()
-			delete(w.registers, origin)
+			_ = lock.Close()
+			delete(w.locks, origin)
 		}
 	}
 }
@@ -211,7 +211,7 @@ func (w *running) serve(s *settings, lines *httpserver.Lines, signals <-chan os.
 		if late == nil {
 			continue
 		}
-		// (so that what is asked for them ends, too, which the registers' end waits for)
+		// (so that what is asked for them ends, too, which the locks' end waits for)
 		_ = server.Close()
 		if err == nil {
 			err = fmt.Errorf("ctwitness: waiting requests were not answered in time: %w", late)

@@ -318,7 +318,7 @@ func TestWords(t *testing.T) {
 		{"", []string{"--name", "a+b"}, 1, "plus sign"},
 		{"", []string{"--listen", "127.0.0.1:x"}, 1, "listen"},
 		{"", []string{"--operator-listen", "127.0.0.1:x"}, 1, "listen"},
-		{a, []string{"--state", "s3://x/y"}, 1, "a register is at"},
+		{a, []string{"--state", "s3://x/y"}, 1, "a lock is at"},
 	} {
 		p.write("settings", string(base)+test.settings+"\n")
 		words := p.words(test.words...)

@@ -79,14 +79,14 @@ func parse(words []string, help io.Writer) (*settings, error) {
 	})
 	flags.BoolVar(&s.verifierKey, "verifier-key", false,
 		"print the key by which logs and clients know this witness, and exit")
-	if err := fileRules.Settle(flags, words, s.settle, errUsage); err != nil {
+	if err := fileRules.ParseAndValidate(flags, words, s.validate, errUsage); err != nil {
 		return nil, err
 	}
 	return s, nil
 }
 
-// settle checks which settings are missing or do not fit.
-func (s *settings) settle() error {
+// validate checks which settings are missing or do not fit.
+func (s *settings) validate() error {
 	for _, needed := range []struct{ name, value string }{{"name", s.name}, {"key", s.key}} {
 		if needed.value == "" {
 			return fmt.Errorf("--%s is missing", needed.name)

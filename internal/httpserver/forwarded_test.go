@@ -76,7 +76,7 @@ func TestTakerChecks(t *testing.T) {
 		refused(t, "forwarded", submits(f.front.Nodes()), http.StatusBadRequest, refusal)
 		other.err = errors.New("it does not answer")
 		refused(t, "not answered elsewhere", submits(f.front), http.StatusBadRequest, refusal)
-		if size := f.log.Figures().Entries; size != 0 {
+		if size := f.log.Metrics().Entries; size != 0 {
 			t.Errorf("%s: the log has %d entries", refusal, size)
 		}
 	}

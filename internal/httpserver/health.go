@@ -32,7 +32,7 @@ func (f *Front) unready(ctx context.Context) error {
 	unready := func(name string, why error) error {
 		return refusal{status: http.StatusServiceUnavailable, name: name, after: 1, why: why}
 	}
-	figures := f.log.Figures()
+	figures := f.log.Metrics()
 	switch {
 	case f.ending.Load():
 		return unready("ended", nil)
@@ -56,10 +56,10 @@ func (f *Front) unready(ctx context.Context) error {
 func (f *Front) Tell(ctx context.Context, every time.Duration) {
 	timer := time.NewTicker(every)
 	defer timer.Stop()
-	var before loginterface.Figures
+	var before loginterface.Metrics
 	seenMore := map[string]bool{}
 	for {
-		now := f.log.Figures()
+		now := f.log.Metrics()
 		f.tellWitnesses(seenMore, now.Witnesses)
 		f.tellChanges(&before, &now)
 		before = now
@@ -82,7 +82,7 @@ func (f *Front) tellWitnesses(seenMore map[string]bool, witnesses []loginterface
 }
 
 // tellChanges logs what is another thing than at the look before.
-func (f *Front) tellChanges(before, now *loginterface.Figures) {
+func (f *Front) tellChanges(before, now *loginterface.Metrics) {
 	if now.Fault != before.Fault {
 		f.tellOf("fault", before.Fault, now.Fault)
 	}
@@ -95,14 +95,14 @@ func (f *Front) tellChanges(before, now *loginterface.Figures) {
 	if now.Damage != before.Damage || before.Damage != "" && isOther {
 		f.tellOf("damage", before.Damage, now.Damage, "tiles", now.Damaged, "issuers", now.DamagedIssuers)
 	}
-	if now.TendFailures != before.TendFailures {
-		f.options.Lines.Warn("tend", "failures", now.TendFailures-before.TendFailures, "detail", now.TendFailure)
+	if now.JanitorFailures != before.JanitorFailures {
+		f.options.Lines.Warn("tend", "failures", now.JanitorFailures-before.JanitorFailures, "detail", now.JanitorFailure)
 	}
 	if now.WrongSignatures != before.WrongSignatures {
 		f.options.Lines.Error("wrong-signature", "replies", now.WrongSignatures-before.WrongSignatures)
 	}
-	if now.Mended != before.Mended {
-		f.options.Lines.Warn("made-again", "objects", now.Mended-before.Mended, "last", now.LastMended)
+	if now.Repaired != before.Repaired {
+		f.options.Lines.Warn("made-again", "objects", now.Repaired-before.Repaired, "last", now.LastRepaired)
 	}
 }
 

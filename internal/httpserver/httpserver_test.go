@@ -401,7 +401,7 @@ func TestReadOnly(t *testing.T) {
 			t.Errorf("%s: the connection is kept, with a body that nobody read", path)
 		}
 	}
-	if queue := f.log.Figures().Queue; queue != 0 {
+	if queue := f.log.Metrics().Queue; queue != 0 {
 		t.Errorf("%d submissions wait", queue)
 	}
 	for _, path := range []string{"/checkpoint", "/ct/v1/get-entries?start=0&end=1"} {

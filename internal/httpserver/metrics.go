@@ -128,8 +128,8 @@ var (
 			"look (complete another node's step), step (make it), stage (store its batch), swap, put (store its objects), "+
 			"place (add to the index), sign (its head and SCTs), answer, delete. put and place run at the same time.",
 		[]string{"phase"}, nil)
-	descBatches = described("ctserve_step_submissions", "Number of submissions of a step that the lock took.")
-	descBundles = described("ctserve_deleted_batches_total",
+	descBatches        = described("ctserve_step_submissions", "Number of submissions of a step that the lock took.")
+	descDeletedBatches = described("ctserve_deleted_batches_total",
 		"Staged batches that were deleted because nothing needs them.")
 	descStaged  = described("ctserve_staged_batches", "Staged batches in the store when they were last listed.")
 	descTending = described("ctserve_janitor_failures_total",
@@ -138,7 +138,7 @@ var (
 		"Number of entries up to which all partial tiles were deleted, as far as this node knows.")
 	descReadNext = described("ctserve_scrub_next_tile", "Index of the data tile (256 entries) that is checked next.")
 	descIssuers  = described("ctserve_damaged_issuers", "Issuers that are missing or wrong, by the last check.")
-	descMended   = described("ctserve_repaired_objects_total", "Objects that were missing or wrong, and were made again.")
+	descRepaired = described("ctserve_repaired_objects_total", "Objects that were missing or wrong, and were made again.")
 	descLag      = prometheus.NewDesc("ctserve_witness_lag",
 		"Heads that a witness was asked to cosign since it last cosigned one.", []string{"witness"}, nil)
 	descCosigned = prometheus.NewDesc("ctserve_witness_cosignatures_total", "Heads that a witness cosigned.",
@@ -158,7 +158,7 @@ func (c figures) Describe(to chan<- *prometheus.Desc) { prometheus.DescribeByCol
 func (c figures) Collect(to chan<- prometheus.Metric) {
 	// (this reads the newest head, which the figures describe)
 	unready := c.front.unready(context.Background())
-	f := c.front.log.Figures()
+	f := c.front.log.Metrics()
 	values := collected{to}
 	values.state(f, unready == nil)
 	if delay := c.front.options.About.MaxMergeDelay; delay > 0 {
@@ -195,7 +195,7 @@ func (c collected) flag(of *prometheus.Desc, is bool, labels ...string) {
 }
 
 // state collects what the log is, and whether it accepts submissions.
-func (c collected) state(f loginterface.Figures, isReady bool) {
+func (c collected) state(f loginterface.Metrics, isReady bool) {
 	c.gauge(descEntries, float64(f.Entries))
 	c.gauge(descHeadAge, f.HeadAge.Seconds())
 	c.gauge(descAhead, float64(f.Unpublished))
@@ -208,13 +208,13 @@ func (c collected) state(f loginterface.Figures, isReady bool) {
 }
 
 // work collects what steps did.
-func (c collected) work(f loginterface.Figures) {
+func (c collected) work(f loginterface.Metrics) {
 	c.count(descSteps, f.Steps)
 	c.count(descLost, f.LostSwaps)
 	c.count(descUnknown, f.Unknown)
 	c.count(descRepeats, f.Repeats)
 	c.count(descHelped, f.Helped)
-	c.count(descHandedOver, f.HandedOver)
+	c.count(descHandedOver, f.Forwarded)
 	c.count(descSigner, f.SignerStarts)
 	c.count(descWrong, f.WrongSignatures)
 	c.count(descWritten, f.Written)
@@ -229,22 +229,22 @@ func (c collected) work(f loginterface.Figures) {
 }
 
 // upkeep collects what was deleted, checked and repaired.
-func (c collected) upkeep(f loginterface.Figures) {
-	c.count(descSwept, f.Swept)
-	c.count(descSweptHeads, f.SweptHeads)
-	c.count(descScrubbed, f.Scrubbed)
+func (c collected) upkeep(f loginterface.Metrics) {
+	c.count(descSwept, f.DeletedTiles)
+	c.count(descSweptHeads, f.DeletedHeads)
+	c.count(descScrubbed, f.RereadTiles)
 	c.gauge(descDamaged, float64(f.Damaged))
-	c.count(descBundles, f.SweptBundles)
+	c.count(descDeletedBatches, f.DeletedBatches)
 	c.gauge(descStaged, float64(f.Staged))
-	c.count(descTending, f.TendFailures)
-	c.gauge(descSweptTo, float64(f.SweptTo))
+	c.count(descTending, f.JanitorFailures)
+	c.gauge(descSweptTo, float64(f.DeletedTo))
 	c.gauge(descReadNext, float64(f.ReadNext))
 	c.gauge(descIssuers, float64(f.DamagedIssuers))
-	c.count(descMended, f.Mended)
+	c.count(descRepaired, f.Repaired)
 }
 
 // witnesses collects what each witness did.
-func (c collected) witnesses(f loginterface.Figures) {
+func (c collected) witnesses(f loginterface.Metrics) {
 	for _, w := range f.Witnesses {
 		c.gauge(descLag, float64(w.Missed), w.Name)
 		c.count(descCosigned, w.Cosigned, w.Name)

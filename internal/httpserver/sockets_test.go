@@ -171,7 +171,7 @@ func TestUnclearRequests(t *testing.T) {
 			t.Errorf("%s: %v, not %v", test.what, statuses, test.statuses)
 		}
 	}
-	if size := f.log.Figures().Entries; size != 0 {
+	if size := f.log.Metrics().Entries; size != 0 {
 		t.Errorf("%d entries came of it", size)
 	}
 }
@@ -275,7 +275,7 @@ func TestServerEnds(t *testing.T) {
 	fmt.Fprintf(half, "GET /healthz HT")
 	body := fakelog.Submission(f.issue(false))
 	fmt.Fprintf(waits, "POST /ct/v1/add-chain HTTP/1.1\r\nHost: log\r\nContent-Length: %d\r\n\r\n%s", len(body), body)
-	for f.log.Figures().Queue == 0 || f.front.uses.connections.open.Load() < 4 {
+	for f.log.Metrics().Queue == 0 || f.front.uses.connections.open.Load() < 4 {
 		time.Sleep(time.Millisecond)
 	}
 	f.front.Refuse()
@@ -307,7 +307,7 @@ func TestServerEndsWithinItsBound(t *testing.T) {
 	waits := dial(t, address)
 	body := fakelog.Submission(f.issue(false))
 	fmt.Fprintf(waits, "POST /ct/v1/add-chain HTTP/1.1\r\nHost: log\r\nContent-Length: %d\r\n\r\n%s", len(body), body)
-	for f.log.Figures().Queue == 0 {
+	for f.log.Metrics().Queue == 0 {
 		time.Sleep(time.Millisecond)
 	}
 	ctx, cancel := context.WithTimeout(context.Background(), 50*time.Millisecond)
@@ -333,7 +333,7 @@ func TestSubmissionsWaitLongerThanRequests(t *testing.T) {
 			"%d\r\n\r\n%s", len(body), body)
 		came := make(chan []int, 1)
 		go func() { came <- answersOn(t, connection) }()
-		for len(came) == 0 && f.log.Figures().Queue == 0 {
+		for len(came) == 0 && f.log.Metrics().Queue == 0 {
 			time.Sleep(time.Millisecond)
 		}
 		if len(came) == 0 {
@@ -358,7 +358,7 @@ func TestClientsThatGo(t *testing.T) {
 	connection := dial(t, address)
 	fmt.Fprintf(connection, "POST /ct/v1/add-chain HTTP/1.1\r\nHost: log\r\nContent-Length: %d\r\n\r\n%s",
 		len(body), body)
-	for f.log.Figures().Queue == 0 {
+	for f.log.Metrics().Queue == 0 {
 		time.Sleep(time.Millisecond)
 	}
 	if f.front.uses.waiting.used.Load() != int64(len(body)) {

@@ -105,7 +105,7 @@ func TestChainsAreRefusedByName(t *testing.T) {
 		w := f.do("POST", "/ct/v1/"+test.path, fakelog.Submission(test.chain...))
 		refused(t, test.name, w, 400, test.name)
 	}
-	if size := f.log.Figures().Entries; size != 0 {
+	if size := f.log.Metrics().Entries; size != 0 {
 		t.Errorf("%d entries came of them", size)
 	}
 }
@@ -232,7 +232,7 @@ func TestFullQueue(t *testing.T) {
 			answers <- f.do("POST", "/ct/v1/add-chain", body)
 		}()
 	}
-	for f.log.Figures().Queue < 3 {
+	for f.log.Metrics().Queue < 3 {
 		time.Sleep(time.Millisecond)
 	}
 	w := f.do("POST", "/ct/v1/add-chain", fakelog.Submission(f.issue(false)))

@@ -342,7 +342,7 @@ func TestContinuesAfterAKillAtEachWrite(t *testing.T) {
 				served, err := logarchive.Open(testutil.Limited(t, testutil.Longest), own.folder)
 				switch {
 				case err == nil:
-					if size := served.Figures().Entries; size != 600 && (begin == "" || size != 300) {
+					if size := served.Metrics().Entries; size != 600 && (begin == "" || size != 300) {
 						t.Errorf("an archive of %d entries is served", size)
 					}
 					served.Close()

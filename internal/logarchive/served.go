@@ -211,7 +211,7 @@ func (s *Served) IndexOf(ctx context.Context, leafHash [32]byte) (uint64, error)
 // End is loginterface.Log's. Nothing waits.
 func (s *Served) End(context.Context) error { return nil }
 
-// Figures are loginterface.Log's.
-func (s *Served) Figures() loginterface.Figures {
-	return loginterface.Figures{Entries: s.head.TreeSize, HeadAge: time.Since(time.UnixMilli(int64(s.head.Timestamp)))}
+// Metrics are loginterface.Log's.
+func (s *Served) Metrics() loginterface.Metrics {
+	return loginterface.Metrics{Entries: s.head.TreeSize, HeadAge: time.Since(time.UnixMilli(int64(s.head.Timestamp)))}
 }

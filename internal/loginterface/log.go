@@ -22,7 +22,7 @@ var (
 	ErrEnded = errors.New("log: ended")
 	// ErrClock: the machine's clock isn't where it was expected, and nothing is stepped until it is.
 	ErrClock = errors.New("log: the clock is wrong")
-	// ErrStore: a store, the register, the step or the signer doesn't answer, or gives what can't be.
+	// ErrStore: a store, the lock, the step or the signer doesn't answer, or gives what can't be.
 	ErrStore = errors.New("log: a store failed or is damaged")
 )
 
@@ -55,8 +55,8 @@ type Head struct {
 	Signature []byte
 }
 
-// Figures are what an operator looks at. Those that count, count since the start of the process.
-type Figures struct {
+// Metrics are what an operator looks at. Those that count, count since the start of the process.
+type Metrics struct {
 	// Queue is how many submissions wait, and MaxQueue at how many no more is taken.
 	Queue, MaxQueue int
 	// Entries is the size of the newest published head, and HeadAge its age by the machine's clock.
@@ -78,7 +78,7 @@ type Rounds struct {
 	Unpublished uint64
 	SinceRound  time.Duration
 	// Steps counts swaps that were won, LostSwaps those that another node was faster with, Unknown those whose outcome
-	// had to be settled by reading the register.
+	// had to be settled by reading the lock.
 	Steps, LostSwaps, Unknown uint64
 	// Written counts the bytes that steps put, in their bundles and as objects.
 	Written uint64
@@ -90,8 +90,8 @@ type Rounds struct {
 // Answers are the figures of what a node does without a step of its own, and of its signer.
 type Answers struct {
 	// Repeats counts submissions that were answered with an existing entry. Helped counts the heads of other nodes that
-	// this node published. HandedOver counts submissions that another node answered.
-	Repeats, Helped, HandedOver uint64
+	// this node published. Forwarded counts submissions that another node answered.
+	Repeats, Helped, Forwarded uint64
 	// SignerStarts counts how often the signer was started, or was found, and WrongSignatures how many of its replies
 	// had a wrong signature.
 	SignerStarts, WrongSignatures uint64
@@ -99,19 +99,19 @@ type Answers struct {
 
 // Janitor are the figures of what is deleted and read again beside the node.
 type Janitor struct {
-	// Swept counts deleted partial tiles, SweptHeads deleted old heads, and Scrubbed data tiles that were read again
+	// DeletedTiles counts deleted partial tiles, DeletedHeads deleted old heads, and RereadTiles data tiles that were read again
 	// and were right.
-	Swept, SweptHeads, Scrubbed uint64
-	// SweptBundles counts bundles of steps that were deleted since nobody needs them, and Staged is how many there were
+	DeletedTiles, DeletedHeads, RereadTiles uint64
+	// DeletedBatches counts bundles of steps that were deleted since nobody needs them, and Staged is how many there were
 	// when they were listed last.
-	SweptBundles, Staged uint64
-	// TendFailures counts what failed of sweeping, which is tried again, and TendFailure is the last of it, in one
+	DeletedBatches, Staged uint64
+	// JanitorFailures counts what failed of sweeping, which is tried again, and JanitorFailure is the last of it, in one
 	// line.
-	TendFailures uint64
-	TendFailure  string
-	// SweptTo is up to how many entries no partial tile is left below the full ones, by what this node knows, and
+	JanitorFailures uint64
+	JanitorFailure  string
+	// DeletedTo is up to how many entries no partial tile is left below the full ones, by what this node knows, and
 	// ReadNext is the data tile that it reads again next.
-	SweptTo, ReadNext uint64
+	DeletedTo, ReadNext uint64
 }
 
 // Damages are the figures of objects that are not the log's.
@@ -122,10 +122,10 @@ type Damages struct {
 	// DamagedIssuers is how many issuers are missing or have another content, by what was read last.
 	DamagedIssuers int
 	Damage         string
-	// Mended counts objects of the log that were missing or had another content and were made again, and LastMended
+	// Repaired counts objects of the log that were missing or had another content and were made again, and LastRepaired
 	// says which was last.
-	Mended     uint64
-	LastMended string
+	Repaired     uint64
+	LastRepaired string
 }
 
 // Faulting are the figures of what keeps the log from going on.
@@ -184,6 +184,6 @@ type Log interface {
 	IndexOf(ctx context.Context, leafHash [32]byte) (uint64, error)
 	// End takes no more, publishes, and answers who waits, within the context.
 	End(ctx context.Context) error
-	// Figures are those of this moment.
-	Figures() Figures
+	// Metrics are those of this moment.
+	Metrics() Metrics
 }

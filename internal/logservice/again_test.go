@@ -21,7 +21,7 @@ func TestAgainAtANodeWhoseSignerIsBehind(t *testing.T) {
 		due, err := first.Submit(loginterface.Forwarded(limited(t)), entryOf(2*n+1))
 		must(t, err)
 		eventually(t, "the second node knows the head of the first", func() bool {
-			return second.Figures().Entries > due.LeafIndex
+			return second.Metrics().Entries > due.LeafIndex
 		})
 		place, err := second.Submit(loginterface.Forwarded(limited(t)), entryOf(2*n+1))
 		must(t, err)

@@ -197,33 +197,33 @@ func (o watchedObjects) Delete(ctx context.Context, name string) error {
 }
 
 type watchedLock struct {
-	stores.Register
+	stores.Lock
 	watch *watch
 }
 
 func (l watchedLock) Create(ctx context.Context, text string) error {
 	defer l.watch.begins(ctx, "create lock")()
-	return l.Register.Create(ctx, text)
+	return l.Lock.Create(ctx, text)
 }
 
 func (l watchedLock) Read(ctx context.Context) (string, error) {
 	defer l.watch.begins(ctx, "read lock")()
-	return l.Register.Read(ctx)
+	return l.Lock.Read(ctx)
 }
 
 func (l watchedLock) Swap(ctx context.Context, old, new string) error {
 	defer l.watch.begins(ctx, "swap lock")()
-	return l.Register.Swap(ctx, old, new)
+	return l.Lock.Swap(ctx, old, new)
 }
 
 func (l watchedLock) Published(ctx context.Context) (stores.Published, error) {
 	defer l.watch.begins(ctx, "published")()
-	return l.Register.Published(ctx)
+	return l.Lock.Published(ctx)
 }
 
 func (l watchedLock) Raise(ctx context.Context, published stores.Published) error {
 	defer l.watch.begins(ctx, "raise lock")()
-	return l.Register.Raise(ctx, published)
+	return l.Lock.Raise(ctx, published)
 }
 
 // watchedIndex is the index.

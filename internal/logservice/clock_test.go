@@ -61,7 +61,7 @@ func TestClockAtStart(t *testing.T) {
 				return
 			}
 			wants(t, err, loginterface.ErrClock, node.ErrClock)
-			if !strings.Contains(err.Error(), test.beside) || !strings.Contains(l.Figures().Fault, test.beside) {
+			if !strings.Contains(err.Error(), test.beside) || !strings.Contains(l.Metrics().Fault, test.beside) {
 				t.Errorf("%v does not say %s", err, test.beside)
 			}
 			if head, err := l.Checkpoint(limited(t)); err != nil || head.TreeSize < 3 {
@@ -87,7 +87,7 @@ func TestClockSet(t *testing.T) {
 	_, err := l.Submit(limited(t), entryOf(5))
 	wants(t, err, loginterface.ErrClock)
 	clock.set(0, false)
-	eventually(t, "it goes on", func() bool { return l.Figures().Fault == "" })
+	eventually(t, "it goes on", func() bool { return l.Metrics().Fault == "" })
 	got.submit(t, l, 5, 6)
 	clock.set(time.Minute, true)
 	got.submit(t, l, 6, 7)
@@ -109,7 +109,7 @@ func TestRequiresSynchronizedClock(t *testing.T) {
 		t.Error(err)
 	}
 	clock.set(0, true)
-	eventually(t, "it goes on", func() bool { return l.Figures().Fault == "" })
+	eventually(t, "it goes on", func() bool { return l.Metrics().Fault == "" })
 	got.submit(t, l, 5, 6)
 }
 

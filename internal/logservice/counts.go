@@ -130,9 +130,9 @@ func (c *counts) witness(name string, change func(*loginterface.Witness)) {
 }
 
 // into writes what was counted into the figures of a log.
-func (c *counts) into(f *loginterface.Figures) {
+func (c *counts) into(f *loginterface.Metrics) {
 	f.LostSwaps, f.Unknown = c.of(node.LostSwap), c.of(node.UnknownSwap)
-	f.Helped, f.Repeats, f.HandedOver, f.Written = c.of(node.ResumedStep), c.of(node.Duplicate), c.forwarded.Load(),
+	f.Helped, f.Repeats, f.Forwarded, f.Written = c.of(node.ResumedStep), c.of(node.Duplicate), c.forwarded.Load(),
 		c.written.Load()
 	c.mu.Lock()
 	defer c.mu.Unlock()
@@ -147,14 +147,14 @@ func (c *counts) into(f *loginterface.Figures) {
 		f.Batches.AtMost[bound] = c.batches.AtMost[bound]
 	}
 	f.SinceRound = time.Since(c.wentWell)
-	f.Mended, f.LastMended = c.repairs.count, c.repairs.last
+	f.Repaired, f.LastRepaired = c.repairs.count, c.repairs.last
 	f.Faults, f.LastFault = c.faults.count, c.faults.last
-	f.TendFailures, f.TendFailure = c.failures.count, c.failures.last
+	f.JanitorFailures, f.JanitorFailure = c.failures.count, c.failures.last
 }
 
-// Figures is loginterface.Log's.
-func (l *Log) Figures() loginterface.Figures {
-	f := loginterface.Figures{Queue: l.node.Waiting(), MaxQueue: l.config.Pace.MaxQueue}
+// Metrics is loginterface.Log's.
+func (l *Log) Metrics() loginterface.Metrics {
+	f := loginterface.Metrics{Queue: l.node.Waiting(), MaxQueue: l.config.Pace.MaxQueue}
 	if counted, ok := l.config.Signer.(interface{ Starts() uint64 }); ok {
 		f.SignerStarts = counted.Starts()
 	}
@@ -173,11 +173,11 @@ func (l *Log) Figures() loginterface.Figures {
 		f.Fault = named(err).Error()
 	}
 	report := l.janitor.Report()
-	f.Swept, f.SweptHeads, f.SweptBundles, f.Staged, f.Scrubbed = report.Tiles, report.Heads, report.Staged,
+	f.DeletedTiles, f.DeletedHeads, f.DeletedBatches, f.Staged, f.RereadTiles = report.Tiles, report.Heads, report.Staged,
 		report.Listed, report.Reread
-	f.SweptTo, f.ReadNext, f.Damaged = report.SweptTo, report.Next, len(report.Damaged)
-	if f.TendFailures += report.Failures; report.Failed != nil {
-		f.TendFailure = report.Failed.Error()
+	f.DeletedTo, f.ReadNext, f.Damaged = report.DeletedTo, report.Next, len(report.Damaged)
+	if f.JanitorFailures += report.Failures; report.Failed != nil {
+		f.JanitorFailure = report.Failed.Error()
 	}
 	if f.DamagedIssuers, f.Damage = l.issuers.damage(); len(report.Damaged) > 0 {
 		first, found := uint64(0), false

@@ -46,7 +46,7 @@ func TestDamagedTilesAreNotGiven(t *testing.T) {
 			must(t, damage(p.object(name)))
 			_, err = l.Object(ctx, name, stores.MaxObject)
 			wants(t, err, loginterface.ErrStore, node.ErrDamaged)
-			if f := l.Figures(); f.Damaged == 0 || i == 0 && !strings.Contains(f.Damage, name) {
+			if f := l.Metrics(); f.Damaged == 0 || i == 0 && !strings.Contains(f.Damage, name) {
 				t.Errorf("%s, %s: %d tiles are damaged, %q", name, how, f.Damaged, f.Damage)
 			}
 			if _, err := l.Object(ctx, full[(i+2)%len(full)], stores.MaxObject); err != nil {
@@ -103,11 +103,11 @@ func TestDamageOfADuplicate(t *testing.T) {
 		t.Errorf("%d of 256 are refused", refused)
 	}
 	got.submit(t, l, 300, 310)
-	if f := l.Figures(); f.Fault != "" || f.Damaged != 1 || !strings.Contains(f.Damage, name+" is missing") {
+	if f := l.Metrics(); f.Fault != "" || f.Damaged != 1 || !strings.Contains(f.Damage, name+" is missing") {
 		t.Errorf("%+v", f)
 	}
 	must(t, os.WriteFile(p.object(name), content, 0o644))
-	eventually(t, "it is whole", func() bool { return l.Figures().Damaged == 0 })
+	eventually(t, "it is whole", func() bool { return l.Metrics().Damaged == 0 })
 	got.submit(t, l, 0, 256)
 	if leaves := p.right(got); leaves != 310 {
 		t.Errorf("%d entries", leaves)
@@ -138,13 +138,13 @@ func TestIssuers(t *testing.T) {
 		l := started(t, config)
 		got.submit(t, l, number+1, number+2)
 		eventually(t, how+": it is seen", func() bool {
-			f := l.Figures()
+			f := l.Metrics()
 			return f.DamagedIssuers == 1 && strings.Contains(f.Damage, name)
 		})
 		got.submit(t, l, number, number+1)
-		eventually(t, how+": it is right", func() bool { return l.Figures().DamagedIssuers == 0 })
-		if f := l.Figures(); f.Mended != 1 || f.LastMended != name {
-			t.Errorf("%s: %d objects are made again, the last is %s", how, f.Mended, f.LastMended)
+		eventually(t, how+": it is right", func() bool { return l.Metrics().DamagedIssuers == 0 })
+		if f := l.Metrics(); f.Repaired != 1 || f.LastRepaired != name {
+			t.Errorf("%s: %d objects are made again, the last is %s", how, f.Repaired, f.LastRepaired)
 		}
 		must(t, damage(p.object(name)))
 		eventually(t, how+": it is put again without a submission", func() bool {

@@ -101,8 +101,8 @@ func TestForward(t *testing.T) {
 	if said := <-o.clients; said != "[192.0.2.7]/ct/v1/add-chainthe body" {
 		t.Errorf("the other node gets %s", said)
 	}
-	if f := l.Figures(); f.HandedOver != 1 {
-		t.Errorf("%d are forwarded", f.HandedOver)
+	if f := l.Metrics(); f.Forwarded != 1 {
+		t.Errorf("%d are forwarded", f.Forwarded)
 	}
 	o.status.Store(http.StatusServiceUnavailable)
 	p.leads(t, l, o.URL)
@@ -139,12 +139,12 @@ func TestElsewhere(t *testing.T) {
 		_, err := l.Submit(loginterface.Forwarded(limited(t)), entryOf(1))
 		own <- err
 	}()
-	eventually(t, "it waits", func() bool { return l.Figures().Queue == 1 })
+	eventually(t, "it waits", func() bool { return l.Metrics().Queue == 1 })
 	go func() {
 		_, err := l.Submit(limited(t), entryOf(2))
 		movable <- err
 	}()
-	eventually(t, "both wait", func() bool { return l.Figures().Queue == 2 })
+	eventually(t, "both wait", func() bool { return l.Metrics().Queue == 2 })
 	p.leads(t, l, o.URL)
 	letGo()
 	if err := <-movable; err != nil && !errors.Is(err, loginterface.ErrElsewhere) {

@@ -99,12 +99,12 @@ func TestWaitingSubmissionMoves(t *testing.T) {
 		_, err := l.Submit(loginterface.Forwarded(limited(t)), entryOf(1))
 		own <- err
 	}()
-	eventually(t, "it waits", func() bool { return l.Figures().Queue == 1 })
+	eventually(t, "it waits", func() bool { return l.Metrics().Queue == 1 })
 	go func() {
 		_, err := l.Submit(limited(t), entryOf(2))
 		movable <- err
 	}()
-	eventually(t, "both wait", func() bool { return l.Figures().Queue == 2 })
+	eventually(t, "both wait", func() bool { return l.Metrics().Queue == 2 })
 	p.leads(t, l, o.URL)
 	letGo()
 	wants(t, <-movable, loginterface.ErrElsewhere)

@@ -91,7 +91,7 @@ func (p *place) config() logservice.Config {
 	}
 	objects, err := stores.ObjectsAt(ctx, "folder:"+p.path("objects"))
 	must(p.t, err)
-	lock, err := stores.RegisterAt(ctx, "file:"+p.path("register"))
+	lock, err := stores.LockAt(ctx, "file:"+p.path("register"))
 	must(p.t, err)
 	p.t.Cleanup(func() { must(p.t, errors.Join(lock.Close(), objects.Close())) })
 	config.Stores = logservice.Stores{Objects: objects, Lock: lock, Index: p.opened()}

@@ -52,7 +52,7 @@ func TestJanitorRestsDuringAFault(t *testing.T) {
 	// (its issuers are in the store, so only the step puts something)
 	_, err := l.Submit(limited(t), entryOf(5))
 	wants(t, err, errFull)
-	if l.Figures().Fault == "" {
+	if l.Metrics().Fault == "" {
 		t.Fatal("there is no fault")
 	}
 	passes := clock.passes.Load()

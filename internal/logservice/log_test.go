@@ -37,7 +37,7 @@ func TestOneNode(t *testing.T) {
 	}
 	head, err := l.Checkpoint(limited(t))
 	must(t, err)
-	f := l.Figures()
+	f := l.Metrics()
 	if head.TreeSize != 700 || f.Entries != 700 || f.Queue != 0 || f.Unpublished != 0 || f.Repeats != 100 ||
 		f.Fault != "" || f.Steps == 0 || f.Batches.Submissions != 300 || f.Written == 0 {
 		t.Errorf("%+v %+v", head, f)
@@ -135,7 +135,7 @@ func TestFullQueue(t *testing.T) {
 			_, err := l.Submit(ctx, entryOf(n))
 			gaveUp <- err
 		}()
-		eventually(t, "it waits", func() bool { return l.Figures().Queue == n })
+		eventually(t, "it waits", func() bool { return l.Metrics().Queue == n })
 	}
 	_, err := l.Submit(limited(t), entryOf(9))
 	wants(t, err, loginterface.ErrBusy)
@@ -144,7 +144,7 @@ func TestFullQueue(t *testing.T) {
 		wants(t, <-gaveUp, context.Canceled)
 	}
 	// The one that is in a step stays in it.
-	eventually(t, "the others left", func() bool { return l.Figures().Queue <= 1 })
+	eventually(t, "the others left", func() bool { return l.Metrics().Queue <= 1 })
 	letGo()
 	got.submit(t, l, 20, 22)
 	p.right(got)
@@ -181,7 +181,7 @@ func TestEnd(t *testing.T) {
 		got.add(entryOf(7), place)
 		outcome <- err
 	}()
-	eventually(t, "it waits", func() bool { return l.Figures().Queue == 1 })
+	eventually(t, "it waits", func() bool { return l.Metrics().Queue == 1 })
 	ended := make(chan error, 1)
 	go func() { ended <- l.End(limited(t)) }()
 	eventually(t, "it ends", func() bool {
@@ -203,7 +203,7 @@ func TestEnd(t *testing.T) {
 		_, err := l.Submit(limited(t), entryOf(9))
 		outcome <- err
 	}()
-	eventually(t, "it waits", func() bool { return l.Figures().Queue == 1 })
+	eventually(t, "it waits", func() bool { return l.Metrics().Queue == 1 })
 	ctx, cancel := context.WithTimeout(context.Background(), 50*time.Millisecond)
 	defer cancel()
 	wants(t, l.End(ctx), context.DeadlineExceeded)
@@ -238,14 +238,14 @@ func TestFaultAndItsEnd(t *testing.T) {
 	full.is.Store(true)
 	_, err := l.Submit(limited(t), entryOf(10))
 	wants(t, err, loginterface.ErrStore, errFull)
-	if f := l.Figures(); !strings.Contains(f.Fault, errFull.Error()) || f.Faults != 1 || f.LastFault != f.Fault {
+	if f := l.Metrics(); !strings.Contains(f.Fault, errFull.Error()) || f.Faults != 1 || f.LastFault != f.Fault {
 		t.Errorf("%+v", f)
 	}
 	if head, err := l.Checkpoint(limited(t)); err != nil || head.TreeSize != 5 {
 		t.Errorf("%v: %+v", err, head)
 	}
 	full.is.Store(false)
-	eventually(t, "the fault is over without a submission", func() bool { return l.Figures().Fault == "" })
+	eventually(t, "the fault is over without a submission", func() bool { return l.Metrics().Fault == "" })
 	got.submit(t, l, 10, 12)
 	if leaves := p.right(got); leaves != 7 {
 		t.Errorf("%d entries", leaves)

@@ -49,7 +49,7 @@ const (
 // Stores are those that all nodes of a log share.
 type Stores struct {
 	Objects stores.Objects
-	Lock    stores.Register
+	Lock    stores.Lock
 	Index   stores.Index
 	// Current keeps the checkpoint that readers fetch without a node. It is nil if nobody does.
 	Current stores.Current

@@ -50,14 +50,14 @@ func TestGoesOnAfterADayWithoutHeads(t *testing.T) {
 	if at := time.UnixMilli(int64(place.Timestamp)); at.Before(time.Now().Add(29 * time.Hour)) {
 		t.Errorf("the timestamp is %v", at)
 	}
-	if fault := l.Figures().LastFault; fault != "" {
+	if fault := l.Metrics().LastFault; fault != "" {
 		t.Error(fault)
 	}
 }
 
 // unread is a lock that can be kept from being read.
 type unread struct {
-	stores.Register
+	stores.Lock
 	is atomic.Bool
 }
 
@@ -67,7 +67,7 @@ func (u *unread) Read(ctx context.Context) (string, error) {
 	if u.is.Load() {
 		return "", errUnread
 	}
-	return u.Register.Read(ctx)
+	return u.Lock.Read(ctx)
 }
 
 // asked is a witness over HTTP, which counts the requests to cosign a signed head again.
@@ -135,7 +135,7 @@ func TestWitnessesAreAskedAgainAfterTheLockWasAway(t *testing.T) {
 	p, got := newPlace(t), &answers{}
 	config := p.config()
 	w := p.witnessed(&config)
-	lock := &unread{Register: config.Stores.Lock}
+	lock := &unread{Lock: config.Stores.Lock}
 	config.Stores.Lock = lock
 	l := started(t, config)
 	got.submit(t, l, 0, 3)
@@ -143,9 +143,9 @@ func TestWitnessesAreAskedAgainAfterTheLockWasAway(t *testing.T) {
 		t.Fatalf("the first heads are cosigned again %d times", again)
 	}
 	lock.is.Store(true)
-	eventually(t, "the lock is missed", func() bool { return strings.Contains(l.Figures().Fault, errUnread.Error()) })
+	eventually(t, "the lock is missed", func() bool { return strings.Contains(l.Metrics().Fault, errUnread.Error()) })
 	lock.is.Store(false)
-	eventually(t, "the lock is read", func() bool { return l.Figures().Fault == "" })
+	eventually(t, "the lock is read", func() bool { return l.Metrics().Fault == "" })
 	got.submit(t, l, 3, 4)
 	if again := w.times(); again == 0 {
 		t.Error("it takes a submission without having the newest head cosigned again")

@@ -116,7 +116,7 @@ func TestPublishedAfterItsCheckpoint(t *testing.T) {
 		t.Errorf("%v: %d entries are said to be published", err, published.Size)
 	}
 	checkpoint.is.Store(false)
-	eventually(t, "it goes on", func() bool { return l.Figures().Fault == "" })
+	eventually(t, "it goes on", func() bool { return l.Metrics().Fault == "" })
 	got.submit(t, l, 3, 4)
 	p.right(got)
 }
@@ -160,7 +160,7 @@ func TestCheckpointIsReadAgainAfterALostSwap(t *testing.T) {
 	got.submit(t, l, 0, 3)
 	checkpoint.next.Store(true)
 	got.submit(t, l, 3, 4)
-	if fault := l.Figures().LastFault; fault != "" || checkpoint.next.Load() {
+	if fault := l.Metrics().LastFault; fault != "" || checkpoint.next.Load() {
 		t.Errorf("it has the fault %q, and the checkpoint is still to be replaced: %t", fault, checkpoint.next.Load())
 	}
 	head, err := l.Checkpoint(limited(t))
@@ -172,14 +172,14 @@ func TestCheckpointIsReadAgainAfterALostSwap(t *testing.T) {
 
 // silent is a lock that does not say what is published while it is set. It keeps the time that each such call has.
 type silent struct {
-	stores.Register
+	stores.Lock
 	is   atomic.Bool
 	left chan time.Duration
 }
 
 func (s *silent) Published(ctx context.Context) (stores.Published, error) {
 	if !s.is.Load() {
-		return s.Register.Published(ctx)
+		return s.Lock.Published(ctx)
 	}
 	until, _ := ctx.Deadline()
 	select {
@@ -194,7 +194,7 @@ func TestReadersWaitBrieflyForTheLock(t *testing.T) {
 	t.Parallel()
 	p, got := newPlace(t), &answers{}
 	config := p.config()
-	lock := &silent{Register: config.Stores.Lock, left: make(chan time.Duration, 1)}
+	lock := &silent{Lock: config.Stores.Lock, left: make(chan time.Duration, 1)}
 	config.Stores.Lock = lock
 	l := started(t, config)
 	got.submit(t, l, 0, 3)
@@ -219,8 +219,8 @@ func TestMendsAnObjectThatIsTooLong(t *testing.T) {
 	must(t, os.Truncate(p.object("tile/0/000.p/3"), stores.MaxObject+1))
 	l = started(t, p.config())
 	got.submit(t, l, 3, 5)
-	if f := l.Figures(); f.Mended != 1 || f.LastMended != "tile/0/000.p/3" {
-		t.Errorf("%d objects are made again, the last is %q", f.Mended, f.LastMended)
+	if f := l.Metrics(); f.Repaired != 1 || f.LastRepaired != "tile/0/000.p/3" {
+		t.Errorf("%d objects are made again, the last is %q", f.Repaired, f.LastRepaired)
 	}
 	p.right(got)
 }
@@ -240,7 +240,7 @@ func TestGivenUpSubmissionsLeaveTheirBytes(t *testing.T) {
 	for turn := range 2 {
 		ctx, cancel := context.WithCancel(limited(t))
 		outcomes := make(chan error, many)
-		before := l.Figures().Queue
+		before := l.Metrics().Queue
 		for n := range many {
 			entry := entryOf(1)
 			entry.Certificate = bytes.Repeat([]byte{byte(turn), byte(n), byte(n >> 8), 7}, logservice.MaxEntry/4)
@@ -255,7 +255,7 @@ func TestGivenUpSubmissionsLeaveTheirBytes(t *testing.T) {
 				t.Fatalf("turn %d: %v", turn, err)
 			default:
 			}
-			return l.Figures().Queue == before+many
+			return l.Metrics().Queue == before+many
 		})
 		cancel()
 		for range many {

@@ -14,7 +14,7 @@ import (
 
 // awayLock is a lock that does not answer readers while it is away.
 type awayLock struct {
-	stores.Register
+	stores.Lock
 	isAway atomic.Bool
 	// failed counts the readings that got no answer.
 	failed atomic.Int64
@@ -25,7 +25,7 @@ func (l *awayLock) Read(ctx context.Context) (string, error) {
 		l.failed.Add(1)
 		return "", errors.New("the lock does not answer")
 	}
-	return l.Register.Read(ctx)
+	return l.Lock.Read(ctx)
 }
 
 // laterSigner refuses heads while it is set, as if it had approved another node's later one. Then the lock goes away.
@@ -49,7 +49,7 @@ func TestRefusalWhileTheLockIsAway(t *testing.T) {
 	t.Parallel()
 	p, got := newPlace(t), &answers{}
 	config := p.config()
-	lock := &awayLock{Register: config.Stores.Lock}
+	lock := &awayLock{Lock: config.Stores.Lock}
 	later := &laterSigner{Signer: config.Signer, lock: lock}
 	config.Stores.Lock, config.Signer = lock, later
 	l := started(t, config)
@@ -64,7 +64,7 @@ func TestRefusalWhileTheLockIsAway(t *testing.T) {
 		answered <- err
 	}()
 	eventually(t, "several rounds fail to read the lock", func() bool { return lock.failed.Load() > 2 })
-	if fault := l.Figures().LastFault; !strings.Contains(fault, "the lock does not answer") {
+	if fault := l.Metrics().LastFault; !strings.Contains(fault, "the lock does not answer") {
 		t.Errorf("the fault is %q", fault)
 	}
 	later.refuses.Store(false)

@@ -45,12 +45,12 @@ func TestIndexAheadOfTheLog(t *testing.T) {
 
 // unsure is a lock whose next swap is done, and whose outcome is then not known.
 type unsure struct {
-	stores.Register
+	stores.Lock
 	next atomic.Bool
 }
 
 func (u *unsure) Swap(ctx context.Context, old, new string) error {
-	err := u.Register.Swap(ctx, old, new)
+	err := u.Lock.Swap(ctx, old, new)
 	if err == nil && u.next.CompareAndSwap(true, false) {
 		return stores.ErrUnknown
 	}
@@ -62,13 +62,13 @@ func TestSwapOfUnknownOutcomeIsMadeAgain(t *testing.T) {
 	t.Parallel()
 	p, got := newPlace(t), &answers{}
 	config := p.config()
-	lock := &unsure{Register: config.Stores.Lock}
+	lock := &unsure{Lock: config.Stores.Lock}
 	config.Stores.Lock = lock
 	l := started(t, config)
 	got.submit(t, l, 0, 3)
 	lock.next.Store(true)
 	got.submit(t, l, 3, 4)
-	if f := l.Figures(); f.LostSwaps != 0 || f.Unknown != 1 {
+	if f := l.Metrics(); f.LostSwaps != 0 || f.Unknown != 1 {
 		t.Errorf("%d swaps are lost, and of %d the outcome was not known", f.LostSwaps, f.Unknown)
 	}
 	p.right(got)
@@ -135,13 +135,13 @@ func TestFaultOfTheIndexLasts(t *testing.T) {
 	wants(t, err, errLost)
 	before := index.lost.Load()
 	eventually(t, "the index is asked again", func() bool {
-		if l.Figures().Fault == "" {
+		if l.Metrics().Fault == "" {
 			t.Fatal("the fault is over, and the index does not answer")
 		}
 		return index.lost.Load() > before+1
 	})
 	index.is.Store(false)
-	eventually(t, "it goes on", func() bool { return l.Figures().Fault == "" })
+	eventually(t, "it goes on", func() bool { return l.Metrics().Fault == "" })
 	got.submit(t, l, 0, 1)
 	p.right(got)
 }
@@ -178,14 +178,14 @@ func (h *held) Put(ctx context.Context, name string, content []byte) error {
 
 // readTexts is a lock that says when each text was read first.
 type readTexts struct {
-	stores.Register
+	stores.Lock
 	mu   sync.Mutex
 	when map[string]time.Time
 	last string
 }
 
 func (r *readTexts) Read(ctx context.Context) (string, error) {
-	text, err := r.Register.Read(ctx)
+	text, err := r.Lock.Read(ctx)
 	r.mu.Lock()
 	defer r.mu.Unlock()
 	if _, seen := r.when[text]; !seen && err == nil {
@@ -212,7 +212,7 @@ func TestWaitsForTheNodeThatMadeAStep(t *testing.T) {
 	got.submit(t, l, 0, 3)
 
 	other := p.another("other-latest-head")
-	texts := &readTexts{Register: other.Stores.Lock, when: map[string]time.Time{}}
+	texts := &readTexts{Lock: other.Stores.Lock, when: map[string]time.Time{}}
 	helped := make(chan time.Duration, 1)
 	helper := &held{Objects: other.Stores.Objects, get: func(name string) error {
 		if strings.HasPrefix(name, "staging/") {
@@ -292,7 +292,7 @@ func TestStagedBatchOfAnOlderStepIsGone(t *testing.T) {
 	got.submit(t, l, 5, 6)
 	close(wentOn)
 	got.submit(t, second, 6, 7)
-	if fault := second.Figures().LastFault; !isOver.Load() || fault != "" {
+	if fault := second.Metrics().LastFault; !isOver.Load() || fault != "" {
 		t.Errorf("the other node looked: %t, and had the fault %q", isOver.Load(), fault)
 	}
 	p.right(got)

@@ -52,7 +52,7 @@ func (l *Loop) isPublished(ctx context.Context, k *state) (bool, error) {
 	if !published.Before(k.published()) && (errors.Is(err, stores.ErrAbsent) || errors.Is(err, errOtherHead)) {
 		// It was published, so all of the state was in the store.
 		restored, failed := l.restore(ctx, k)
-		if !errors.Is(failed, errNoBundle) {
+		if !errors.Is(failed, errNoBatch) {
 			head, err = restored, failed
 		}
 	}

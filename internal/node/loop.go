@@ -318,7 +318,7 @@ func (l *Loop) read(text string) (*state, error) {
 	if err != nil {
 		return nil, err
 	}
-	k.look, err = l.config.Proved.Decider.Next(decider.Begin(), decider.WasRead(text))
+	k.look, err = l.config.Proved.Decider.Next(decider.Begin(), decider.LockRead(text))
 	if errors.Is(err, decider.ErrRefused) {
 		return nil, fmt.Errorf("%w: the lock's text is not one of a log: %.40q", ErrDamaged, text)
 	}

@@ -110,7 +110,7 @@ func (c *Config) where() string {
 
 // textAfter returns the lock's text of a step, and the name of its staged batch, as the decider makes them
 // (docs/NODE.md).
-func (c *Config) textAfter(before uint64, line string, to step.State, salt uint64) (text, bundle string) {
+func (c *Config) textAfter(before uint64, line string, to step.State, salt uint64) (text, staged string) {
 	return fmt.Sprintf("%s\n%s%s\n%s%016x%016x\n", line, nodeWord, c.where(), saltWord, before, salt),
 		fmt.Sprintf("%s%016x%016x%016x", stagingPrefix, to.Timestamp, before, salt)
 }

@@ -55,7 +55,7 @@ type Current interface {
 }
 
 // Lock is the compare-and-set cell that decides which state comes next, and says how far the log is published
-// (stores.Register has what an engine owes).
+// (stores.Lock has what an engine owes).
 type Lock interface {
 	Create(ctx context.Context, text string) error
 	Read(ctx context.Context) (string, error)
@@ -115,7 +115,7 @@ type Signer interface {
 
 // Decider is the proved order of a node: what it does next, and whether it may start (decider.Decider, docs/NODE.md).
 type Decider interface {
-	Next(command *decider.Command, told decider.Told) (*decider.Command, error)
+	Next(command *decider.Command, outcome *decider.Outcome) (*decider.Command, error)
 	Start(found decider.Found) (creates bool, err error)
 }
 

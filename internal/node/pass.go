@@ -31,9 +31,9 @@ type places struct{ rows, replaced []stores.Row }
 
 // made is a step of this node, or another node's out of its staged batch.
 type made struct {
-	// text and bundle are the lock's text that this node's step leads to, and the name of its staged batch; both are
-	// empty of another node's step.
-	text, bundle string
+	// text is the lock's text that this node's step leads to, and staged the name of its staged batch. Both are empty if
+	// another node made the step.
+	text, staged string
 	content      []byte
 	objects      []step.Object
 	head         step.Head
@@ -50,8 +50,8 @@ type made struct {
 var errCommand = errors.New("node: no command of this node")
 
 // goOn reports the outcome of a command to the decider, and takes the next one.
-func (p *pass) goOn(told decider.Told) error {
-	next, err := p.config.Proved.Decider.Next(p.command, told)
+func (p *pass) goOn(outcome *decider.Outcome) error {
+	next, err := p.config.Proved.Decider.Next(p.command, outcome)
 	if err != nil {
 		return fmt.Errorf("node: %w", err)
 	}
@@ -61,7 +61,7 @@ func (p *pass) goOn(told decider.Told) error {
 
 // carryOut carries the command out and takes the next one. It reports false if the round must end and look again.
 func (p *pass) carryOut(ctx context.Context) (bool, error) {
-	var told decider.Told
+	var outcome *decider.Outcome
 	var err error
 	if p.command.Do != decider.Place {
 		// The places are added beside the objects, and are timed there.
@@ -69,26 +69,26 @@ func (p *pass) carryOut(ctx context.Context) (bool, error) {
 	}
 	switch p.command.Do {
 	case decider.Look:
-		told, err = p.look(ctx)
+		outcome, err = p.look(ctx)
 	case decider.Stage:
-		told, err = p.stage(ctx)
+		outcome, err = p.stage(ctx)
 	case decider.Swap:
-		told, err = p.swap(ctx)
+		outcome, err = p.swap(ctx)
 	case decider.Put:
-		told, err = p.put(ctx)
+		outcome, err = p.put(ctx)
 	case decider.Place:
-		told, err = p.place(ctx)
+		outcome, err = p.place(ctx)
 	case decider.Head:
-		told, err = p.publish(ctx)
+		outcome, err = p.publish(ctx)
 	case decider.Answer:
-		told, err = p.answer(ctx)
+		outcome, err = p.answer(ctx)
 	default:
 		err = fmt.Errorf("%w: %s", errCommand, p.command.Do)
 	}
-	if err != nil || told == nil {
+	if err != nil || outcome == nil {
 		return false, err
 	}
-	return true, p.goOn(told)
+	return true, p.goOn(outcome)
 }
 
 // reach gets to where a step may be made. If the newest state is not published, its own node does that, or this one. It
@@ -144,7 +144,7 @@ func (p *pass) stagesNext(ctx context.Context) error {
 }
 
 // look looks whether the head of the state is published. If it is not for a while, the staged batch is read.
-func (p *pass) look(ctx context.Context) (decider.Told, error) {
+func (p *pass) look(ctx context.Context) (*decider.Outcome, error) {
 	done, err := p.isPublished(ctx, p.from)
 	if err != nil {
 		return nil, err
@@ -156,7 +156,7 @@ func (p *pass) look(ctx context.Context) (decider.Told, error) {
 		return nil, nil
 	}
 	resumed, err := p.resume(ctx, p.from)
-	if errors.Is(err, errNoBundle) {
+	if errors.Is(err, errNoBatch) {
 		if newest, learned := p.learn(ctx); learned != nil || newest.text != p.from.text {
 			return nil, learned
 		}
@@ -173,7 +173,7 @@ func (p *pass) look(ctx context.Context) (decider.Told, error) {
 	}
 	p.config.Machine.Observer.Count(ResumedStep)
 	p.made = made{objects: resumed.Objects, head: resumed.Head, places: places{rows: rows}}
-	return decider.Bundled(references(resumed.Objects)), nil
+	return decider.BatchRead(references(resumed.Objects)), nil
 }
 
 // waitsForOther reports whether the node that made the state may still publish it.
@@ -224,9 +224,9 @@ func (p *pass) step(ctx context.Context) error {
 	m := &p.made
 	m.isNew, m.content, m.objects, m.head, m.receipts = true, stepped.Bundle, stepped.Objects, stepped.Head,
 		stepped.Receipts
-	m.text, m.bundle = p.config.textAfter(p.from.Timestamp, stepped.Line, stepped.State, salt)
-	told := decider.Stepped(stepped.Line, p.config.where(), salt, references(stepped.Objects))
-	if err := p.goOn(told); err != nil {
+	m.text, m.staged = p.config.textAfter(p.from.Timestamp, stepped.Line, stepped.State, salt)
+	outcome := decider.StepMade(stepped.Line, p.config.where(), salt, references(stepped.Objects))
+	if err := p.goOn(outcome); err != nil {
 		return err
 	}
 	if p.command.Do != decider.Stage {
@@ -280,7 +280,7 @@ func (p *pass) stepOver(ctx context.Context) (*step.Stepped, error) {
 // the staged batch and the objects that it made. No node could go on from a lock with any other text.
 func (p *pass) checkStep() error {
 	of, m := p.command, &p.made
-	if !m.isNew || of.Seen.Text != p.from.text || of.New.Text != m.text || of.New.Bundle != m.bundle {
+	if !m.isNew || of.Seen.Text != p.from.text || of.New.Text != m.text || of.New.Batch != m.staged {
 		return fmt.Errorf("%w: %s of another step than this round's", errCommand, of.Do)
 	}
 	return p.checkObjects()
@@ -310,13 +310,13 @@ func (p *pass) checkState() error {
 }
 
 // stage keeps what a step writes, before the lock decides on it.
-func (p *pass) stage(ctx context.Context) (decider.Told, error) {
+func (p *pass) stage(ctx context.Context) (*decider.Outcome, error) {
 	if err := p.checkStep(); err != nil {
 		return nil, err
 	}
 	// What is in the staged batch is put once more, as objects.
 	p.last.written = 2 * len(p.made.content)
-	if err := p.config.Stores.Objects.Put(ctx, p.command.New.Bundle, p.made.content); err != nil {
+	if err := p.config.Stores.Objects.Put(ctx, p.command.New.Batch, p.made.content); err != nil {
 		return nil, fmt.Errorf("node: the staged batch: %w", err)
 	}
 	return decider.Done(), nil
@@ -324,7 +324,7 @@ func (p *pass) stage(ctx context.Context) (decider.Told, error) {
 
 // put puts a state's objects under their public names. Beside that it adds the places of its entries, and keeps the
 // state as the newest one that this node accepted. None of these needs another one, and the head needs all.
-func (p *pass) put(ctx context.Context) (decider.Told, error) {
+func (p *pass) put(ctx context.Context) (*decider.Outcome, error) {
 	if err := errors.Join(p.checkState(), p.checkObjects()); err != nil {
 		return nil, err
 	}
@@ -356,12 +356,12 @@ func (p *pass) put(ctx context.Context) (decider.Told, error) {
 }
 
 // place does nothing: the places were added beside the objects.
-func (p *pass) place(context.Context) (decider.Told, error) {
+func (p *pass) place(context.Context) (*decider.Outcome, error) {
 	return decider.Done(), p.checkState()
 }
 
 // publish has a state's head signed, puts it, and says that it is published.
-func (p *pass) publish(ctx context.Context) (decider.Told, error) {
+func (p *pass) publish(ctx context.Context) (*decider.Outcome, error) {
 	if err := p.checkState(); err != nil {
 		return nil, err
 	}
@@ -391,7 +391,7 @@ func (p *pass) sign(ctx context.Context) error {
 
 // answer signs the timestamps of the batch, if they are not signed yet, and answers it. Its entries are under a
 // published head. After this node's own step, the next round may begin from the state that it made.
-func (p *pass) answer(ctx context.Context) (decider.Told, error) {
+func (p *pass) answer(ctx context.Context) (*decider.Outcome, error) {
 	if err := p.checkState(); err != nil {
 		return nil, err
 	}

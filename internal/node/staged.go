@@ -11,20 +11,20 @@ import (
 	"wagtenib/internal/stores"
 )
 
-// errNoBundle: the newest state's staged batch is missing.
-var errNoBundle = errors.New("node: no staged batch")
+// errNoBatch: the newest state's staged batch is missing.
+var errNoBatch = errors.New("node: no staged batch")
 
 // resume reads the staged batch of a state.
 func (l *Loop) resume(ctx context.Context, k *state) (*step.Resumed, error) {
-	name := k.look.Seen.Bundle
-	bundle, err := l.config.Stores.Objects.Get(ctx, name, stores.MaxObject)
+	name := k.look.Seen.Batch
+	content, err := l.config.Stores.Objects.Get(ctx, name, stores.MaxObject)
 	if errors.Is(err, stores.ErrAbsent) {
-		return nil, fmt.Errorf("%w: %s: %w (put it back from a backup)", ErrDamaged, name, errNoBundle)
+		return nil, fmt.Errorf("%w: %s: %w (put it back from a backup)", ErrDamaged, name, errNoBatch)
 	}
 	if err != nil {
 		return nil, fmt.Errorf("node: the staged batch: %w", err)
 	}
-	resumed, err := l.config.Proved.Steps.Resume(k.line, bundle)
+	resumed, err := l.config.Proved.Steps.Resume(k.line, content)
 	var refusal step.Refusal
 	if errors.As(err, &refusal) {
 		return nil, fmt.Errorf("%w: %s: %v (put it back from a backup)", ErrDamaged, name, err)
@@ -61,12 +61,12 @@ func (l *Loop) putRight(ctx context.Context, name string, content []byte) error 
 // may be carried out late (docs/NODE.md, "The machine").
 func (l *Loop) findDeletable() error {
 	for _, name := range l.last.unneeded {
-		next, err := l.config.Proved.Decider.Next(l.last.stepping, decider.Listed(name))
+		next, err := l.config.Proved.Decider.Next(l.last.stepping, decider.BatchListed(name))
 		if err != nil {
 			return fmt.Errorf("node: %w", err)
 		}
 		if next.Do == decider.Delete {
-			l.last.deletable = append(l.last.deletable, next.Bundle)
+			l.last.deletable = append(l.last.deletable, next.Batch)
 		}
 	}
 	l.last.unneeded = nil

@@ -90,19 +90,19 @@ func rooted(head *signer.Head) *decider.Rooted {
 func (l *Loop) find(ctx context.Context, remembered *signer.Head) (f found, err error) {
 	f.Creates, f.Guarded, f.Seen = l.config.Create, l.config.Signer.IsGuarded(), rooted(remembered)
 	var exists bool
-	if f.Register, exists, err = l.lockText(ctx); err != nil {
+	if f.Lock, exists, err = l.lockText(ctx); err != nil {
 		return f, err
 	}
-	f.IsEmptied = exists && f.Register == ""
-	if f.Register != "" {
-		if f.k, err = l.read(f.Register); err != nil {
+	f.IsEmptied = exists && f.Lock == ""
+	if f.Lock != "" {
+		if f.k, err = l.read(f.Lock); err != nil {
 			return f, err
 		}
 		if err = l.continues(f.k); err != nil {
 			return f, err
 		}
 		l.seen.newest = f.k
-	} else if f.Stands, err = l.hasLog(ctx); err != nil {
+	} else if f.HasObject, err = l.hasLog(ctx); err != nil {
 		return f, err
 	}
 	f.published, err = l.config.Stores.Lock.Published(ctx)
@@ -219,7 +219,7 @@ func (l *Loop) movedSince(ctx context.Context, f found) (bool, error) {
 	if err != nil {
 		return false, err
 	}
-	if text != f.Register {
+	if text != f.Lock {
 		l.keepLater(text)
 		return true, nil
 	}

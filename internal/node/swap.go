@@ -17,7 +17,7 @@ import (
 // state and go on before this node has put anything of it, as it may after any reading. Then this node puts the same
 // tiles, a head of the same state, and marks that never go back. Tiles and heads that were deleted meanwhile are
 // deleted again, and the signer refuses a head that is older than its last one.
-func (p *pass) swap(ctx context.Context) (decider.Told, error) {
+func (p *pass) swap(ctx context.Context) (*decider.Outcome, error) {
 	if err := p.checkStep(); err != nil {
 		return nil, err
 	}
@@ -33,11 +33,11 @@ func (p *pass) swap(ctx context.Context) (decider.Told, error) {
 	if !won {
 		p.seen.left = p.command.Seen.Text
 		p.config.Machine.Observer.Count(LostSwap)
-		p.last.unneeded = append(p.last.unneeded, p.command.New.Bundle)
+		p.last.unneeded = append(p.last.unneeded, p.command.New.Batch)
 		return decider.Lost(), nil
 	}
 	p.config.Machine.Observer.Decided(len(p.batch), p.last.written)
-	p.last.unneeded = append(p.last.unneeded, p.command.Seen.Bundle)
+	p.last.unneeded = append(p.last.unneeded, p.command.Seen.Batch)
 	p.keepEdge()
 	k, err := p.read(p.command.New.Text)
 	if err != nil {

@@ -48,10 +48,10 @@ func Ends(err error, to io.Writer) (status int, ends bool) {
 	return 2, true
 }
 
-// ParseWords sets flags from the arguments of a command line, up to the first one that is no flag. The error of a value
+// ParseArguments sets flags from the arguments of a command line, up to the first one that is no flag. The error of a value
 // that a flag refuses names the flag, the value and what to write. If help was requested it returns flag.ErrHelp.
-func ParseWords(flags *flag.FlagSet, words []string) error {
-	err := flags.Parse(words)
+func ParseArguments(flags *flag.FlagSet, arguments []string) error {
+	err := flags.Parse(arguments)
 	if err == nil || errors.Is(err, flag.ErrHelp) {
 		return err
 	}
@@ -74,8 +74,8 @@ var refusal = regexp.MustCompile(`(?s)^invalid (?:boolean )?value ("(?:[^"\\]|\\
 
 // Parse sets flags from the arguments of a command line, which must have nothing else. It sets the other flags from the
 // file that the flag config names, if there is one. If help was requested it returns flag.ErrHelp.
-func (r Rules) Parse(flags *flag.FlagSet, words []string) error {
-	if err := ParseWords(flags, words); err != nil {
+func (r Rules) Parse(flags *flag.FlagSet, arguments []string) error {
+	if err := ParseArguments(flags, arguments); err != nil {
 		return err
 	}
 	if flags.NArg() > 0 {
@@ -87,12 +87,12 @@ func (r Rules) Parse(flags *flag.FlagSet, words []string) error {
 	return nil
 }
 
-// Settle parses, and then calls settle to check the settings. An error of either is wrapped in fault. If help was
-// requested it returns flag.ErrHelp, and does not call settle.
-func (r Rules) Settle(flags *flag.FlagSet, words []string, settle func() error, fault error) error {
-	err := r.Parse(flags, words)
+// ParseAndValidate parses, and then calls validate to check the settings. An error of either is wrapped in fault. If help was
+// requested it returns flag.ErrHelp, and does not call validate.
+func (r Rules) ParseAndValidate(flags *flag.FlagSet, arguments []string, validate func() error, fault error) error {
+	err := r.Parse(flags, arguments)
 	if err == nil {
-		err = settle()
+		err = validate()
 	}
 	if err == nil || errors.Is(err, flag.ErrHelp) {
 		return err

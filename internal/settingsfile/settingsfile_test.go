@@ -16,7 +16,7 @@ import (
 // is named.
 func TestParse(t *testing.T) {
 	rules := Rules{Only: []string{"config"}, Several: []string{"log"}}
-	for _, c := range []struct{ text, words, size, logs, fault string }{
+	for _, c := range []struct{ text, arguments, size, logs, fault string }{
 		{"size 3 # three\n\n# a comment\nlog a\nlog  b c ", "", "3", "[a b c]", ""},
 		{"size 3\nlog a", "--size 4 --log z", "4", "[z a]", ""},
 		{"config x", "", "0", "[]", `line 1: there is no setting "config"`},
@@ -32,7 +32,7 @@ func TestParse(t *testing.T) {
 		if err := os.WriteFile(path, []byte(c.text), 0o600); err != nil {
 			t.Fatal(err)
 		}
-		err := rules.Parse(flags, append([]string{"--config", path}, strings.Fields(c.words)...))
+		err := rules.Parse(flags, append([]string{"--config", path}, strings.Fields(c.arguments)...))
 		if (err == nil) != (c.fault == "") || err != nil && !strings.Contains(err.Error(), c.fault) ||
 			fmt.Sprint(*size) != c.size || fmt.Sprint(*logs) != c.logs {
 			t.Errorf("%.40q: %v, %d, %v", c.text, err, *size, *logs)
@@ -61,9 +61,9 @@ func TestParseAlone(t *testing.T) {
 func TestSettle(t *testing.T) {
 	usage, unfit := errors.New("program"), errors.New("4 is too much")
 	for _, c := range []struct {
-		words, told string
-		looks       int
-		wanted      error
+		arguments, told string
+		looks           int
+		wanted          error
 	}{
 		{"--size 3", "", 1, nil},
 		{"--size 4", "program: 4 is too much", 1, usage},
@@ -72,7 +72,7 @@ func TestSettle(t *testing.T) {
 	} {
 		flags, size, _ := made()
 		looks := 0
-		err := (Rules{}).Settle(flags, strings.Fields(c.words), func() error {
+		err := (Rules{}).ParseAndValidate(flags, strings.Fields(c.arguments), func() error {
 			looks++
 			if *size > 3 {
 				return unfit
@@ -80,7 +80,7 @@ func TestSettle(t *testing.T) {
 			return nil
 		}, usage)
 		if !errors.Is(err, c.wanted) || err != nil && err.Error() != c.told || looks != c.looks {
-			t.Errorf("%s: %v, looked at %d times", c.words, err, looks)
+			t.Errorf("%s: %v, looked at %d times", c.arguments, err, looks)
 		}
 	}
 }
@@ -98,7 +98,7 @@ func TestPositive(t *testing.T) {
 
 // TestFlags: help is a program's page with each flag after it. It is also written for a wrong argument.
 func TestFlags(t *testing.T) {
-	for _, c := range []struct{ words, told string }{
+	for _, c := range []struct{ arguments, told string }{
 		{"--size 3", ""},
 		{"--help", "100% of it\n\n  -size int\n"},
 		{"--size three", "invalid value \"three\" for flag -size: parse error\n100% of it\n\n  -size int\n"},
@@ -106,11 +106,11 @@ func TestFlags(t *testing.T) {
 		var told strings.Builder
 		flags := Flags("program", "100% of it", &told)
 		flags.Int("size", 0, "")
-		if err := flags.Parse(strings.Fields(c.words)); (err == nil) != (c.told == "") {
-			t.Errorf("%s: %v", c.words, err)
+		if err := flags.Parse(strings.Fields(c.arguments)); (err == nil) != (c.told == "") {
+			t.Errorf("%s: %v", c.arguments, err)
 		}
 		if strings.TrimSpace(told.String()) != strings.TrimSpace(c.told) || flags.Name() != "program" {
-			t.Errorf("%s: %s tells %q", c.words, flags.Name(), told.String())
+			t.Errorf("%s: %s tells %q", c.arguments, flags.Name(), told.String())
 		}
 	}
 }
@@ -167,7 +167,7 @@ func TestNamesWrongValues(t *testing.T) {
 			return fmt.Errorf("it is %q for flag -size: and more (write y)", text)
 		})
 		due := strings.Replace(c.due, either+"on true, or on false)", either+"--on, or --on=false)", 1)
-		if err := ParseWords(flags, []string{"--" + c.name + "=" + c.value}); err == nil ||
+		if err := ParseArguments(flags, []string{"--" + c.name + "=" + c.value}); err == nil ||
 			err.Error() != "--"+c.name+": "+due {
 			t.Errorf("the flag: %v, and %s is due", err, due)
 		}

@@ -25,19 +25,19 @@ type Guard struct {
 	// State keeps the text of the state, with the head that the guard approved last. All signers of one log share it.
 	// If two signers approve two heads at once, one of them wins. If they approve the same head, both write the same
 	// text, and both sign that head. No state occurs twice, since timestamps rise.
-	State stores.Register
+	State stores.Lock
 	// Create creates the state of a new log if there is none.
 	Create bool
 }
 
 // Guarded is a key with a guard, which is proved code in this process. It signs the bytes that the guard wrote, and
-// only after the register has the state with these bytes in place of the one that the guard judged over.
+// only after the lock has the state with these bytes in place of the one that the guard judged over.
 type Guarded struct {
 	key   *Key
 	guard Guard
 	// turn is held by the goroutine that asks. The fields below belong to it.
 	turn chan struct{}
-	// state is the state in the register, or nil if the register must be read. seen is the newest state that was read.
+	// state is the state in the lock, or nil if the lock must be read. seen is the newest state that was read.
 	state *State
 	seen  State
 	test  hooks
@@ -67,8 +67,8 @@ func (g *Guarded) take(ctx context.Context) error {
 	}
 }
 
-// look reads the state in the register. The error is ErrState only if the state is missing, damaged or rolled back. A
-// register that does not answer may have a valid state.
+// look reads the state in the lock. The error is ErrState only if the state is missing, damaged or rolled back. A
+// lock that does not answer may have a valid state.
 func (g *Guarded) look(ctx context.Context) (State, error) {
 	g.state = nil
 	text, err := g.guard.State.Read(ctx)
@@ -95,7 +95,7 @@ func (g *Guarded) look(ctx context.Context) (State, error) {
 	return state, nil
 }
 
-// known returns the state in the register. It reads the register only if it must.
+// known returns the state in the lock. It reads the lock only if it must.
 func (g *Guarded) known(ctx context.Context) (State, error) {
 	if g.state != nil {
 		return *g.state, nil
@@ -113,7 +113,7 @@ func maxAhead(head Head) uint64 {
 	return head.Timestamp
 }
 
-// swap replaces a state in the register by the next one. If that fails, the register is read again before the next use.
+// swap replaces a state in the lock by the next one. If that fails, the lock is read again before the next use.
 func (g *Guarded) swap(ctx context.Context, old, next State) (err error) {
 	for try := 0; try < maxSwaps; try++ {
 		if err = g.guard.State.Swap(ctx, old.text, next.text); err == nil {
@@ -137,7 +137,7 @@ func (g *Guarded) Key() []byte { return g.key.Key() }
 // IsGuarded returns true.
 func (g *Guarded) IsGuarded() bool { return true }
 
-// Last returns the head in the register now.
+// Last returns the head in the lock now.
 func (g *Guarded) Last(ctx context.Context) (*Head, error) {
 	if err := g.take(ctx); err != nil {
 		return nil, err
@@ -148,7 +148,7 @@ func (g *Guarded) Last(ctx context.Context) (*Head, error) {
 }
 
 // begun returns the state over which a head is judged. A log's first head may have leaves. Before such a head the
-// register gets the state of the empty tree's head, which nobody signs.
+// lock gets the state of the empty tree's head, which nobody signs.
 func (g *Guarded) begun(ctx context.Context, head Head) (State, error) {
 	state, err := g.known(ctx)
 	if err != nil || !state.Begins(head) {
@@ -165,7 +165,7 @@ func (g *Guarded) begun(ctx context.Context, head Head) (State, error) {
 	return empty, nil
 }
 
-// SignHead returns the signature of a head, as Signer says. The register has the new state before the head is signed.
+// SignHead returns the signature of a head, as Signer says. The lock has the new state before the head is signed.
 // If the process ends in between, the head is approved but not signed.
 func (g *Guarded) SignHead(ctx context.Context, head Head, consistency [][32]byte) ([]byte, error) {
 	if err := g.take(ctx); err != nil {

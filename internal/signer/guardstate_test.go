@@ -21,21 +21,21 @@ func TestStates(t *testing.T) {
 	t.Parallel()
 	ctx, key, right := limited(t), newKey(t), listOf(t, 9, 9)
 	first := right.head(t, 5, 100)
-	_, err := NewGuarded(ctx, key, Guard{State: register(t, t.TempDir())})
+	_, err := NewGuarded(ctx, key, Guard{State: lock(t, t.TempDir())})
 	wants(t, err, ErrState)
 	for _, text := range []string{"x", `{"guard":2,"last":null}`, `{"guard":1,"last":{}}`, `{"last":null,"guard":1}`,
 		`{"guard": 1, "last": null}`, textOf(&first)[1:],
 		strings.ReplaceAll(textOf(&first), ":", ": "), " " + textOf(&first), textOf(&first) + " ",
 		strings.Replace(textOf(&first), `"tree_size":5`, `"tree_size":05`, 1),
 		strings.Replace(textOf(&first), `"timestamp"`, `"x":1,"timestamp"`, 1)} {
-		of := Guard{State: register(t, t.TempDir())}
+		of := Guard{State: lock(t, t.TempDir())}
 		must(t, of.State.Create(ctx, text))
 		if _, err := NewGuarded(ctx, key, of); !errors.Is(err, ErrState) {
 			t.Errorf("%s: %v", text, err)
 		}
 	}
 	// An operator's text with a line end is accepted. A text that is not a state stays as it is.
-	of := Guard{State: register(t, t.TempDir())}
+	of := Guard{State: lock(t, t.TempDir())}
 	must(t, of.State.Create(ctx, "x\n"))
 	_, err = NewGuarded(ctx, key, of)
 	wants(t, err, ErrState)
@@ -48,10 +48,10 @@ func TestStates(t *testing.T) {
 	must(t, err)
 	_, err = g.SignHead(ctx, right.head(t, 9, 101), right.proof(t, 5, 9))
 	must(t, err)
-	full := &unknownoutcome.Register{Register: register(t, t.TempDir()), Every: 3, Fails: errors.New("a disk is full")}
+	full := &unknownoutcome.Lock{Lock: lock(t, t.TempDir()), Every: 3, Fails: errors.New("a disk is full")}
 	_, err = NewGuarded(ctx, key, Guard{State: full, Create: true})
 	wants(t, err, full.Fails)
-	must(t, full.Register.Create(ctx, textOf(&first)+"\n"))
+	must(t, full.Lock.Create(ctx, textOf(&first)+"\n"))
 	_, err = NewGuarded(ctx, key, Guard{State: full})
 	wants(t, err, full.Fails)
 }
@@ -86,7 +86,7 @@ func TestRolledBackState(t *testing.T) {
 	}
 	must(t, stores.KeepFile(text, newest))
 	// A signer that has only read the newest state knows it too.
-	other, err := NewGuarded(ctx, newKey(t), Guard{State: register(t, folder)})
+	other, err := NewGuarded(ctx, newKey(t), Guard{State: lock(t, folder)})
 	must(t, err)
 	must(t, stores.KeepFile(text, old))
 	_, err = other.Last(ctx)
@@ -160,7 +160,7 @@ func orElse(one, other error) error {
 func TestFailedSwap(t *testing.T) {
 	t.Parallel()
 	ctx, key, right, fork := limited(t), newKey(t), listOf(t, 20, 20), listOf(t, 20, 3)
-	state := &unknownoutcome.Register{Register: register(t, t.TempDir()), Every: 3}
+	state := &unknownoutcome.Lock{Lock: lock(t, t.TempDir()), Every: 3}
 	g, err := NewGuarded(ctx, key, Guard{State: state, Create: true})
 	must(t, err)
 	_, err = g.SignHead(ctx, right.head(t, 4, 100), nil)
@@ -183,9 +183,9 @@ func TestFailedSwap(t *testing.T) {
 	must(t, err)
 }
 
-// lying is a register whose Read returns another text than the one that it has.
+// lying is a lock whose Read returns another text than the one that it has.
 type lying struct {
-	stores.Register
+	stores.Lock
 	reads string
 }
 
@@ -193,17 +193,17 @@ func (l *lying) Read(ctx context.Context) (string, error) {
 	if l.reads != "" {
 		return l.reads, nil
 	}
-	return l.Register.Read(ctx)
+	return l.Lock.Read(ctx)
 }
 
-// TestLyingRegister has the register return an older state, one of a fork, one before the first head, and a later one.
+// TestLyingLock has the lock return an older state, one of a fork, one before the first head, and a later one.
 // The guard approves heads after these states, but the swap fails, so nothing is signed.
-func TestLyingRegister(t *testing.T) {
+func TestLyingLock(t *testing.T) {
 	t.Parallel()
 	ctx, key, right, fork := limited(t), newKey(t), listOf(t, 20, 20), listOf(t, 20, 3)
 	older, other, later := right.head(t, 5, 100), fork.head(t, 9, 101), right.head(t, 12, 103)
 	for _, reads := range []string{none, textOf(&older), textOf(&other), textOf(&later)} {
-		state := &lying{Register: register(t, t.TempDir())}
+		state := &lying{Lock: lock(t, t.TempDir())}
 		g, err := NewGuarded(ctx, key, Guard{State: state, Create: true})
 		must(t, err)
 		_, err = g.SignHead(ctx, older, nil)
@@ -228,20 +228,20 @@ func TestLyingRegister(t *testing.T) {
 			}
 		}
 		if last != nil {
-			// The head that the register seems to have, again.
+			// The head that the lock seems to have, again.
 			if signed, err := g.SignHead(ctx, *last, nil); !errors.Is(err, ErrMoved) || signed != nil {
 				t.Errorf("%s once more: %v", reads, err)
 			}
 		}
-		if text, err := state.Register.Read(ctx); err != nil || text != stood {
-			t.Errorf("%s: the register has %s, %v", reads, text, err)
+		if text, err := state.Lock.Read(ctx); err != nil || text != stood {
+			t.Errorf("%s: the lock has %s, %v", reads, text, err)
 		}
 	}
 }
 
-// failing is a register that cannot be read while fails is an error.
+// failing is a lock that cannot be read while fails is an error.
 type failing struct {
-	stores.Register
+	stores.Lock
 	mu    sync.Mutex
 	fails error
 }
@@ -259,15 +259,15 @@ func (f *failing) Read(ctx context.Context) (string, error) {
 	if fails != nil {
 		return "", fails
 	}
-	return f.Register.Read(ctx)
+	return f.Lock.Read(ctx)
 }
 
-// TestUnreadStates has reading the register fail for a while. The state does not count as missing, and heads are signed
+// TestUnreadStates has reading the lock fail for a while. The state does not count as missing, and heads are signed
 // again afterwards.
 func TestUnreadStates(t *testing.T) {
 	t.Parallel()
 	ctx, key, right := limited(t), newKey(t), listOf(t, 20, 20)
-	state := &failing{Register: register(t, t.TempDir())}
+	state := &failing{Lock: lock(t, t.TempDir())}
 	g, err := NewGuarded(ctx, key, Guard{State: state, Create: true})
 	must(t, err)
 	path := filepath.Join(t.TempDir(), "socket")
@@ -286,7 +286,7 @@ func TestUnreadStates(t *testing.T) {
 		_, err := s.SignHead(ctx, right.head(t, size+1, uint64(size+1)), right.proof(t, size, size+1))
 		must(t, err)
 		size++
-		for fails, isState := range map[error]bool{errors.New("a register that is late"): false,
+		for fails, isState := range map[error]bool{errors.New("a lock that is late"): false,
 			context.DeadlineExceeded: false, stores.ErrAbsent: true} {
 			state.set(fails)
 			if _, err := s.Last(ctx); err == nil || errors.Is(err, ErrState) != isState {

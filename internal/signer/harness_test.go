@@ -33,7 +33,7 @@ func refused(t testing.TB, name string, err error) {
 // none is the text of the state before the first head.
 const none = `{"guard":1,"last":null}`
 
-// textOf returns the text of a guard's state, as existing registers have it.
+// textOf returns the text of a guard's state, as existing locks have it.
 func textOf(last *Head) string {
 	if last == nil {
 		return none
@@ -42,7 +42,7 @@ func textOf(last *Head) string {
 		base64.StdEncoding.EncodeToString(last.Root[:]), last.Timestamp, last.Size)
 }
 
-// kept returns what the register of a guard's state has.
+// kept returns what the lock of a guard's state has.
 func kept(t *testing.T, g *Guarded) string {
 	t.Helper()
 	text, err := g.guard.State.Read(limited(t))
@@ -60,7 +60,7 @@ func newKey(t testing.TB) *Key {
 	return key
 }
 
-func register(t testing.TB, folder string) stores.Register {
+func lock(t testing.TB, folder string) stores.Lock {
 	r, err := stores.OpenFile(filepath.Join(folder, "guard"))
 	must(t, err)
 	return r
@@ -152,7 +152,7 @@ func (l *list) receipt(t testing.TB, index, size int) Receipt {
 // guardedIn returns a key with the proved guard, whose state is in a folder.
 func guardedIn(t testing.TB, key *Key, folder string) *Guarded {
 	t.Helper()
-	g, err := NewGuarded(limited(t), key, Guard{State: register(t, folder), Create: true})
+	g, err := NewGuarded(limited(t), key, Guard{State: lock(t, folder), Create: true})
 	must(t, err)
 	return g
 }

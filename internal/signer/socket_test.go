@@ -97,7 +97,7 @@ func (s timely) Last(ctx context.Context) (*Head, error) {
 	return nil, nil
 }
 
-// TestRequestTimeout: each request has a time limit, so a register that does not answer blocks no connection for ever.
+// TestRequestTimeout: each request has a time limit, so a lock that does not answer blocks no connection for ever.
 func TestRequestTimeout(t *testing.T) {
 	t.Parallel()
 	of := timely{newKey(t), make(chan time.Duration, 1)}

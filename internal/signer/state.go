@@ -42,7 +42,7 @@ type stateLine struct {
 	Last  *headLine `json:"last"`
 }
 
-// State is a guard's state: the head that the guard approved last. A register keeps it as a text (docs/GUARD.md).
+// State is a guard's state: the head that the guard approved last. A lock keeps it as a text (docs/GUARD.md).
 type State struct {
 	text string
 	// last is nil before the first head.
@@ -64,7 +64,7 @@ func stateOf(last *Head) (State, error) {
 	return state, nil
 }
 
-// ReadState returns the state of a register's text. Each state has one text, byte for byte, and every other text is
+// ReadState returns the state of a lock's text. Each state has one text, byte for byte, and every other text is
 // ErrState.
 func ReadState(text string) (State, error) {
 	var line stateLine
@@ -82,13 +82,13 @@ func ReadState(text string) (State, error) {
 	return state, err
 }
 
-// Text returns the text that a register keeps.
+// Text returns the text that a lock keeps.
 func (s State) Text() string { return s.text }
 
 // Last returns the last head, or nil before the first one.
 func (s State) Last() *Head { return s.last }
 
-// Signed returns the bytes that are signed for the last head. A signer must sign them only after the register has the
+// Signed returns the bytes that are signed for the last head. A signer must sign them only after the lock has the
 // state.
 func (s State) Signed() []byte { return s.signed }
 
@@ -108,7 +108,7 @@ func (s State) Since(seen State) error {
 }
 
 // Begin returns the state after the head of the empty tree, a millisecond before a log's first head with leaves. No
-// register may lose its head, so only a state without one begins.
+// lock may lose its head, so only a state without one begins.
 func (s State) Begin(first Head) (State, error) {
 	empty := wagtenib.TreeHead{Root: sha256.Sum256(nil)}
 	if first.Timestamp > 0 {

@@ -83,7 +83,7 @@ func TestIsRolledBack(t *testing.T) {
 	}
 }
 
-// TestFirstHead: before its first head with leaves a log gets the head of the empty tree in its register, which is not
+// TestFirstHead: before its first head with leaves a log gets the head of the empty tree in its lock, which is not
 // signed. A head of no leaves is the first only if its root is that of the empty tree. After a head nothing begins
 // again.
 func TestFirstHead(t *testing.T) {
@@ -110,7 +110,7 @@ func TestFirstHead(t *testing.T) {
 	must(t, CheckHead(g.Key(), head, signed))
 	if due := []string{textOf(&empty), textOf(&empty), textOf(&head)}; strings.Join(texts,
 		"\n") != strings.Join(due, "\n") {
-		t.Errorf("the register had %q, and not %q", texts, due)
+		t.Errorf("the lock had %q, and not %q", texts, due)
 	}
 	for _, text := range []string{textOf(&empty), textOf(&head)} {
 		state, err := ReadState(text)
@@ -128,7 +128,7 @@ func TestFirstHead(t *testing.T) {
 	}
 }
 
-// TestKilledAfterTheEmptyHead kills (-9) a signer after its register got the head of the empty tree, which comes before
+// TestKilledAfterTheEmptyHead kills (-9) a signer after its lock got the head of the empty tree, which comes before
 // the first head with leaves. The next one goes on.
 func TestKilledAfterTheEmptyHead(t *testing.T) {
 	t.Parallel()
@@ -149,7 +149,7 @@ func TestKilledAfterTheEmptyHead(t *testing.T) {
 	state, err := ReadState(strings.TrimSuffix(string(readText(t, folder)), "\n"))
 	must(t, err)
 	if last := state.Last(); last == nil || last.Size != 0 {
-		t.Errorf("the register has %s", state.Text())
+		t.Errorf("the lock has %s", state.Text())
 	}
 	if output, err := run(""); err != nil || len(output) == 0 {
 		t.Errorf("%v, %s", err, output)
@@ -163,9 +163,9 @@ func readText(t *testing.T, folder string) []byte {
 	return text
 }
 
-// TestDamagedRegister: a register whose text is damaged or emptied, before a start or while a signer runs, never counts
+// TestDamagedLock: a lock whose text is damaged or emptied, before a start or while a signer runs, never counts
 // as one without a head. Nothing is signed, and the text stays the same.
-func TestDamagedRegister(t *testing.T) {
+func TestDamagedLock(t *testing.T) {
 	t.Parallel()
 	ctx, l, fork := limited(t), listOf(t, 9, 9), listOf(t, 9, 0)
 	for _, damaged := range []string{"", "\n", " ", "{", "null", "{}", `{"guard":1}`, `{"guard":1,"last":{}}`,
@@ -179,7 +179,7 @@ func TestDamagedRegister(t *testing.T) {
 			t.Errorf("%q: the last head is %+v, %v", damaged, last, err)
 		}
 		for _, create := range []bool{false, true} {
-			if _, err := NewGuarded(ctx, newKey(t), Guard{State: register(t, folder), Create: create}); !errors.Is(
+			if _, err := NewGuarded(ctx, newKey(t), Guard{State: lock(t, folder), Create: create}); !errors.Is(
 				err, ErrState) {
 				t.Errorf("%q: a signer starts, %v", damaged, err)
 			}
@@ -200,7 +200,7 @@ func TestDamagedRegister(t *testing.T) {
 	}
 }
 
-// TestRefusedStays: a head that the guard refuses is not signed, and the register's text stays the same.
+// TestRefusedStays: a head that the guard refuses is not signed, and the lock's text stays the same.
 func TestRefusedStays(t *testing.T) {
 	t.Parallel()
 	ctx, l, fork := limited(t), listOf(t, 9, 9), listOf(t, 9, 3)

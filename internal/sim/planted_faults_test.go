@@ -4,15 +4,15 @@ package sim_test
 var all = []planted{
 	{"nothing is staged", []edit{
 		{"pass.go",
-			"	if err := p.config.Stores.Objects.Put(ctx, p.command.New.Bundle, p.made.content); err != nil {",
+			"	if err := p.config.Stores.Objects.Put(ctx, p.command.New.Batch, p.made.content); err != nil {",
 			"	if err := error(nil); err != nil {",
 		},
 	}},
 	{"the swap comes before the staging", []edit{
-		{"pass.go", "told, err = p.stage(ctx)", "told = decider.Done()"},
+		{"pass.go", "outcome, err = p.stage(ctx)", "outcome = decider.Done()"},
 		{"swap.go",
 			"	p.last.decided = true\n	if !won {",
-			"	if won {\n		_ = p.config.Stores.Objects.Put(ctx, p.command.New.Bundle, p.made.content)\n	}\n" +
+			"	if won {\n		_ = p.config.Stores.Objects.Put(ctx, p.command.New.Batch, p.made.content)\n	}\n" +
 				"	p.last.decided = true\n	if !won {",
 		},
 	}},
@@ -150,7 +150,7 @@ var all = []planted{
 	}},
 	{"the decider is not asked for a staged batch", []edit{
 		{"node/janitor/pass.go",
-			"		if next.Do != decider.Delete || next.Bundle != name {",
+			"		if next.Do != decider.Delete || next.Batch != name {",
 			"		if next == nil {",
 		},
 	}},
@@ -339,7 +339,7 @@ var all = []planted{
 	{"a staged batch is deleted without asking", []edit{
 		{"swap.go",
 			"	p.keepEdge()\n",
-			"	p.keepEdge()\n	_ = p.config.Stores.Objects.Delete(ctx, p.command.New.Bundle)\n",
+			"	p.keepEdge()\n	_ = p.config.Stores.Objects.Delete(ctx, p.command.New.Batch)\n",
 		},
 	}},
 	{"a step goes on from an unpublished state", []edit{

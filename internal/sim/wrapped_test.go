@@ -14,16 +14,16 @@ import (
 // wrapped is the proved decider, and changes what it says.
 type wrapped struct {
 	*decider.Decider
-	// told changes an outcome before the decider gets it, and next the command that follows.
-	told func(command *decider.Command, told decider.Told) decider.Told
-	next func(w *wrapped, command, next *decider.Command, err error) (*decider.Command, error)
+	// outcome changes an outcome before the decider gets it, and next the command that follows.
+	outcome func(command *decider.Command, outcome *decider.Outcome) *decider.Outcome
+	next    func(w *wrapped, command, next *decider.Command, err error) (*decider.Command, error)
 }
 
-func (w *wrapped) Next(command *decider.Command, told decider.Told) (*decider.Command, error) {
-	if w.told != nil {
-		told = w.told(command, told)
+func (w *wrapped) Next(command *decider.Command, outcome *decider.Outcome) (*decider.Command, error) {
+	if w.outcome != nil {
+		outcome = w.outcome(command, outcome)
 	}
-	next, err := w.Decider.Next(command, told)
+	next, err := w.Decider.Next(command, outcome)
 	if w.next != nil {
 		return w.next(w, command, next, err)
 	}
@@ -73,11 +73,11 @@ func TestWrappedDecisions(t *testing.T) {
 		{"a step goes on from a state that is not published", "a step is made of a published state",
 			node.Proved{Steps: steps, Decider: &wrapped{
 				Decider: decider.New(),
-				told: func(command *decider.Command, told decider.Told) decider.Told {
+				outcome: func(command *decider.Command, outcome *decider.Outcome) *decider.Outcome {
 					if command.Do == decider.Look {
 						return decider.Published()
 					}
-					return told
+					return outcome
 				},
 			}}},
 		{"the newest staged batch is deleted", "the newest staged batch stays",
@@ -85,7 +85,7 @@ func TestWrappedDecisions(t *testing.T) {
 				Decider: decider.New(),
 				next: func(_ *wrapped, command, next *decider.Command, err error) (*decider.Command, error) {
 					if err == nil && command.Do == decider.Step && next.Do == decider.Delete {
-						next.Bundle = next.Seen.Bundle
+						next.Batch = next.Seen.Batch
 					}
 					return next, err
 				},

@@ -61,12 +61,12 @@ func ObjectsThere(address string) error {
 	return nil
 }
 
-// RegisterAt opens the register at an address:
+// LockAt opens the lock at an address:
 //
-//	file:PATH                                           a folder with the register's files
+//	file:PATH                                           a folder with the lock's files
 //	etcd://[USER:PASSWORD@]HOST:PORT[,HOST:PORT..]/PREFIX
 //	postgres://[USER[:PASSWORD]@]HOST[:PORT]/DATABASE?log=NAME[&..]      the rest as libpq has it
-func RegisterAt(ctx context.Context, address string) (Register, error) {
+func LockAt(ctx context.Context, address string) (Lock, error) {
 	kind, rest, _ := strings.Cut(address, ":")
 	switch kind {
 	case "file":
@@ -88,10 +88,10 @@ func RegisterAt(ctx context.Context, address string) (Register, error) {
 		}
 		return OpenPostgres(ctx, at)
 	}
-	return nil, fmt.Errorf("%w: a register is at file:PATH, etcd://.. or postgres://.., not at %.20q", ErrAddress, kind)
+	return nil, fmt.Errorf("%w: a lock is at file:PATH, etcd://.. or postgres://.., not at %.20q", ErrAddress, kind)
 }
 
-// IndexAt opens the index at an address: leveldb:PATH, a folder, or one of PostgreSQL as RegisterAt has them.
+// IndexAt opens the index at an address: leveldb:PATH, a folder, or one of PostgreSQL as LockAt has them.
 func IndexAt(ctx context.Context, address string) (Index, error) {
 	kind, rest, _ := strings.Cut(address, ":")
 	switch kind {
@@ -126,11 +126,11 @@ func CheckObjects(address string) error {
 	return checked(address, "objects", map[string]func() error{"folder": nil, "s3": s3})
 }
 
-// CheckRegister is CheckObjects of a register.
-func CheckRegister(address string) error {
+// CheckLock is CheckObjects of a lock.
+func CheckLock(address string) error {
 	postgres := func() error { _, err := parsePostgres(address); return err }
 	etcd := func() error { _, err := parseEtcd(address); return err }
-	return checked(address, "a register", map[string]func() error{
+	return checked(address, "a lock", map[string]func() error{
 		"file": nil, "etcd": etcd, "postgres": postgres, "postgresql": postgres,
 	})
 }

@@ -47,7 +47,7 @@ func TestWrongAddresses(t *testing.T) {
 	ctx := limited(t)
 	open := map[string]func(string) error{
 		"objects":  func(address string) error { _, err := ObjectsAt(ctx, address); return err },
-		"register": func(address string) error { _, err := RegisterAt(ctx, address); return err },
+		"register": func(address string) error { _, err := LockAt(ctx, address); return err },
 		"index":    func(address string) error { _, err := IndexAt(ctx, address); return err },
 	}
 	for kind, addresses := range map[string][]string{
@@ -74,9 +74,9 @@ func TestLocalAddresses(t *testing.T) {
 	objects, err := ObjectsAt(ctx, "folder:"+filepath.Join(place, "objects"))
 	must(t, err)
 	must(t, objects.Put(ctx, "a/b", []byte("c")))
-	register, err := RegisterAt(ctx, "file:"+filepath.Join(place, "register"))
+	lock, err := LockAt(ctx, "file:"+filepath.Join(place, "register"))
 	must(t, err)
-	must(t, register.Create(ctx, "text"))
+	must(t, lock.Create(ctx, "text"))
 	index, err := IndexAt(ctx, "leveldb:"+filepath.Join(place, "index"))
 	must(t, err)
 	must(t, index.Add(ctx, []Row{{Identity{1}, Identity{2}, Place{2, 3}}}))
@@ -87,7 +87,7 @@ func TestLocalAddresses(t *testing.T) {
 		}
 	}
 	must(t, objects.Close())
-	must(t, register.Close())
+	must(t, lock.Close())
 	must(t, index.Close())
 }
 

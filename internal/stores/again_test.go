@@ -100,13 +100,13 @@ func TestObjectsOutliveTheirEngine(t *testing.T) {
 	})
 }
 
-func TestRegisterOutlivesItsEngine(t *testing.T) {
-	inTurn(t, registers, func(t *testing.T, at tried[Register]) {
-		register, ctx := at.opened(t), limited(t)
-		must(t, register.Create(ctx, "text 0"))
+func TestLockOutlivesItsEngine(t *testing.T) {
+	inTurn(t, locks, func(t *testing.T, at tried[Lock]) {
+		lock, ctx := at.opened(t), limited(t)
+		must(t, lock.Create(ctx, "text 0"))
 		tries := 0
 		last := whileEnginesDie(t, at.name, func(ctx context.Context, i int) error {
-			old, err := register.Read(ctx)
+			old, err := lock.Read(ctx)
 			if err != nil {
 				return err
 			}
@@ -114,20 +114,20 @@ func TestRegisterOutlivesItsEngine(t *testing.T) {
 				t.Fatalf("%q stands, and %d was acknowledged", old, i-1)
 			}
 			tries++
-			err = register.Swap(ctx, old, fmt.Sprintf("try %d: %d", tries, i))
+			err = lock.Swap(ctx, old, fmt.Sprintf("try %d: %d", tries, i))
 			if errors.Is(err, ErrAbsent) {
 				t.Fatal(err)
 			}
 			if err != nil {
 				return err
 			}
-			return register.Raise(ctx, Published{uint64(i), uint64(2 * i)})
+			return lock.Raise(ctx, Published{uint64(i), uint64(2 * i)})
 		})
-		text, err := register.Read(ctx)
+		text, err := lock.Read(ctx)
 		if err != nil || number(text) < last || !strings.HasPrefix(text, "try ") {
 			t.Errorf("%q stands, %v, and %d was acknowledged", text, err, last)
 		}
-		if published, err := register.Published(ctx); err != nil || published.Size < uint64(last) ||
+		if published, err := lock.Published(ctx); err != nil || published.Size < uint64(last) ||
 			published.Timestamp != 2*published.Size {
 			t.Errorf("%v is published, %v, and %d was acknowledged", published, err, last)
 		}

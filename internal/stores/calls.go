@@ -18,17 +18,17 @@ type Call struct {
 }
 
 const (
-	ofObjects  = "objects"
-	ofRegister = "lock"
-	ofIndex    = "index"
+	ofObjects = "objects"
+	ofLock    = "lock"
+	ofIndex   = "index"
 )
 
 // callsThatAre are all, in their order; nothing else is counted.
 var callsThatAre = []Call{
 	{Store: ofObjects, Name: "put"}, {Store: ofObjects, Name: "get"}, {Store: ofObjects, Name: "list"},
 	{Store: ofObjects, Name: "delete"}, {Store: ofObjects, Name: "swap"},
-	{Store: ofRegister, Name: "create"}, {Store: ofRegister, Name: "read"}, {Store: ofRegister, Name: "swap"},
-	{Store: ofRegister, Name: "published"}, {Store: ofRegister, Name: "raise"},
+	{Store: ofLock, Name: "create"}, {Store: ofLock, Name: "read"}, {Store: ofLock, Name: "swap"},
+	{Store: ofLock, Name: "published"}, {Store: ofLock, Name: "raise"},
 	{Store: ofIndex, Name: "find"}, {Store: ofIndex, Name: "add"}, {Store: ofIndex, Name: "replace"},
 }
 
@@ -137,48 +137,48 @@ func (o countedCurrent) Swap(ctx context.Context, name string, old, new []byte) 
 	return o.calls.ended(ctx, ofObjects, "swap", began, o.of.Swap(ctx, name, old, new))
 }
 
-// Register is this one, counted.
-func (c *Calls) Register(of Register) Register {
-	counted := countedRegister{of, c}
+// Lock is this one, counted.
+func (c *Calls) Lock(of Lock) Lock {
+	counted := countedLock{of, c}
 	if timed, ok := of.(Timed); ok {
 		return struct {
-			Register
+			Lock
 			Timed
 		}{counted, timed}
 	}
 	return counted
 }
 
-type countedRegister struct {
-	Register
+type countedLock struct {
+	Lock
 	calls *Calls
 }
 
-func (r countedRegister) Create(ctx context.Context, text string) error {
+func (r countedLock) Create(ctx context.Context, text string) error {
 	began := time.Now()
-	return r.calls.ended(ctx, ofRegister, "create", began, r.Register.Create(ctx, text))
+	return r.calls.ended(ctx, ofLock, "create", began, r.Lock.Create(ctx, text))
 }
 
-func (r countedRegister) Read(ctx context.Context) (string, error) {
+func (r countedLock) Read(ctx context.Context) (string, error) {
 	began := time.Now()
-	text, err := r.Register.Read(ctx)
-	return text, r.calls.ended(ctx, ofRegister, "read", began, err)
+	text, err := r.Lock.Read(ctx)
+	return text, r.calls.ended(ctx, ofLock, "read", began, err)
 }
 
-func (r countedRegister) Swap(ctx context.Context, old, new string) error {
+func (r countedLock) Swap(ctx context.Context, old, new string) error {
 	began := time.Now()
-	return r.calls.ended(ctx, ofRegister, "swap", began, r.Register.Swap(ctx, old, new))
+	return r.calls.ended(ctx, ofLock, "swap", began, r.Lock.Swap(ctx, old, new))
 }
 
-func (r countedRegister) Published(ctx context.Context) (Published, error) {
+func (r countedLock) Published(ctx context.Context) (Published, error) {
 	began := time.Now()
-	published, err := r.Register.Published(ctx)
-	return published, r.calls.ended(ctx, ofRegister, "published", began, err)
+	published, err := r.Lock.Published(ctx)
+	return published, r.calls.ended(ctx, ofLock, "published", began, err)
 }
 
-func (r countedRegister) Raise(ctx context.Context, published Published) error {
+func (r countedLock) Raise(ctx context.Context, published Published) error {
 	began := time.Now()
-	return r.calls.ended(ctx, ofRegister, "raise", began, r.Register.Raise(ctx, published))
+	return r.calls.ended(ctx, ofLock, "raise", began, r.Lock.Raise(ctx, published))
 }
 
 // Index is this one, counted. A look-up by leaf hash counts as a find.

@@ -38,16 +38,16 @@ type givenCurrent struct{ *given }
 
 func (g givenCurrent) Swap(context.Context, string, []byte, []byte) error { return g.give() }
 
-type givenRegister struct{ *given }
+type givenLock struct{ *given }
 
-func (g givenRegister) Create(context.Context, string) error       { return g.give() }
-func (g givenRegister) Read(context.Context) (string, error)       { return "text", g.give() }
-func (g givenRegister) Swap(context.Context, string, string) error { return g.give() }
-func (g givenRegister) Published(context.Context) (Published, error) {
+func (g givenLock) Create(context.Context, string) error       { return g.give() }
+func (g givenLock) Read(context.Context) (string, error)       { return "text", g.give() }
+func (g givenLock) Swap(context.Context, string, string) error { return g.give() }
+func (g givenLock) Published(context.Context) (Published, error) {
 	return Published{7, 8}, g.give()
 }
-func (g givenRegister) Raise(context.Context, Published) error { return g.give() }
-func (g givenRegister) Close() error                           { return errors.New("closed") }
+func (g givenLock) Raise(context.Context, Published) error { return g.give() }
+func (g givenLock) Close() error                           { return errors.New("closed") }
 
 type givenIndex struct{ *given }
 
@@ -68,7 +68,7 @@ func (givenTime) Time(context.Context) (time.Time, time.Duration, error) {
 }
 
 // asksAll makes each call once, in the order of All, and gives what came of each.
-func asksAll(ctx context.Context, objects Objects, current Current, register Register,
+func asksAll(ctx context.Context, objects Objects, current Current, lock Lock,
 	index Index) (errs []error, values []any) {
 	add := func(err error, more ...any) { errs, values = append(errs, err), append(values, more...) }
 	add(objects.Put(ctx, "name", nil))
@@ -78,13 +78,13 @@ func asksAll(ctx context.Context, objects Objects, current Current, register Reg
 	add(err, names)
 	add(objects.Delete(ctx, "name"))
 	add(current.Swap(ctx, "name", nil, nil))
-	add(register.Create(ctx, "text"))
-	text, err := register.Read(ctx)
+	add(lock.Create(ctx, "text"))
+	text, err := lock.Read(ctx)
 	add(err, text)
-	add(register.Swap(ctx, "old", "new"))
-	published, err := register.Published(ctx)
+	add(lock.Swap(ctx, "old", "new"))
+	published, err := lock.Published(ctx)
 	add(err, published)
-	add(register.Raise(ctx, published))
+	add(lock.Raise(ctx, published))
 	found, err := index.Find(ctx, nil)
 	add(err, found)
 	add(index.Add(ctx, nil))
@@ -128,11 +128,11 @@ func TestCallsAreCounted(t *testing.T) {
 		"a number too large":             {context.Background(), ErrNumber, 0},
 	} {
 		calls, of := &Calls{}, &given{err: test.err, takes: time.Millisecond}
-		objects, register, index := calls.Objects(givenObjects{of}), calls.Register(givenRegister{of}),
+		objects, lock, index := calls.Objects(givenObjects{of}), calls.Lock(givenLock{of}),
 			calls.Index(givenIndex{of})
 		began := time.Now()
 		for i := 0; i < 2; i++ {
-			errs, values := asksAll(test.ctx, objects, calls.Current(givenCurrent{of}), register, index)
+			errs, values := asksAll(test.ctx, objects, calls.Current(givenCurrent{of}), lock, index)
 			for i, err := range errs {
 				if err != test.err {
 					t.Errorf("%s: %s gives %v", what, want[i], err)
@@ -179,18 +179,18 @@ func TestCountedStores(t *testing.T) {
 		}
 	}
 	for _, tells := range []bool{false, true} {
-		objects, register := Objects(givenObjects{of}), Register(givenRegister{of})
+		objects, lock := Objects(givenObjects{of}), Lock(givenLock{of})
 		if tells {
 			objects = struct {
 				givenObjects
 				givenTime
 			}{givenObjects{of}, givenTime{}}
-			register = struct {
-				givenRegister
+			lock = struct {
+				givenLock
 				givenTime
-			}{givenRegister{of}, givenTime{}}
+			}{givenLock{of}, givenTime{}}
 		}
-		for _, store := range []interface{ Close() error }{calls.Objects(objects), calls.Register(register)} {
+		for _, store := range []interface{ Close() error }{calls.Objects(objects), calls.Lock(lock)} {
 			timed(store, tells)
 			if err := store.Close(); err == nil || err.Error() != "closed" {
 				t.Errorf("%T: it isn't closed: %v", store, err)

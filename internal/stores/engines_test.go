@@ -83,13 +83,13 @@ var objectStores = []implementation[Objects]{
 		open: func(ctx context.Context, place string) (Objects, error) { return openS3At(ctx, place, false) }},
 }
 
-var registers = []implementation[Register]{
+var locks = []implementation[Lock]{
 	{name: "file", folder: true,
-		open: func(_ context.Context, place string) (Register, error) { return OpenFile(place) }},
+		open: func(_ context.Context, place string) (Lock, error) { return OpenFile(place) }},
 	{name: "etcd", missing: wants(etcdMembers, "etcd-server"),
-		open: func(_ context.Context, place string) (Register, error) { return OpenEtcd(etcdAt(place)) }},
+		open: func(_ context.Context, place string) (Lock, error) { return OpenEtcd(etcdAt(place)) }},
 	{name: "postgres", missing: wants(postgresURL, "postgresql"),
-		open: func(ctx context.Context, place string) (Register, error) {
+		open: func(ctx context.Context, place string) (Lock, error) {
 			return OpenPostgres(ctx, Postgres{postgresURL, place})
 		}},
 }

@@ -42,11 +42,11 @@ func (at Etcd) open() (*members, error) {
 	return newMembers(client), nil
 }
 
-// inEtcd keeps the register in two keys: the text, and the size and the timestamp of the published head.
+// inEtcd keeps the lock in two keys: the text, and the size and the timestamp of the published head.
 //
 // It asks of the cluster: transactions and reads are linearizable (reads are, unless they are said to be serializable,
 // which none here is), and what a majority acknowledged stays: members keep their data folders, and fsync is left on
-// (--unsafe-no-fsync isn't given). A restore from a backup sets the register back, and isn't to be done to a log. Old
+// (--unsafe-no-fsync isn't given). A restore from a backup sets the lock back, and isn't to be done to a log. Old
 // revisions, which nobody reads, are compacted (--auto-compaction-retention): each swap and each place leaves one, and
 // they fill the cluster's quota.
 type inEtcd struct {
@@ -54,8 +54,8 @@ type inEtcd struct {
 	text, head string
 }
 
-// OpenEtcd opens the register below a prefix.
-func OpenEtcd(at Etcd) (Register, error) {
+// OpenEtcd opens the lock below a prefix.
+func OpenEtcd(at Etcd) (Lock, error) {
 	client, err := at.open()
 	if err != nil {
 		return nil, err
@@ -138,7 +138,7 @@ func headInOrder(p Published) string { return inOrder(p.Size) + "-" + inOrder(p.
 // headFormInOrder reads what headInOrder wrote.
 const headFormInOrder = "%020d-%020d"
 
-// Published is Register's.
+// Published is Lock's.
 func (e *inEtcd) Published(ctx context.Context) (published Published, err error) {
 	head, err := e.get(ctx, e.head)
 	if err != nil {
@@ -150,7 +150,7 @@ func (e *inEtcd) Published(ctx context.Context) (published Published, err error)
 	return published, nil
 }
 
-// Raise is Register's.
+// Raise is Lock's.
 func (e *inEtcd) Raise(ctx context.Context, published Published) error {
 	if err := checkNumbers(published.Size, published.Timestamp); err != nil {
 		return err

@@ -12,7 +12,7 @@ import (
 	"time"
 )
 
-// The register's files.
+// The lock's files.
 const (
 	lockFile = "lock"
 	textFile = "text"
@@ -20,8 +20,9 @@ const (
 	headFile = "head"
 )
 
-// file keeps the register in a folder. The folder has a file with the text, one with the published head, and a lock
-// file. Several processes of one machine may use it at once. Reading takes no lock. The file system must promise that
+// file keeps the lock in a folder. The folder has a file with the text, one with the published head, and one that a
+// process locks by flock(2) while it writes. Several processes of one machine may use the folder at once. Reading needs
+// no flock. The file system must promise that
 // flock(2) excludes other processes and ends with its process, that rename(2) is atomic, and that a file or a folder
 // persists after fsync(2). NFS is not enough, since its flock may exclude only processes of the same machine.
 type file struct {
@@ -33,8 +34,8 @@ type file struct {
 	raised Published
 }
 
-// OpenFile opens the register in a folder, and makes the folder where it isn't there; it makes no register.
-func OpenFile(root string) (Register, error) {
+// OpenFile opens the lock in a folder. It makes the folder if it does not exist, and creates no lock in it.
+func OpenFile(root string) (Lock, error) {
 	d, err := openDisk(root)
 	if err != nil {
 		return nil, err
@@ -44,30 +45,30 @@ func OpenFile(root string) (Register, error) {
 
 func (f *file) path(name string) string { return filepath.Join(f.disk.root, name) }
 
-// locked calls do while this process has the lock. It waits for the lock until the context ends.
+// locked calls do while this process has locked the lock file by flock(2). It waits for that until the context ends.
 func (f *file) locked(ctx context.Context, do func() error) error {
-	// (who may open it may keep all others waiting)
-	lock, err := os.OpenFile(f.path(lockFile), os.O_RDWR|os.O_CREATE, 0o600)
+	// A user who may open the file may keep all others waiting.
+	taken, err := os.OpenFile(f.path(lockFile), os.O_RDWR|os.O_CREATE, 0o600)
 	if err != nil {
-		return fmt.Errorf("stores: register: %w", err)
+		return fmt.Errorf("stores: lock: %w", err)
 	}
-	defer lock.Close()
+	defer taken.Close()
 	for {
-		err := syscall.Flock(int(lock.Fd()), syscall.LOCK_EX|syscall.LOCK_NB)
+		err := syscall.Flock(int(taken.Fd()), syscall.LOCK_EX|syscall.LOCK_NB)
 		if err == nil {
 			break
 		}
 		if !errors.Is(err, syscall.EWOULDBLOCK) && !errors.Is(err, syscall.EINTR) {
-			return fmt.Errorf("stores: register: lock: %w", err)
+			return fmt.Errorf("stores: lock: flock: %w", err)
 		}
 		select {
 		case <-ctx.Done():
-			return fmt.Errorf("stores: register: lock: %w", ctx.Err())
+			return fmt.Errorf("stores: lock: flock: %w", ctx.Err())
 		case <-time.After(time.Millisecond):
 		}
 	}
 	if err := ctx.Err(); err != nil {
-		return fmt.Errorf("stores: register: %w", err)
+		return fmt.Errorf("stores: lock: %w", err)
 	}
 	return do()
 }
@@ -79,7 +80,7 @@ func (f *file) raw(name string) (string, error) {
 		return "", ErrAbsent
 	}
 	if err != nil {
-		return "", fmt.Errorf("stores: register: %w", err)
+		return "", fmt.Errorf("stores: lock: %w", err)
 	}
 	return string(content), nil
 }
@@ -88,7 +89,7 @@ func (f *file) raw(name string) (string, error) {
 // sync. If the file system is read-only, nothing can be lost.
 func (f *file) keep() error {
 	if err := SyncFolder(f.disk.root); err != nil && !errors.Is(err, syscall.EROFS) {
-		return fmt.Errorf("stores: register: %w", err)
+		return fmt.Errorf("stores: lock: %w", err)
 	}
 	return nil
 }
@@ -157,7 +158,7 @@ func (f *file) set(name, content string) error {
 	defer os.Remove(whole)
 	named := func() error { return os.Rename(whole, f.path(name)) }
 	if err := freesLater(f.path(name), named); err != nil {
-		return fmt.Errorf("stores: register: %w", err)
+		return fmt.Errorf("stores: lock: %w", err)
 	}
 	if err := SyncFolder(f.disk.root); err != nil {
 		return fmt.Errorf("%w: %v", ErrUnknown, err)
@@ -192,7 +193,7 @@ func (f *file) Create(ctx context.Context, text string) error {
 
 func (f *file) Read(ctx context.Context) (text string, err error) {
 	if err := ctx.Err(); err != nil {
-		return "", fmt.Errorf("stores: register: %w", err)
+		return "", fmt.Errorf("stores: lock: %w", err)
 	}
 	return f.readText()
 }
@@ -224,14 +225,14 @@ func (f *file) Swap(ctx context.Context, old, new string) error {
 func (f *file) published() (p Published, err error) {
 	head, err := f.raw(headFile)
 	if errors.Is(err, ErrAbsent) {
-		return p, fmt.Errorf("stores: register: %s with the published head is missing: %w", f.path(headFile), err)
+		return p, fmt.Errorf("stores: lock: %s with the published head is missing: %w", f.path(headFile), err)
 	}
 	if err != nil {
 		return p, err
 	}
 	n, err := fmt.Sscanf(head, headForm, &p.Size, &p.Timestamp)
 	if n != 2 || err != nil || fmt.Sprintf(headForm, p.Size, p.Timestamp) != head {
-		return Published{}, fmt.Errorf("stores: register: %s has %.40q instead of the published head",
+		return Published{}, fmt.Errorf("stores: lock: %s has %.40q instead of the published head",
 			f.path(headFile), head)
 	}
 	return p, nil
@@ -240,7 +241,7 @@ func (f *file) published() (p Published, err error) {
 // headForm is how headFile has a size and a moment.
 const headForm = "%d %d"
 
-// created returns what is published of a register that was created; it need not be on the disk.
+// created returns what is published of a lock that was created; it need not be on the disk.
 func (f *file) created() (Published, error) {
 	if _, err := f.raw(textFile); err != nil {
 		return Published{}, err
@@ -255,7 +256,7 @@ func (f *file) created() (Published, error) {
 
 func (f *file) Published(ctx context.Context) (Published, error) {
 	if err := ctx.Err(); err != nil {
-		return Published{}, fmt.Errorf("stores: register: %w", err)
+		return Published{}, fmt.Errorf("stores: lock: %w", err)
 	}
 	published, err := f.created()
 	if err == nil {

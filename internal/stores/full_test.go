@@ -79,23 +79,23 @@ func TestFolderOnAFullDisk(t *testing.T) {
 
 func TestFileOnAFullDisk(t *testing.T) {
 	disk, ctx := smallDisk(t, 1<<20), limited(t)
-	register, err := OpenFile(filepath.Join(disk, "register"))
+	lock, err := OpenFile(filepath.Join(disk, "register"))
 	must(t, err)
-	must(t, register.Create(ctx, "first"))
-	must(t, register.Raise(ctx, Published{Size: 5}))
+	must(t, lock.Create(ctx, "first"))
+	must(t, lock.Raise(ctx, Published{Size: 5}))
 	room := fill(t, disk)
 	long := strings.Repeat("x", MaxText)
-	if err := register.Swap(ctx, "first", long); !isFull(err) || errors.Is(err, ErrUnknown) {
+	if err := lock.Swap(ctx, "first", long); !isFull(err) || errors.Is(err, ErrUnknown) {
 		t.Errorf("Swap: %v", err)
 	}
-	if err := register.Raise(ctx, Published{Size: 6}); !isFull(err) || errors.Is(err, ErrUnknown) {
+	if err := lock.Raise(ctx, Published{Size: 6}); !isFull(err) || errors.Is(err, ErrUnknown) {
 		t.Errorf("Raise: %v", err)
 	}
-	standsAs(t, register, "first", 5)
+	standsAs(t, lock, "first", 5)
 	room()
-	must(t, register.Swap(ctx, "first", long))
-	must(t, register.Raise(ctx, Published{Size: 6}))
-	standsAs(t, register, long, 6)
+	must(t, lock.Swap(ctx, "first", long))
+	must(t, lock.Raise(ctx, Published{Size: 6}))
+	standsAs(t, lock, long, 6)
 }
 
 func TestLevelDBOnAFullDisk(t *testing.T) {

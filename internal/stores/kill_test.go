@@ -35,7 +35,7 @@ func write(words []string) error {
 	ctx, cancel := context.WithTimeout(context.Background(), testutil.Longest)
 	defer cancel()
 	make := map[string]func(context.Context, string, string) (writer, error){"objects": objectWriter,
-		"register": registerWriter, "index": indexWriter}
+		"register": lockWriter, "index": indexWriter}
 	do, err := make[words[0]](ctx, words[1], words[2])
 	if err != nil {
 		return err
@@ -70,8 +70,8 @@ func objectWriter(ctx context.Context, name, place string) (writer, error) {
 	return func(ctx context.Context, i int) error { return store.Put(ctx, objectName(i), objectContent(i)) }, err
 }
 
-func registerWriter(ctx context.Context, name, place string) (writer, error) {
-	store, err := find(ctx, registers, name, place)
+func lockWriter(ctx context.Context, name, place string) (writer, error) {
+	store, err := find(ctx, locks, name, place)
 	return func(ctx context.Context, i int) error {
 		old, err := store.Read(ctx)
 		if err != nil {
@@ -146,18 +146,18 @@ func TestObjectsOutliveKills(t *testing.T) {
 	})
 }
 
-func TestRegisterOutlivesKills(t *testing.T) {
-	eachOf(t, registers, func(t *testing.T, at tried[Register]) {
+func TestLockOutlivesKills(t *testing.T) {
+	eachOf(t, locks, func(t *testing.T, at tried[Lock]) {
 		ctx, last := limited(t), 0
 		must(t, at.opened(t).Create(ctx, "text 0"))
 		for kill := 0; kill < kills; kill++ {
 			last = killing(t, "register", at.name, at.place, last+1)
-			register := at.opened(t)
-			text, err := register.Read(ctx)
+			lock := at.opened(t)
+			text, err := lock.Read(ctx)
 			if stands := number(text); err != nil || stands != last && stands != last+1 {
 				t.Fatalf("%q stands, %v, and %d was acknowledged", text, err, last)
 			}
-			published, err := register.Published(ctx)
+			published, err := lock.Published(ctx)
 			if n := published.Size; err != nil || n != uint64(last) && n != uint64(last)+1 ||
 				published.Timestamp != 2*n {
 				t.Fatalf("%v is published, %v, and %d was acknowledged", published, err, last)

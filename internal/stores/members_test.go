@@ -15,7 +15,7 @@ import (
 	"google.golang.org/grpc"
 )
 
-// member is a member of etcd as a register sees it. It has a text for each key, and performs each transaction. A member
+// member is a member of etcd as a lock sees it. It has a text for each key, and performs each transaction. A member
 // without contact to its peers knows no leader, and never answers the calls that it receives.
 type member struct {
 	etcdserverpb.KVServer
@@ -77,31 +77,31 @@ func TestPartedMember(t *testing.T) {
 	opened, err := OpenEtcd(Etcd{clientv3.Config{Endpoints: []string{parted.address, whole.address}}, "log"})
 	must(t, err)
 	defer opened.Close()
-	register := opened.(*inEtcd)
-	register.client.leftOutFor = time.Hour
+	lock := opened.(*inEtcd)
+	lock.client.leftOutFor = time.Hour
 	// (connections to both are made in a while of the client's own, and a whole member that says late that it knows a
 	// leader has none left out yet)
-	for parted.calls.Load() == 0 || len(register.client.Endpoints()) != 1 {
-		if text, err := register.Read(limited(t)); err != nil || text != "text" {
+	for parted.calls.Load() == 0 || len(lock.client.Endpoints()) != 1 {
+		if text, err := lock.Read(limited(t)); err != nil || text != "text" {
 			t.Fatalf("read: %q, %v", text, err)
 		}
 	}
 	before := parted.calls.Load()
 	for i := 0; i < 10; i++ {
-		if text, err := register.Read(limited(t)); err != nil || text != "text" {
+		if text, err := lock.Read(limited(t)); err != nil || text != "text" {
 			t.Fatalf("read: %q, %v", text, err)
 		}
-		must(t, register.Swap(limited(t), "text", "other"))
+		must(t, lock.Swap(limited(t), "text", "other"))
 	}
 	if calls := parted.calls.Load(); calls > before {
 		t.Errorf("a member without a leader was asked %d times more", calls-before)
 	}
 	parted.parted.Store(false)
-	register.client.mu.Lock()
-	register.client.leftOutFor = 0
-	register.client.mu.Unlock()
+	lock.client.mu.Lock()
+	lock.client.leftOutFor = 0
+	lock.client.mu.Unlock()
 	for ctx := limited(t); parted.calls.Load() == before; {
-		if _, err := register.Read(ctx); err != nil {
+		if _, err := lock.Read(ctx); err != nil {
 			t.Fatalf("a member that knows a leader again isn't asked: %v", err)
 		}
 	}

@@ -26,18 +26,18 @@ func opened(t *testing.T, root string) (many int) {
 	return many
 }
 
-// TestNothingStaysOpen: a register that is swapped, and objects that are deleted, leave no file open.
+// TestNothingStaysOpen: a lock that is swapped, and objects that are deleted, leave no file open.
 func TestNothingStaysOpen(t *testing.T) {
 	// (a collection would close what was forgotten)
 	defer debug.SetGCPercent(debug.SetGCPercent(-1))
 	root, ctx := t.TempDir(), limited(t)
-	register, err := OpenFile(filepath.Join(root, "register"))
+	lock, err := OpenFile(filepath.Join(root, "register"))
 	must(t, err)
 	objects, err := OpenFolder(filepath.Join(root, "objects"))
 	must(t, err)
-	must(t, register.Create(ctx, "a0"))
+	must(t, lock.Create(ctx, "a0"))
 	for i := '0'; i < '9'; i++ {
-		must(t, register.Swap(ctx, "a"+string(i), "a"+string(i+1)))
+		must(t, lock.Swap(ctx, "a"+string(i), "a"+string(i+1)))
 		must(t, objects.Put(ctx, "b/c", []byte("x")))
 		must(t, objects.Delete(ctx, "b/c"))
 		must(t, KeepFile(filepath.Join(root, "kept"), []byte("x")))

@@ -89,7 +89,7 @@ func prepare(ctx context.Context, db *sql.DB) error {
 	return nil
 }
 
-// inPostgres keeps the register in a row. The server must have fsync, full_page_writes and synchronous_commit on, which
+// inPostgres keeps the lock in a row. The server must have fsync, full_page_writes and synchronous_commit on, which
 // is checked. If a standby may take over, synchronous_standby_names must name it, so that it has everything that was
 // acknowledged. Only one server may accept writes. The sessions of inPostgres set synchronous_commit to on, and no
 // statement_timeout.
@@ -98,8 +98,8 @@ type inPostgres struct {
 	log string
 }
 
-// OpenPostgres opens the register of a log.
-func OpenPostgres(ctx context.Context, at Postgres) (Register, error) {
+// OpenPostgres opens the lock of a log.
+func OpenPostgres(ctx context.Context, at Postgres) (Lock, error) {
 	db, err := at.open(ctx)
 	if err != nil {
 		return nil, err
@@ -188,7 +188,7 @@ func (p *inPostgres) Create(ctx context.Context, text string) error {
 	return err
 }
 
-// row is the register's.
+// row is the lock's.
 type row struct {
 	text      []byte
 	published Published

@@ -64,18 +64,18 @@ func TestOnTheDisk(t *testing.T) {
 // TestRaiseThatIsNotWritten: if the disk takes no file, nothing is raised, and nothing is left.
 func TestRaiseThatIsNotWritten(t *testing.T) {
 	root, ctx := t.TempDir(), limited(t)
-	register, err := OpenFile(root)
+	lock, err := OpenFile(root)
 	must(t, err)
-	must(t, register.Create(ctx, "a"))
-	must(t, register.Raise(ctx, Published{5, 1}))
+	must(t, lock.Create(ctx, "a"))
+	must(t, lock.Raise(ctx, Published{5, 1}))
 	fault := errors.New("the disk takes nothing")
 	fsync = func(*os.File) error { return fault }
 	defer func() { fsync = (*os.File).Sync }()
-	if err := register.Raise(ctx, Published{6, 2}); !errors.Is(err, fault) || errors.Is(err, ErrUnknown) {
+	if err := lock.Raise(ctx, Published{6, 2}); !errors.Is(err, fault) || errors.Is(err, ErrUnknown) {
 		t.Fatal(err)
 	}
 	fsync = (*os.File).Sync
-	isPublished(t, register, Published{5, 1})
+	isPublished(t, lock, Published{5, 1})
 	if left, err := os.ReadDir(filepath.Join(root, temporary)); err != nil || len(left) > 0 {
 		t.Fatalf("files are left: %v, %v", left, err)
 	}

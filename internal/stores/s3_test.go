@@ -196,13 +196,13 @@ func TestPostgresSaysTheTime(t *testing.T) {
 	if postgresURL == "" {
 		t.Skip(wants(postgresURL, "postgresql"))
 	}
-	register, err := OpenPostgres(limited(t), Postgres{postgresURL, "time"})
+	lock, err := OpenPostgres(limited(t), Postgres{postgresURL, "time"})
 	must(t, err)
-	defer register.Close()
+	defer lock.Close()
 	index, err := OpenPostgresIndex(limited(t), Postgres{postgresURL, "time"})
 	must(t, err)
 	defer index.Close()
-	for _, store := range []Timed{register.(Timed), index.(Timed)} {
+	for _, store := range []Timed{lock.(Timed), index.(Timed)} {
 		before := time.Now()
 		at, within, err := store.Time(limited(t))
 		if !errors.Is(err, ErrSameMachine) || at.Before(before.Add(-within)) || at.After(time.Now().Add(within)) {
@@ -220,13 +220,13 @@ func TestPostgresSessions(t *testing.T) {
 	for said, due := range map[string]string{"": "on", "synchronous_commit=local": "on",
 		"synchronous_commit=remote_write": "on", "synchronous_commit=remote_apply": "remote_apply",
 		"statement_timeout=5000": "on"} {
-		register, err := OpenPostgres(limited(t), Postgres{postgresURL + " " + said, "sessions"})
+		lock, err := OpenPostgres(limited(t), Postgres{postgresURL + " " + said, "sessions"})
 		must(t, err)
-		defer register.Close()
+		defer lock.Close()
 		index, err := OpenPostgresIndex(limited(t), Postgres{postgresURL + " " + said, "sessions"})
 		must(t, err)
 		defer index.Close()
-		for _, db := range []*sql.DB{register.(*inPostgres).db, index.(*indexInPostgres).db} {
+		for _, db := range []*sql.DB{lock.(*inPostgres).db, index.(*indexInPostgres).db} {
 			var commit, timeout string
 			must(t, db.QueryRowContext(limited(t),
 				"select current_setting('synchronous_commit'), current_setting('statement_timeout')").Scan(
@@ -258,10 +258,10 @@ func TestPostgresWithoutItsStandby(t *testing.T) {
 		t.Skip(why)
 	}
 	at := Postgres{postgresURL, "suite-" + chance()}
-	register, err := OpenPostgres(limited(t), at)
+	lock, err := OpenPostgres(limited(t), at)
 	must(t, err)
-	defer register.Close()
-	must(t, register.Create(limited(t), "0"))
+	defer lock.Close()
+	must(t, lock.Create(limited(t), "0"))
 	server, err := sql.Open("postgres", postgresURL)
 	must(t, err)
 	defer server.Close()
@@ -277,7 +277,7 @@ func TestPostgresWithoutItsStandby(t *testing.T) {
 	swap := func(from int) error {
 		ctx, cancel := context.WithTimeout(context.Background(), 300*time.Millisecond)
 		defer cancel()
-		return register.Swap(ctx, fmt.Sprint(from), fmt.Sprint(from+1))
+		return lock.Swap(ctx, fmt.Sprint(from), fmt.Sprint(from+1))
 	}
 	stands := 0
 	for waits, all := false, limited(t); !waits; {
@@ -295,7 +295,7 @@ func TestPostgresWithoutItsStandby(t *testing.T) {
 			"select count(*) > 0 from pg_stat_activity where wait_event = 'SyncRep'").Scan(&waits))
 	}
 	for i := 0; i < 3; i++ {
-		if text, err := register.Read(limited(t)); err != nil || text != fmt.Sprint(stands) {
+		if text, err := lock.Read(limited(t)); err != nil || text != fmt.Sprint(stands) {
 			t.Errorf("%q is read, %v", text, err)
 		}
 		if err := swap(stands); !errors.Is(err, ErrUnknown) {
@@ -308,7 +308,7 @@ func TestPostgresWithoutItsStandby(t *testing.T) {
 			t.Fatal("it isn't done")
 		}
 	}
-	if text, err := register.Read(limited(t)); err != nil || text != fmt.Sprint(stands+1) {
+	if text, err := lock.Read(limited(t)); err != nil || text != fmt.Sprint(stands+1) {
 		t.Errorf("%q is read, %v", text, err)
 	}
 }

@@ -8,18 +8,18 @@ import (
 	"strings"
 )
 
-// RegisterOf opens one of several registers at an address, as RegisterAt has them: each name has its own, below the
-// path or the prefix, or beside PostgreSQL's name. Names are whatever they are; a register's place is named by SHA-256
+// LockOf opens one of several locks at an address, as LockAt has them: each name has its own, below the
+// path or the prefix, or beside PostgreSQL's name. Names are whatever they are; a lock's place is named by SHA-256
 // of it.
-func RegisterOf(ctx context.Context, address, name string) (Register, error) {
+func LockOf(ctx context.Context, address, name string) (Lock, error) {
 	own, err := addressOf(address, name)
 	if err != nil {
 		return nil, err
 	}
-	return RegisterAt(ctx, own)
+	return LockAt(ctx, own)
 }
 
-// addressOf is the address of one of several registers.
+// addressOf is the address of one of several locks.
 func addressOf(address, name string) (string, error) {
 	sum := sha256.Sum256([]byte(name))
 	own := hex.EncodeToString(sum[:])
@@ -31,7 +31,7 @@ func addressOf(address, name string) (string, error) {
 	u, query, err := parsed(address, kind)
 	switch {
 	case kind != "etcd" && kind != "postgres" && kind != "postgresql":
-		return "", fmt.Errorf("%w: a register is at file:PATH, etcd://.. or postgres://.., not at %.20q",
+		return "", fmt.Errorf("%w: a lock is at file:PATH, etcd://.. or postgres://.., not at %.20q",
 			ErrAddress, kind)
 	case err != nil:
 		return "", err

@@ -7,11 +7,11 @@ import (
 	"testing"
 )
 
-// TestSeveralRegisters: each name below one address has a register of its own, also if two names differ only in case.
-func TestSeveralRegisters(t *testing.T) {
+// TestSeveralLocks: each name below one address has a lock of its own, also if two names differ only in case.
+func TestSeveralLocks(t *testing.T) {
 	ctx, address := context.Background(), "file:"+filepath.Join(t.TempDir(), "states")
 	for _, name := range []string{"a.example/1", "A.example/1", "../a", ""} {
-		r, err := RegisterOf(ctx, address, name)
+		r, err := LockOf(ctx, address, name)
 		if err != nil {
 			t.Fatal(err)
 		}
@@ -21,7 +21,7 @@ func TestSeveralRegisters(t *testing.T) {
 		}
 	}
 	for _, name := range []string{"a.example/1", "A.example/1", "../a", ""} {
-		r, err := RegisterOf(ctx, address, name)
+		r, err := LockOf(ctx, address, name)
 		if err != nil {
 			t.Fatal(err)
 		}
@@ -43,7 +43,7 @@ func TestSeveralRegisters(t *testing.T) {
 	}
 	for _, address := range []string{"file:", "etcd://h:1", "etcd:///w", "postgres://h/d", "postgres://h/d?log=a&log=b",
 		"s3://h/b", "x", ""} {
-		if _, err := RegisterOf(ctx, address, "x"); !errors.Is(err, ErrAddress) {
+		if _, err := LockOf(ctx, address, "x"); !errors.Is(err, ErrAddress) {
 			t.Errorf("%q: %v", address, err)
 		}
 	}

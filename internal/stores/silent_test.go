@@ -65,12 +65,12 @@ func whilePaused(t *testing.T, engine string, call func(ctx context.Context) err
 }
 
 func TestSilentEngines(t *testing.T) {
-	inTurn(t, registers, func(t *testing.T, at tried[Register]) {
-		register := at.opened(t)
-		must(t, register.Create(limited(t), "text"))
-		whilePaused(t, at.name, func(ctx context.Context) error { return register.Raise(ctx, Published{Size: 5}) })
-		whilePaused(t, at.name, func(ctx context.Context) error { return register.Swap(ctx, "text", "other text") })
-		whilePaused(t, at.name, func(ctx context.Context) error { _, err := register.Read(ctx); return err })
+	inTurn(t, locks, func(t *testing.T, at tried[Lock]) {
+		lock := at.opened(t)
+		must(t, lock.Create(limited(t), "text"))
+		whilePaused(t, at.name, func(ctx context.Context) error { return lock.Raise(ctx, Published{Size: 5}) })
+		whilePaused(t, at.name, func(ctx context.Context) error { return lock.Swap(ctx, "text", "other text") })
+		whilePaused(t, at.name, func(ctx context.Context) error { _, err := lock.Read(ctx); return err })
 	})
 	inTurn(t, indexes, func(t *testing.T, at tried[Index]) {
 		store := at.opened(t)

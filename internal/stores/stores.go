@@ -1,4 +1,4 @@
-// Package stores keeps a log's data: the objects, the register that decides the next state, and the index of
+// Package stores keeps a log's data: the objects, the lock that decides the next state, and the index of
 // identities. Each store is an interface with a few methods, which says what the engine must promise. One suite of
 // tests runs against all of them. Every call has a context and ends with it, except for a system call on a disk that
 // does not answer. Every list has a bound, and nothing in memory grows with the log.
@@ -17,7 +17,7 @@ const (
 	MaxObject = 64 << 20
 	// MaxListed is how many names one call lists.
 	MaxListed = 1000
-	// MaxText is how many bytes the register's text may have.
+	// MaxText is how many bytes the lock's text may have.
 	MaxText = 64 << 10
 	// MaxRows is how many identities one call looks up, and how many rows it adds.
 	MaxRows = 4096
@@ -35,14 +35,14 @@ var (
 	ErrTooLong = errors.New("stores: too long")
 	// ErrNumber: a number is larger than MaxNumber. Nothing was done.
 	ErrNumber = errors.New("stores: number too large")
-	// ErrAbsent: there is no object of this name, or no register.
+	// ErrAbsent: there is no object of this name, or no lock.
 	ErrAbsent = errors.New("stores: absent")
 	// ErrOther: the name has another content, which stays.
 	ErrOther = errors.New("stores: the name has another content")
-	// ErrLost: the swap was not performed, since the register has another text.
-	ErrLost = errors.New("stores: the register has another text")
-	// ErrExists: the register was created before.
-	ErrExists = errors.New("stores: the register exists already")
+	// ErrLost: the swap was not performed, since the lock has another text.
+	ErrLost = errors.New("stores: the lock has another text")
+	// ErrExists: the lock was created before.
+	ErrExists = errors.New("stores: the lock exists already")
 	// ErrUnknown: the call may have been done, may not, or may yet be.
 	ErrUnknown = errors.New("stores: outcome unknown")
 	// ErrInUse: another process has the index open.
@@ -87,27 +87,27 @@ type Objects interface {
 	Close() error
 }
 
-// Register has the text that decides a log's next state, and the published head. The text has 1 to MaxText bytes of
+// Lock has the text that decides a log's next state, and the published head. The text has 1 to MaxText bytes of
 // any value. Two attempts to set it have two texts, since each text names its predecessor and a random number. So a
 // node that reads a text knows whether it is its own.
 //
-// The engine must promise that swaps and reads of one register are linearizable, and that what was acknowledged or read
-// persists, even if processes are killed or power fails. The register must never be rolled back: a register from an
+// The engine must promise that swaps and reads of one lock are linearizable, and that what was acknowledged or read
+// persists, even if processes are killed or power fails. The lock must never be rolled back: a lock from an
 // older copy lets a log fork.
-type Register interface {
-	// Create sets the first text, and published to zero; ErrExists where the register was created before, whatever its
+type Lock interface {
+	// Create sets the first text, and published to zero; ErrExists where the lock was created before, whatever its
 	// text.
 	Create(ctx context.Context, text string) error
-	// Read returns the text. It returns ErrAbsent if the register was not created, or was lost.
+	// Read returns the text. It returns ErrAbsent if the lock was not created, or was lost.
 	Read(ctx context.Context) (string, error)
 	// Swap sets the text to new if it is old, byte for byte. It returns nil also if the text is new already, so a call
-	// may be repeated. It returns ErrLost if the register has another text, and ErrAbsent if it does not exist.
+	// may be repeated. It returns ErrLost if the lock has another text, and ErrAbsent if it does not exist.
 	// ErrUnknown means that the swap may have happened, or may still happen as long as the text is old.
 	Swap(ctx context.Context, old, new string) error
 	// Published returns the latest that Raise was given and acknowledged; the zero one after Create.
 	Published(ctx context.Context) (Published, error)
 	// Raise sets the published head unless it is older than the current one. It never falls, and the call may be
-	// repeated. Raise returns ErrAbsent if the register was not created.
+	// repeated. Raise returns ErrAbsent if the lock was not created.
 	Raise(ctx context.Context, published Published) error
 	Close() error
 }

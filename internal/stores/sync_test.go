@@ -81,34 +81,34 @@ func TestMadeFoldersSync(t *testing.T) {
 // TestFileSyncs: a text is on the disk before it has its name, and the folder before Swap and Read return.
 func TestFileSyncs(t *testing.T) {
 	root, ctx := t.TempDir(), limited(t)
-	register, err := OpenFile(root)
+	lock, err := OpenFile(root)
 	must(t, err)
-	got := syncs(t, root, textFile, func() error { return register.Create(ctx, "a") })
+	got := syncs(t, root, textFile, func() error { return lock.Create(ctx, "a") })
 	syncedAs(t, "Create", got, []string{"file", ".", "file", ". (named)"})
-	read := func() error { _, err := register.Read(ctx); return err }
+	read := func() error { _, err := lock.Read(ctx); return err }
 	syncedAs(t, "Read", syncs(t, root, "none", read), []string{"."})
 	// (what this process knows to be on the disk is synced once)
 	syncedAs(t, "Read of the same", syncs(t, root, "none", read), nil)
-	swap := func() error { return register.Swap(ctx, "a", "b") }
+	swap := func() error { return lock.Swap(ctx, "a", "b") }
 	syncedAs(t, "Swap", syncs(t, root, "none", swap), []string{"file", "."})
 	syncedAs(t, "the same Swap", syncs(t, root, "none", swap), nil)
 	syncedAs(t, "Read of what was swapped", syncs(t, root, "none", read), nil)
-	raise := func() error { return register.Raise(ctx, Published{Size: 5}) }
+	raise := func() error { return lock.Raise(ctx, Published{Size: 5}) }
 	syncedAs(t, "Raise", syncs(t, root, "none", raise), []string{"file", "."})
-	same := func() error { return register.Raise(ctx, Published{5, 1}) }
+	same := func() error { return lock.Raise(ctx, Published{5, 1}) }
 	syncedAs(t, "Raise of one size", syncs(t, root, "none", same), []string{"file", "."})
-	published := func() error { _, err := register.Published(ctx); return err }
+	published := func() error { _, err := lock.Published(ctx); return err }
 	syncedAs(t, "Published", syncs(t, root, "none", published), nil)
 	// The text that another process set may not be on the disk.
 	other, err := OpenFile(root)
 	must(t, err)
-	register = other
+	lock = other
 	syncedAs(t, "Published by another process", syncs(t, root, "none", published), []string{"."})
 	syncedAs(t, "the same Raise", syncs(t, root, "none", same), nil)
 	syncedAs(t, "Read by another process", syncs(t, root, "none", read), []string{"."})
 	third, err := OpenFile(root)
 	must(t, err)
-	register = third
+	lock = third
 	syncedAs(t, "the same Swap by another process", syncs(t, root, "none", swap), []string{"."})
 	syncedAs(t, "the same Raise by another process", syncs(t, root, "none", same), []string{"."})
 }
@@ -140,9 +140,9 @@ func TestFailedSyncs(t *testing.T) {
 	root, ctx := t.TempDir(), limited(t)
 	store, err := OpenFolder(filepath.Join(root, "objects"))
 	must(t, err)
-	register, err := OpenFile(filepath.Join(root, "register"))
+	lock, err := OpenFile(filepath.Join(root, "register"))
 	must(t, err)
-	must(t, register.Create(ctx, "a"))
+	must(t, lock.Create(ctx, "a"))
 	for _, folders := range []bool{false, true} {
 		broken(folders)
 		if err := store.Put(ctx, "x", nil); !errors.Is(err, fault) {
@@ -150,11 +150,11 @@ func TestFailedSyncs(t *testing.T) {
 		}
 	}
 	broken(false)
-	if err := register.Swap(ctx, "a", "b"); !errors.Is(err, fault) || errors.Is(err, ErrUnknown) {
+	if err := lock.Swap(ctx, "a", "b"); !errors.Is(err, fault) || errors.Is(err, ErrUnknown) {
 		t.Errorf("Swap on a disk that takes no file: %v", err)
 	}
 	fsync = (*os.File).Sync
-	standsAs(t, register, "a", 0)
+	standsAs(t, lock, "a", 0)
 	calls := 0
 	fsync = func(file *os.File) error {
 		if calls++; calls == 2 { // that of the folder, after the file's
@@ -162,11 +162,11 @@ func TestFailedSyncs(t *testing.T) {
 		}
 		return file.Sync()
 	}
-	if err := register.Swap(ctx, "a", "b"); !errors.Is(err, ErrUnknown) {
+	if err := lock.Swap(ctx, "a", "b"); !errors.Is(err, ErrUnknown) {
 		t.Errorf("Swap on a disk that doesn't take its name: %v", err)
 	}
 	fsync = (*os.File).Sync
-	standsAs(t, register, "b", 0)
+	standsAs(t, lock, "b", 0)
 }
 
 // TestKeptFile: a file has its new content or the one before. The content is on the disk before it has its name, and

@@ -15,9 +15,9 @@ import (
 	"wagtenib/internal/stores"
 )
 
-// bounded is a register that keeps how long it has for an answer.
+// bounded is a lock that keeps how long it has for an answer.
 type bounded struct {
-	stores.Register
+	stores.Lock
 	has chan time.Duration
 }
 
@@ -27,10 +27,10 @@ func (b bounded) Read(ctx context.Context) (string, error) {
 		until = time.Now().Add(24 * time.Hour)
 	}
 	b.has <- time.Until(until)
-	return b.Register.Read(ctx)
+	return b.Lock.Read(ctx)
 }
 
-// TestRequestHasAnEnd: whoever asks, a request has its time, so that a register that doesn't answer holds no room for
+// TestRequestHasAnEnd: whoever asks, a request has its time, so that a lock that doesn't answer holds no room for
 // ever.
 func TestRequestHasAnEnd(t *testing.T) {
 	by, one := headKey(t, origin), grown(t, "a", "b", "c")

@@ -27,9 +27,9 @@ import (
 
 var errTried = errors.New("tried")
 
-// TestFaultyRegister: if a call of the register fails, nothing is signed unless its state is stored. After a lost swap
+// TestFaultyLock: if a call of the lock fails, nothing is signed unless its state is stored. After a lost swap
 // the request is decided again. A swap of unknown outcome is repeated.
-func TestFaultyRegister(t *testing.T) {
+func TestFaultyLock(t *testing.T) {
 	by, one := headKey(t, origin), grown(t, "a", "b", "c")
 	body := request(0, nil, by.sign(checkpoint(origin, 3, one.root(t, 3))))
 	for name, test := range map[string]struct {

@@ -50,9 +50,9 @@ func TestIsSafe(t *testing.T) {
 	}
 }
 
-// held is a register in memory. Each call first calls `does`, which may change the text, or fail instead of the call.
+// held is a lock in memory. Each call first calls `does`, which may change the text, or fail instead of the call.
 type held struct {
-	stores.Register
+	stores.Lock
 	mu   sync.Mutex
 	text string
 	does func(call string) error

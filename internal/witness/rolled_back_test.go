@@ -9,7 +9,7 @@ import (
 )
 
 // TestStateThatARefusedRequestRead: a state counts as seen after any request has read it, also after one that was
-// refused. If the register is put back behind it, nothing is cosigned.
+// refused. If the lock is put back behind it, nothing is cosigned.
 func TestStateThatARefusedRequestRead(t *testing.T) {
 	folder, key, by, one := t.TempDir(), newKey(t), headKey(t, origin), grown(t, "a", "b", "c", "d")
 	state, err := stores.OpenFile(folder)

@@ -38,12 +38,12 @@ var (
 	ErrClock = errors.New("witness: the clock went back")
 )
 
-// Log is a log to cosign. It has the keys of its notes and the register of its state. If Accepted is not nil, the
+// Log is a log to cosign. It has the keys of its notes and the lock of its state. If Accepted is not nil, the
 // witness cosigns only the tree that it returns, which a monitor accepted last.
 type Log struct {
 	Origin   string
 	Keys     []note.Verifier
-	State    stores.Register
+	State    stores.Lock
 	Accepted func() (size uint64, root [32]byte, err error)
 }
 
@@ -80,7 +80,7 @@ type Server struct {
 
 	mu   sync.Mutex
 	logs map[string]*Log
-	// seen has the newest state of each origin that this process read or stored. The register must not be older while
+	// seen has the newest state of each origin that this process read or stored. The lock must not be older while
 	// the process runs.
 	seen map[string]state
 }
@@ -191,7 +191,7 @@ func (s *Server) add(ctx context.Context, body []byte) answer {
 }
 
 // decide decides from a state that was read after `before` had been seen, and keeps the next one. It returns again if
-// the register held another one by then.
+// the lock held another one by then.
 func (s *Server) decide(ctx context.Context, log *Log, text string, before state, r Request) (came answer, again bool) {
 	last, err := readState(text, log.Origin)
 	if err == nil {
@@ -229,13 +229,13 @@ func (s *Server) decide(ctx context.Context, log *Log, text string, before state
 }
 
 // swap stores the next state. If the outcome is unknown it repeats the swap, which settles it.
-func swap(ctx context.Context, register stores.Register, old string, next state) error {
+func swap(ctx context.Context, lock stores.Lock, old string, next state) error {
 	text, err := next.text()
 	if err != nil {
 		return err
 	}
 	for try := 0; try < maxTries; try++ {
-		if err = register.Swap(ctx, old, text); !errors.Is(err, stores.ErrUnknown) {
+		if err = lock.Swap(ctx, old, text); !errors.Is(err, stores.ErrUnknown) {
 			break
 		}
 	}

@@ -127,7 +127,7 @@ func newKey(t testing.TB) ed25519.PrivateKey {
 	return private
 }
 
-func stateIn(t testing.TB, folder string) stores.Register {
+func stateIn(t testing.TB, folder string) stores.Lock {
 	r, err := stores.OpenFile(filepath.Join(folder, "state"))
 	must(t, err)
 	t.Cleanup(func() { r.Close() })
@@ -139,8 +139,8 @@ func witnessOf(t testing.TB, folder string, key ed25519.PrivateKey, by signing) 
 	return witnessOver(t, stateIn(t, folder), key, by)
 }
 
-// witnessOver is one whose state is in this register.
-func witnessOver(t testing.TB, state stores.Register, key ed25519.PrivateKey, by signing) *Server {
+// witnessOver is one whose state is in this lock.
+func witnessOver(t testing.TB, state stores.Lock, key ed25519.PrivateKey, by signing) *Server {
 	s, err := New(Options{Name: "w.example", Key: key})
 	must(t, err)
 	log := Log{Origin: origin, Keys: []note.Verifier{by.key}, State: state}
@@ -349,13 +349,13 @@ func TestOpenssl(t *testing.T) {
 
 // swappedState is a state with something done before each swap, and after each that went well.
 type swappedState struct {
-	stores.Register
+	stores.Lock
 	before, after func()
 }
 
 func (s swappedState) Swap(ctx context.Context, old, new string) error {
 	s.before()
-	err := s.Register.Swap(ctx, old, new)
+	err := s.Lock.Swap(ctx, old, new)
 	if err == nil {
 		s.after()
 	}

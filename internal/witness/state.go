@@ -37,7 +37,7 @@ func noState(origin string) state {
 	return state{origin: origin, tree: wagtenib.WitnessedTree{Root: emptyRoot}}
 }
 
-// text returns the text of a register: a line with the version, a line with a random number, and the message. The
+// text returns the text of a lock: a line with the version, a line with a random number, and the message. The
 // random number makes the texts of any two swaps differ, so that a swap also fails if the same tree was cosigned in the
 // same second meanwhile.
 func (s state) text() (string, error) {
@@ -52,7 +52,7 @@ func (s state) text() (string, error) {
 	return stateForm + "\n" + base64.StdEncoding.EncodeToString(salt) + "\n" + message, nil
 }
 
-// readState reads the text of a log's register. A text of any other form is refused, and never taken for the state of a
+// readState reads the text of a log's lock. A text of any other form is refused, and never taken for the state of a
 // log that was never cosigned.
 func readState(text, origin string) (state, error) {
 	wrong := func(why string) (state, error) {
@@ -95,7 +95,7 @@ func readMessage(message []byte, origin string) (state, error) {
 	return state{origin: origin, message: message, tree: tree}, nil
 }
 
-// readJSON reads the text of a register of earlier builds, and returns the message that was cosigned then. The next
+// readJSON reads the text of a lock of earlier builds, and returns the message that was cosigned then. The next
 // swap replaces the text.
 func readJSON(text, origin string) (state, error) {
 	var of struct {

@@ -79,7 +79,7 @@ func TestWrongDecisions(t *testing.T) {
 	}
 }
 
-// TestJSONState takes over a register of earlier builds: the log is cosigned from the tree and the time there on, and
+// TestJSONState takes over a lock of earlier builds: the log is cosigned from the tree and the time there on, and
 // the next swap writes the new text.
 func TestJSONState(t *testing.T) {
 	by, one := headKey(t, origin), grown(t, "a", "b", "c", "d", "e")
@@ -101,21 +101,21 @@ func TestJSONState(t *testing.T) {
 		"no root of a tree":  {of(0, tlog.Hash{}, 0), 0, 200},
 		"asked from nothing": {of(3, one.root(t, 3), 1000), 0, 409},
 	} {
-		register := &held{}
-		must(t, register.Create(limited(t), test.text))
-		s := witnessOver(t, register, newKey(t), by)
+		lock := &held{}
+		must(t, lock.Create(limited(t), test.text))
+		s := witnessOver(t, lock, newKey(t), by)
 		s.now = func() uint64 { return 2000 }
 		var proof [][32]byte
 		if test.old > 0 {
 			proof = one.proof(t, test.old, 5)
 		}
 		w := posted(t, s, request(test.old, proof, by.sign(checkpoint(origin, 5, one.root(t, 5)))))
-		if w.Code != test.status || (register.text == test.text) != (test.status != 200) {
-			t.Errorf("%s: %d %s, and then %q", name, w.Code, w.Body, register.text)
+		if w.Code != test.status || (lock.text == test.text) != (test.status != 200) {
+			t.Errorf("%s: %d %s, and then %q", name, w.Code, w.Body, lock.text)
 		}
-		if test.status == 200 && !strings.HasSuffix(register.text, "\n"+
+		if test.status == 200 && !strings.HasSuffix(lock.text, "\n"+
 			string(Message(2000, checkpoint(origin, 5, one.root(t, 5))))) {
-			t.Errorf("%s: %q", name, register.text)
+			t.Errorf("%s: %q", name, lock.text)
 		}
 	}
 }

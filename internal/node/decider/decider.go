@@ -43,8 +43,8 @@ var names = map[wagtenib.NodeCommandKind]string{
 // Held is a lock's text, and what it says.
 type Held struct {
 	Text string
-	// Bundle is the name of the staged batch of the text's step.
-	Bundle string
+	// Batch is the name of the staged batch of the text's step.
+	Batch string
 	// Timestamp is the head's timestamp in milliseconds, and Size the number of entries.
 	Timestamp uint64
 	Size      uint64
@@ -62,7 +62,7 @@ func readText(text string) (known, error) {
 	if err != nil {
 		return known{}, fmt.Errorf("%w: %w", ErrRefused, err)
 	}
-	return known{Held{Text: text, Bundle: wagtenib.BatchName(state), Timestamp: state.Timestamp,
+	return known{Held{Text: text, Batch: wagtenib.BatchName(state), Timestamp: state.Timestamp,
 		Size: size}, state}, nil
 }
 
@@ -73,17 +73,14 @@ type Command struct {
 	Seen, New Held
 	// Objects are the objects of New, in the given order.
 	Objects []string
-	// Bundle is the name of the staged batch that must be deleted.
-	Bundle string
+	// Batch is the name of the staged batch that must be deleted.
+	Batch string
 
 	node wagtenib.NodeCommand
 }
 
 // Begin returns the command of a node that starts.
 func Begin() *Command { return &Command{Do: Read} }
-
-// Told is the outcome of a command.
-type Told = *Outcome
 
 // Outcome is what came of a command, with its texts and names.
 type Outcome struct {
@@ -97,51 +94,53 @@ type Outcome struct {
 }
 
 // Done returns the outcome of a command that is done.
-func Done() Told { return &Outcome{kind: wagtenib.WasDone} }
+func Done() *Outcome { return &Outcome{kind: wagtenib.WasDone} }
 
 // Lost returns the outcome of a command that is not done, or is not known to be done and is not tried any more.
-func Lost() Told { return &Outcome{kind: wagtenib.WasLost} }
+func Lost() *Outcome { return &Outcome{kind: wagtenib.WasLost} }
 
 // Published returns the outcome if the head of the text that was looked at is published.
-func Published() Told { return &Outcome{kind: wagtenib.WasPublished} }
+func Published() *Outcome { return &Outcome{kind: wagtenib.WasPublished} }
 
-// WasRead returns the outcome if the lock has this text.
-func WasRead(text string) Told { return &Outcome{kind: wagtenib.LockRead, text: text} }
+// LockRead returns the outcome if the lock has this text.
+func LockRead(text string) *Outcome { return &Outcome{kind: wagtenib.LockRead, text: text} }
 
-// Bundled returns the outcome if the staged batch of the text that was looked at has these objects.
-func Bundled(objects []string) Told { return &Outcome{kind: wagtenib.BatchRead, objects: objects} }
+// BatchRead returns the outcome if the staged batch of the text that was looked at has these objects.
+func BatchRead(objects []string) *Outcome {
+	return &Outcome{kind: wagtenib.BatchRead, objects: objects}
+}
 
-// Stepped returns the outcome if a step was made to a state's line, with these objects, by the node with this address.
+// StepMade returns the outcome if a step was made to a state's line, with these objects, by the node with this address.
 // The salt is a random number.
-func Stepped(line, node string, salt uint64, objects []string) Told {
+func StepMade(line, node string, salt uint64, objects []string) *Outcome {
 	return &Outcome{kind: wagtenib.StepMade, line: line, node: node, salt: salt, objects: objects}
 }
 
-// Listed returns the outcome if the store has a staged batch with this name.
-func Listed(bundle string) Told { return &Outcome{kind: wagtenib.BatchListed, name: bundle} }
+// BatchListed returns the outcome if the store has a staged batch with this name.
+func BatchListed(batch string) *Outcome { return &Outcome{kind: wagtenib.BatchListed, name: batch} }
 
 // read returns the outcome as the library takes it, and the text that came with it.
-func (o *Outcome) read(command *Command) (told wagtenib.NodeOutcome, came known, err error) {
-	told = wagtenib.NodeOutcome{Kind: o.kind, Objects: uint64(len(o.objects))}
+func (o *Outcome) read(command *Command) (given wagtenib.NodeOutcome, came known, err error) {
+	given = wagtenib.NodeOutcome{Kind: o.kind, Objects: uint64(len(o.objects))}
 	switch o.kind {
 	case wagtenib.LockRead:
 		came, err = readText(o.text)
-		told.State = came.state
+		given.State = came.state
 	case wagtenib.StepMade:
 		var text []byte
 		if text, err = wagtenib.LockText([]byte(o.line), []byte(o.node), command.Seen.Timestamp, o.salt); err == nil {
 			came, err = readText(string(text))
 		}
-		told.State = came.state
+		given.State = came.state
 	case wagtenib.BatchListed:
-		if told.State, err = wagtenib.BatchState([]byte(o.name)); err != nil {
+		if given.State, err = wagtenib.BatchState([]byte(o.name)); err != nil {
 			err = fmt.Errorf("%w: %w", ErrRefused, err)
 		}
 	}
-	return told, came, err
+	return given, came, err
 }
 
-// Point is how far a log is by one of its heads: its entries, and its timestamp in milliseconds.
+// Point is the number of entries and the timestamp, in milliseconds, of a head.
 type Point struct{ Size, Timestamp uint64 }
 
 // Rooted is a head.
@@ -152,8 +151,8 @@ type Rooted struct {
 
 // Found has the data that a node finds at a start. A nil field or an empty text does not exist.
 type Found struct {
-	// Register is the lock's text. IsEmptied says that the lock exists, and has no text.
-	Register  string
+	// Lock is the lock's text. IsEmptied says that the lock exists, and has no text.
+	Lock      string
 	IsEmptied bool
 	// Seen is the newest head that this machine saw, and Guard the last that was signed, if there is a guard (Guarded).
 	Seen, Guard *Rooted
@@ -161,8 +160,8 @@ type Found struct {
 	// Published is the newest head that is published, and Listed the newest in the store. Their roots matter only if they
 	// have the size and the timestamp of the lock's head.
 	Published, Listed *Rooted
-	// Stands says that the store has an object of a log, and Creates that a log must be created if there is none.
-	Stands, Creates bool
+	// HasObject says that the store has an object of a log, and Creates that a log must be created if there is none.
+	HasObject, Creates bool
 }
 
 // inCall returns what the library takes of it.
@@ -175,7 +174,7 @@ func (f Found) inCall() wagtenib.NodeFound {
 	}
 	return wagtenib.NodeFound{
 		Seen: head(f.Seen), Signed: head(f.Guard), Published: head(f.Published), Listed: head(f.Listed),
-		Guarded: f.Guarded, HasObject: f.Stands, Creates: f.Creates,
+		Guarded: f.Guarded, HasObject: f.HasObject, Creates: f.Creates,
 	}
 }
 
@@ -222,12 +221,12 @@ func New() *Decider { return Over(wagtenib.NodeNext) }
 func Over(function Function) *Decider { return &Decider{function} }
 
 // Next returns the command that follows a command, by its outcome.
-func (d *Decider) Next(command *Command, told Told) (*Command, error) {
-	outcome, came, err := told.read(command)
+func (d *Decider) Next(command *Command, outcome *Outcome) (*Command, error) {
+	given, came, err := outcome.read(command)
 	if err != nil {
 		return nil, err
 	}
-	node, err := d.next(command.node, outcome)
+	node, err := d.next(command.node, given)
 	if err != nil {
 		return nil, fmt.Errorf("decider: %w", err)
 	}
@@ -248,12 +247,12 @@ func (d *Decider) Next(command *Command, told Told) (*Command, error) {
 		wagtenib.AnswerAll:
 		next.New, err = ofState(node.Next, made, seen, came)
 	case wagtenib.DeleteBatch:
-		next.Bundle = wagtenib.BatchName(node.Next)
+		next.Batch = wagtenib.BatchName(node.Next)
 	}
 	if err != nil {
 		return nil, err
 	}
-	if next.Objects, err = next.objects(command, told); err != nil {
+	if next.Objects, err = next.objects(command, outcome); err != nil {
 		return nil, err
 	}
 	return next, nil
@@ -270,7 +269,7 @@ func ofState(state wagtenib.NodeState, all ...known) (Held, error) {
 }
 
 // objects returns the objects of a command that is about some. They came with the outcome, or were the last command's.
-func (c *Command) objects(before *Command, told Told) ([]string, error) {
+func (c *Command) objects(before *Command, outcome *Outcome) ([]string, error) {
 	switch c.node.Kind {
 	case wagtenib.StageBatch, wagtenib.SwapLock, wagtenib.PutObjects:
 	default:
@@ -278,7 +277,7 @@ func (c *Command) objects(before *Command, told Told) ([]string, error) {
 	}
 	objects := before.Objects
 	if before.Do == Step || before.Do == Look {
-		objects = append([]string{}, told.objects...)
+		objects = append([]string{}, outcome.objects...)
 	}
 	if uint64(len(objects)) != c.node.Objects {
 		return nil, fmt.Errorf("%w: it has %d objects, and not %d", ErrReply, len(objects), c.node.Objects)
@@ -290,8 +289,8 @@ func (c *Command) objects(before *Command, told Told) ([]string, error) {
 // Refusal says that it must do neither.
 func (d *Decider) Start(found Found) (creates bool, err error) {
 	var lock []byte
-	if found.Register != "" || found.IsEmptied {
-		lock = []byte(found.Register)
+	if found.Lock != "" || found.IsEmptied {
+		lock = []byte(found.Lock)
 	}
 	err = wagtenib.NodeStart(lock, found.inCall())
 	if err == nil || errors.Is(err, wagtenib.ErrCreatesLock) {

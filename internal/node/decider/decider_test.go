@@ -27,39 +27,39 @@ func TestWay(t *testing.T) {
 	c := New()
 	seen, new := Held{Text: textOf(3, 7, 5, 1), Timestamp: 7, Size: 3},
 		Held{Text: textOf(4, 9, 7, 2), Timestamp: 9, Size: 4}
-	seen.Bundle, new.Bundle = "staging/000000000000000700000000000000050000000000000001",
+	seen.Batch, new.Batch = "staging/000000000000000700000000000000050000000000000001",
 		"staging/000000000000000900000000000000070000000000000002"
 	objects := []string{"tile/0/000.p/4 aa", "tile/data/000.p/4 bb"}
 	command := Begin()
 	for _, step := range []struct {
-		told Told
-		want Command
+		outcome *Outcome
+		want    Command
 	}{
-		{WasRead(seen.Text), Command{Do: Look, Seen: seen}},
+		{LockRead(seen.Text), Command{Do: Look, Seen: seen}},
 		{Published(), Command{Do: Step, Seen: seen}},
-		{Listed("staging/000000000000000800000000000000070000000000000001"), Command{Do: Step, Seen: seen}},
-		{Listed("staging/000000000000000600000000000000040000000000000001"),
-			Command{Do: Delete, Seen: seen, Bundle: "staging/000000000000000600000000000000040000000000000001"}},
+		{BatchListed("staging/000000000000000800000000000000070000000000000001"), Command{Do: Step, Seen: seen}},
+		{BatchListed("staging/000000000000000600000000000000040000000000000001"),
+			Command{Do: Delete, Seen: seen, Batch: "staging/000000000000000600000000000000040000000000000001"}},
 		{Done(), Command{Do: Step, Seen: seen}},
-		{Stepped(line(4, 7), "-", 2, objects), Command{Do: Step, Seen: seen}},
-		{Stepped(line(4, 9), "-", 2, objects), Command{Do: Stage, Seen: seen, New: new, Objects: objects}},
+		{StepMade(line(4, 7), "-", 2, objects), Command{Do: Step, Seen: seen}},
+		{StepMade(line(4, 9), "-", 2, objects), Command{Do: Stage, Seen: seen, New: new, Objects: objects}},
 		{Done(), Command{Do: Swap, Seen: seen, New: new, Objects: objects}},
 		{Done(), Command{Do: Put, New: new, Objects: objects}},
 		{Done(), Command{Do: Place, New: new}},
 		{Done(), Command{Do: Head, New: new}},
 		{Done(), Command{Do: Answer, New: new}},
 		{Done(), Command{Do: Read}},
-		{WasRead(seen.Text), Command{Do: Look, Seen: seen}},
-		{Bundled(nil), Command{Do: Put, New: seen, Objects: []string{}}},
+		{LockRead(seen.Text), Command{Do: Look, Seen: seen}},
+		{BatchRead(nil), Command{Do: Put, New: seen, Objects: []string{}}},
 		{Lost(), Command{Do: Read}},
 	} {
-		next, err := c.Next(command, step.told)
+		next, err := c.Next(command, step.outcome)
 		must(t, err)
 		command = next
 		got := *next
 		got.node = step.want.node
 		if fmt.Sprintf("%q", got) != fmt.Sprintf("%q", step.want) {
-			t.Fatalf("after %+v comes %+v, and expected was %+v", step.told, got, step.want)
+			t.Fatalf("after %+v comes %+v, and expected was %+v", step.outcome, got, step.want)
 		}
 	}
 }
@@ -68,13 +68,13 @@ func TestWay(t *testing.T) {
 func TestRefusals(t *testing.T) {
 	t.Parallel()
 	c := New()
-	look, err := c.Next(Begin(), WasRead(textOf(3, 7, 5, 1)))
+	look, err := c.Next(Begin(), LockRead(textOf(3, 7, 5, 1)))
 	must(t, err)
 	step, err := c.Next(look, Published())
 	must(t, err)
 	for _, err := range []error{
-		second(c.Next(Begin(), WasRead("a text"))), second(c.Next(step, Listed("staging/0"))),
-		second(c.Next(step, Stepped(strings.Repeat("x", 100_000), "-", 1, nil))),
+		second(c.Next(Begin(), LockRead("a text"))), second(c.Next(step, BatchListed("staging/0"))),
+		second(c.Next(step, StepMade(strings.Repeat("x", 100_000), "-", 1, nil))),
 	} {
 		if !errors.Is(err, ErrRefused) {
 			t.Error(err)
@@ -84,7 +84,7 @@ func TestRefusals(t *testing.T) {
 
 func second(_ *Command, err error) error { return err }
 
-// TestStarts: a node continues from what it finds. If something is newer than the register's head, it is refused by
+// TestStarts: a node continues from what it finds. If something is newer than the lock's head, it is refused by
 // name.
 func TestStarts(t *testing.T) {
 	t.Parallel()
@@ -97,28 +97,28 @@ func TestStarts(t *testing.T) {
 		found Found
 		want  string
 	}{
-		{Found{Register: text}, "goes"},
-		{Found{Register: text, Guarded: true}, "goes"},
-		{Found{Register: text, Stands: true, Creates: true}, "goes"},
-		{Found{Register: text, Seen: rooted(3, 7, root), Guard: rooted(3, 7, root), Guarded: true, Published: at(3, 7),
+		{Found{Lock: text}, "goes"},
+		{Found{Lock: text, Guarded: true}, "goes"},
+		{Found{Lock: text, HasObject: true, Creates: true}, "goes"},
+		{Found{Lock: text, Seen: rooted(3, 7, root), Guard: rooted(3, 7, root), Guarded: true, Published: at(3, 7),
 			Listed: at(3, 7)}, "goes"},
-		{Found{Register: text, Seen: rooted(3, 6, other), Guard: rooted(2, 6, other), Guarded: true,
+		{Found{Lock: text, Seen: rooted(3, 6, other), Guard: rooted(2, 6, other), Guarded: true,
 			Published: at(2, 6), Listed: at(2, 6)}, "goes"},
-		{Found{Register: text, Seen: rooted(3, 7, other)}, "behind-seen"},
-		{Found{Register: text, Seen: rooted(2, 7, root)}, "behind-seen"},
-		{Found{Register: text, Seen: rooted(4, 6, root)}, "behind-seen"},
-		{Found{Register: text, Guard: rooted(3, 7, other), Guarded: true}, "two-roots"},
-		{Found{Register: text, Guard: rooted(3, 8, root), Guarded: true}, "behind-guard"},
-		{Found{Register: text, Listed: at(1, 1), Guarded: true}, "guard-behind"},
-		{Found{Register: text, Guard: rooted(1, 1, root), Listed: at(1, 2), Guarded: true}, "guard-behind"},
-		{Found{Register: text, Listed: at(3, 8)}, "behind-listed"},
-		{Found{Register: text, Published: at(4, 7)}, "behind-published"},
-		{Found{Register: text, Listed: rooted(3, 7, other)}, "behind-listed"},
-		{Found{Register: text, Published: rooted(3, 7, other)}, "behind-published"},
+		{Found{Lock: text, Seen: rooted(3, 7, other)}, "behind-seen"},
+		{Found{Lock: text, Seen: rooted(2, 7, root)}, "behind-seen"},
+		{Found{Lock: text, Seen: rooted(4, 6, root)}, "behind-seen"},
+		{Found{Lock: text, Guard: rooted(3, 7, other), Guarded: true}, "two-roots"},
+		{Found{Lock: text, Guard: rooted(3, 8, root), Guarded: true}, "behind-guard"},
+		{Found{Lock: text, Listed: at(1, 1), Guarded: true}, "guard-behind"},
+		{Found{Lock: text, Guard: rooted(1, 1, root), Listed: at(1, 2), Guarded: true}, "guard-behind"},
+		{Found{Lock: text, Listed: at(3, 8)}, "behind-listed"},
+		{Found{Lock: text, Published: at(4, 7)}, "behind-published"},
+		{Found{Lock: text, Listed: rooted(3, 7, other)}, "behind-listed"},
+		{Found{Lock: text, Published: rooted(3, 7, other)}, "behind-published"},
 		{Found{Creates: true}, "creates"},
 		{Found{Creates: true, Guarded: true}, "creates"},
 		{Found{}, "gone"},
-		{Found{Creates: true, Stands: true}, "gone"},
+		{Found{Creates: true, HasObject: true}, "gone"},
 		{Found{Creates: true, Seen: rooted(0, 1, root)}, "gone"},
 		{Found{Creates: true, Guard: rooted(0, 1, root), Guarded: true}, "gone"},
 		{Found{Creates: true, Published: at(0, 1)}, "gone"},
@@ -140,7 +140,7 @@ func TestStarts(t *testing.T) {
 		}
 	}
 	for _, text := range []string{"a text", strings.Repeat("x", 100_000)} {
-		if _, err := c.Start(Found{Register: text}); !errors.Is(err, ErrRefused) {
+		if _, err := c.Start(Found{Lock: text}); !errors.Is(err, ErrRefused) {
 			t.Error(err)
 		}
 	}
@@ -164,12 +164,12 @@ func TestOtherCommands(t *testing.T) {
 			return next, err
 		})
 		command := Begin()
-		for _, told := range []Told{WasRead(textOf(3, 7, 5, 1)), Published()} {
-			next, err := right.Next(command, told)
+		for _, outcome := range []*Outcome{LockRead(textOf(3, 7, 5, 1)), Published()} {
+			next, err := right.Next(command, outcome)
 			must(t, err)
 			command = next
 		}
-		stepped := Stepped(line(4, 9), "-", 2, []string{"tile/0/000.p/4 aa"})
+		stepped := StepMade(line(4, 9), "-", 2, []string{"tile/0/000.p/4 aa"})
 		if next, err := lies.Next(command, stepped); !errors.Is(err, ErrReply) || next != nil {
 			t.Errorf("%s: %+v, %v", what, next, err)
 		}

@@ -44,7 +44,7 @@ type Clock interface {
 
 // Decider says whether a staged batch that the store lists may be deleted.
 type Decider interface {
-	Next(command *decider.Command, told decider.Told) (*decider.Command, error)
+	Next(command *decider.Command, outcome *decider.Outcome) (*decider.Command, error)
 }
 
 // Issuers are the certificates of issuers that the log has put (C2SP static-ct-api).
@@ -117,9 +117,9 @@ type Report struct {
 	Damaged map[uint64]error
 	// Listed is how many staged batches were left when they were listed last.
 	Listed uint64
-	// SweptTo is the number of entries up to which no partial tile is left, as far as this janitor knows, and Next the
+	// DeletedTo is the number of entries up to which no partial tile is left, as far as this janitor knows, and Next the
 	// data tile that is read again next.
-	SweptTo, Next uint64
+	DeletedTo, Next uint64
 }
 
 // Janitor deletes and reads again. All that it decides by is its coroutine's.

@@ -75,7 +75,7 @@ func (j *Janitor) pass(ctx context.Context) {
 	}
 	j.report.Lock()
 	defer j.report.Unlock()
-	j.report.SweptTo, j.report.Next = j.sweep.next[0]*tile.Width, j.reread.next
+	j.report.DeletedTo, j.report.Next = j.sweep.next[0]*tile.Width, j.reread.next
 }
 
 // call calls a function with the time limit of one call.
@@ -194,11 +194,11 @@ func (j *Janitor) deleteStaged(ctx context.Context, newest Newest) error {
 		if !batchName.MatchString(name) {
 			continue
 		}
-		next, err := j.config.Decider.Next(newest.Stepping, decider.Listed(name))
+		next, err := j.config.Decider.Next(newest.Stepping, decider.BatchListed(name))
 		if err != nil {
 			return err
 		}
-		if next.Do != decider.Delete || next.Bundle != name {
+		if next.Do != decider.Delete || next.Batch != name {
 			continue
 		}
 		if err := j.remove(ctx, name, &j.report.Staged); err != nil {

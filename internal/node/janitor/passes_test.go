@@ -121,7 +121,7 @@ func stepping(t *testing.T, timestamp uint64) *decider.Command {
 	line, err := step.New("log.example/tried").Begin(timestamp)
 	testutil.Must(t, err)
 	d := decider.New()
-	look, err := d.Next(decider.Begin(), decider.WasRead(fmt.Sprintf("%s\nnode -\nsalt %016x%016x\n", line, 0, 7)))
+	look, err := d.Next(decider.Begin(), decider.LockRead(fmt.Sprintf("%s\nnode -\nsalt %016x%016x\n", line, 0, 7)))
 	testutil.Must(t, err)
 	next, err := d.Next(look, decider.Published())
 	testutil.Must(t, err)

@@ -11,9 +11,9 @@ import (
 	"wagtenib/internal/stores"
 )
 
-// asked is a register that counts its calls. The function does may fail instead of a call, or wait.
+// asked is a lock that counts its calls. The function does may fail instead of a call, or wait.
 type asked struct {
-	stores.Register
+	stores.Lock
 	mu    sync.Mutex
 	calls map[string]int
 	does  func(call string, nth int) error
@@ -37,31 +37,31 @@ func (a *asked) Create(ctx context.Context, text string) error {
 	if err := a.begins("create"); err != nil {
 		return err
 	}
-	return a.Register.Create(ctx, text)
+	return a.Lock.Create(ctx, text)
 }
 
 func (a *asked) Read(ctx context.Context) (string, error) {
 	if err := a.begins("read"); err != nil {
 		return "", err
 	}
-	return a.Register.Read(ctx)
+	return a.Lock.Read(ctx)
 }
 
 func (a *asked) Swap(ctx context.Context, old, next string) error {
 	if err := a.begins("swap"); err != nil {
 		return err
 	}
-	return a.Register.Swap(ctx, old, next)
+	return a.Lock.Swap(ctx, old, next)
 }
 
 var errTried = errors.New("tried")
 
-// TestFaultyState has calls of the register fail. Nothing is signed unless its state is stored. Only a swap with an
-// unknown outcome is tried again. Afterwards a head is signed that follows the state in the register.
+// TestFaultyState has calls of the lock fail. Nothing is signed unless its state is stored. Only a swap with an
+// unknown outcome is tried again. Afterwards a head is signed that follows the state in the lock.
 func TestFaultyState(t *testing.T) {
 	t.Parallel()
 	ctx, key, l := limited(t), newKey(t), listOf(t, 20, 20)
-	state := &asked{Register: register(t, t.TempDir())}
+	state := &asked{Lock: lock(t, t.TempDir())}
 	g, err := NewGuarded(ctx, key, Guard{State: state, Create: true})
 	must(t, err)
 	size, timestamp := 0, uint64(100)
@@ -111,7 +111,7 @@ func TestFaultyState(t *testing.T) {
 	}
 }
 
-// TestFaultyStart: if the register fails at a start, there is no signer, and the error says why. An existing state is
+// TestFaultyStart: if the lock fails at a start, there is no signer, and the error says why. An existing state is
 // used whether or not Create is set.
 func TestFaultyStart(t *testing.T) {
 	t.Parallel()
@@ -126,9 +126,9 @@ func TestFaultyStart(t *testing.T) {
 		"its line's end can't be taken away":   {textOf(&head) + "\n", "swap", errTried, errTried},
 		"it moves as its line's end goes away": {textOf(&head) + "\n", "swap", stores.ErrLost, stores.ErrLost},
 	} {
-		state := &asked{Register: register(t, t.TempDir())}
+		state := &asked{Lock: lock(t, t.TempDir())}
 		if of.text != "" {
-			must(t, state.Register.Create(ctx, of.text))
+			must(t, state.Lock.Create(ctx, of.text))
 		}
 		of := of
 		state.does = func(call string, _ int) error {
@@ -142,7 +142,7 @@ func TestFaultyStart(t *testing.T) {
 		}
 	}
 	for _, creates := range []bool{false, true} {
-		state := register(t, t.TempDir())
+		state := lock(t, t.TempDir())
 		must(t, state.Create(ctx, textOf(&head)))
 		g, err := NewGuarded(ctx, key, Guard{State: state, Create: creates})
 		must(t, err)

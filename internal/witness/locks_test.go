@@ -27,7 +27,7 @@ import (
 	"wagtenib/internal/testutil"
 )
 
-// grounds are the kinds of registers that keep a witness's states. Each returns an address for a folder and a name that
+// grounds are the kinds of locks that keep a witness's states. Each returns an address for a folder and a name that
 // no other test uses. The engines are those that tests/engines.sh started. Their addresses are empty if it did not run.
 func grounds() map[string]func(folder, name string) string {
 	all := map[string]func(folder, name string) string{"file": func(folder,
@@ -54,7 +54,7 @@ func grounds() map[string]func(folder, name string) string {
 	return all
 }
 
-// onEach runs a test on every kind of register that is there; each call of `anew` gives the address of a new one.
+// onEach runs a test on every kind of lock that is there; each call of `anew` gives the address of a new one.
 func onEach(t *testing.T, test func(t *testing.T, anew func() string)) {
 	for kind, address := range grounds() {
 		address := address
@@ -65,8 +65,8 @@ func onEach(t *testing.T, test func(t *testing.T, anew func() string)) {
 	}
 }
 
-func registerAt(t testing.TB, address string) stores.Register {
-	r, err := stores.RegisterOf(limited(t), address, origin)
+func lockAt(t testing.TB, address string) stores.Lock {
+	r, err := stores.LockOf(limited(t), address, origin)
 	must(t, err)
 	t.Cleanup(func() { r.Close() })
 	return r
@@ -104,7 +104,7 @@ func (c *counted) one(t testing.TB, round int) {
 	}
 }
 
-// TestRace: of two heads that fork, asked at once of two witnesses with one key over one register, one is cosigned and
+// TestRace: of two heads that fork, asked at once of two witnesses with one key over one lock, one is cosigned and
 // the other never.
 func TestRace(t *testing.T) {
 	onEach(t, func(t *testing.T, anew func() string) {
@@ -112,8 +112,8 @@ func TestRace(t *testing.T) {
 		first, again := forks(t, by)
 		for round := 0; round < 10; round++ {
 			at := anew()
-			witnesses := []*Server{witnessOver(t, registerAt(t, at), key, by),
-				witnessOver(t, registerAt(t, at), key, by)}
+			witnesses := []*Server{witnessOver(t, lockAt(t, at), key, by),
+				witnessOver(t, lockAt(t, at), key, by)}
 			var all sync.WaitGroup
 			var cosigned counted
 			ask := func(s *Server, head int, body []byte) {
@@ -155,7 +155,7 @@ func TestKills(t *testing.T) {
 	onEach(t, func(t *testing.T, anew func() string) {
 		for phase, fork := range map[string]int{"decided": 200, "kept": 409} {
 			folder, at := t.TempDir(), anew()
-			s := witnessOver(t, registerAt(t, at), newKey(t), by)
+			s := witnessOver(t, lockAt(t, at), newKey(t), by)
 			must(t, os.WriteFile(filepath.Join(folder, "body"), body(one), 0o600))
 			must(t, os.WriteFile(filepath.Join(folder, "key"), []byte(by.text), 0o600))
 			child := exec.Command(os.Args[0], "-test.run", "^TestKills$")
@@ -191,7 +191,7 @@ func beKilled(t *testing.T, at string) {
 			}
 		}
 	}
-	state := swappedState{registerAt(t, os.Getenv("WITNESS_TEST_STATE")), kill("decided"), kill("kept")}
+	state := swappedState{lockAt(t, os.Getenv("WITNESS_TEST_STATE")), kill("decided"), kill("kept")}
 	s := witnessOver(t, state, newKey(t), signing{key: keyIn(t, folder)})
 	fmt.Println(posted(t, s, body).Body)
 }
@@ -239,14 +239,14 @@ func serve(t *testing.T, state string) {
 	must(t, err)
 	key, err := ReadKey(text)
 	must(t, err)
-	s := witnessOver(t, registerAt(t, state), key, signing{key: keyIn(t, folder)})
+	s := witnessOver(t, lockAt(t, state), key, signing{key: keyIn(t, folder)})
 	listener, err := net.Listen("tcp", "127.0.0.1:0")
 	must(t, err)
 	fmt.Printf("http://%s\n", listener.Addr())
 	must(t, http.Serve(listener, s))
 }
 
-// TestKilledAnywhere has two processes of one witness answer over one register. They are asked at once for two heads
+// TestKilledAnywhere has two processes of one witness answer over one lock. They are asked at once for two heads
 // that fork, while one of them is killed (-9) at a random time and replaced. In each round one of the heads is
 // cosigned, and the other never is.
 func TestKilledAnywhere(t *testing.T) {
@@ -331,7 +331,7 @@ func TestEngineDies(t *testing.T) {
 
 func engineDies(t *testing.T, at string, words []string, command string) {
 	by := headKey(t, origin)
-	s := witnessOver(t, registerAt(t, at), newKey(t), by)
+	s := witnessOver(t, lockAt(t, at), newKey(t), by)
 	ctx, cancel := context.WithTimeout(context.Background(), testutil.Longest)
 	defer cancel()
 	killed := make(chan error, 1)

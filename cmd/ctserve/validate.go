@@ -15,11 +15,11 @@ import (
 	"wagtenib/internal/witness"
 )
 
-// settle checks which settings need one another, and fills in the defaults that follow from others.
-func (s *settings) settle() error {
+// validate checks which settings need one another, and fills in the defaults that follow from others.
+func (s *settings) validate() error {
 	n := &s.node
-	for _, check := range []func() error{s.settleArchive, s.checkNeeded, s.settleAddresses, s.settleRules,
-		s.checkDurations, n.settleMergeDelay, s.settleLimits, n.settleStores, n.settleWitnesses} {
+	for _, check := range []func() error{s.validateArchive, s.checkNeeded, s.validateAddresses, s.validateRules,
+		s.checkDurations, n.validateMergeDelay, s.validateLimits, n.setDefaultStores, n.validateWitnesses} {
 		if err := check(); err != nil {
 			return err
 		}
@@ -48,8 +48,8 @@ func (s *settings) checkNeeded() error {
 	return nil
 }
 
-// settleAddresses checks the names and addresses under which the log is read, and at which it listens.
-func (s *settings) settleAddresses() error {
+// validateAddresses checks the names and addresses under which the log is read, and at which it listens.
+func (s *settings) validateAddresses() error {
 	if err := checkOrigin(s.node.origin); err != nil {
 		return err
 	}
@@ -62,8 +62,8 @@ func (s *settings) settleAddresses() error {
 	return checkListeners(s.listen, s.node.peers.listen, s.operator)
 }
 
-// settleRules fills in which certificates are accepted.
-func (s *settings) settleRules() error {
+// validateRules fills in which certificates are accepted.
+func (s *settings) validateRules() error {
 	s.rules.ServerAuthentication, s.roots.AnyPurpose = !s.anyPurpose, s.anyPurpose
 	if window := s.rules.Window; !window.From.IsZero() && !window.To.IsZero() && !window.From.Before(window.To) {
 		return errors.New("--not-after-start must be before --not-after-limit")
@@ -99,8 +99,8 @@ func (s *settings) checkDurations() error {
 	return nil
 }
 
-// settleLimits checks what clients and steps may use.
-func (s *settings) settleLimits() error {
+// validateLimits checks what clients and steps may use.
+func (s *settings) validateLimits() error {
 	n, l := &s.node, &s.limits
 	// One address may use a quarter of the proofs.
 	l.ProofsByAddress = max(n.maxProofs/4, 1)
@@ -127,14 +127,14 @@ func (s *settings) settleLimits() error {
 	return nil
 }
 
-// settleStores fills in the addresses of stores and the names of files that follow from the folder.
-func (n *node) settleStores() error {
+// setDefaultStores fills in the addresses of stores and the names of files that follow from the folder.
+func (n *node) setDefaultStores() error {
 	for _, address := range []struct {
 		of   *string
 		text string
 	}{
 		{&n.store, "folder:" + filepath.Join(n.folder, "objects")},
-		{&n.register, "file:" + filepath.Join(n.folder, "register")},
+		{&n.lock, "file:" + filepath.Join(n.folder, "register")},
 		{&n.index, "leveldb:" + filepath.Join(n.folder, "index")},
 	} {
 		if *address.of == "" {
@@ -173,9 +173,9 @@ func checkMonitoringURL(text string) error {
 	return nil
 }
 
-// settleMergeDelay refuses a merge delay that a log list cannot have, and an age of heads with which an idle log would
+// validateMergeDelay refuses a merge delay that a log list cannot have, and an age of heads with which an idle log would
 // not keep it (RFC 6962, section 3.5).
-func (n *node) settleMergeDelay() error {
+func (n *node) validateMergeDelay() error {
 	if n.maxMergeDelay%time.Second != 0 {
 		return fmt.Errorf("--max-merge-delay %v is no whole number of seconds, as a log list needs it (write for example 1m)",
 			n.maxMergeDelay)
@@ -236,8 +236,8 @@ func checkListeners(addresses ...string) error {
 	return nil
 }
 
-// settleWitnesses fills in the quorums, and checks that they are possible.
-func (n *node) settleWitnesses() error {
+// validateWitnesses fills in the quorums, and checks that they are possible.
+func (n *node) validateWitnesses() error {
 	q := &n.quorums
 	if len(n.witnesses) == 0 {
 		if *q != (witness.Quorums{}) {

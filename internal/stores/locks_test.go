@@ -22,36 +22,36 @@ func allBytes() string {
 	return string(text[:])
 }
 
-// standsAs fails the test unless the register has this text and published number.
-func standsAs(t *testing.T, register Register, text string, published uint64) {
+// standsAs fails the test unless the lock has this text and published number.
+func standsAs(t *testing.T, lock Lock, text string, published uint64) {
 	t.Helper()
-	if got, err := register.Read(limited(t)); err != nil || got != text {
+	if got, err := lock.Read(limited(t)); err != nil || got != text {
 		t.Errorf("%.40q stands, %v, and %.40q should", got, err, text)
 	}
-	isPublished(t, register, Published{Size: published})
+	isPublished(t, lock, Published{Size: published})
 }
 
 // isPublished fails the test unless this is published.
-func isPublished(t *testing.T, register Register, published Published) {
+func isPublished(t *testing.T, lock Lock, published Published) {
 	t.Helper()
-	if got, err := register.Published(limited(t)); err != nil || got != published {
+	if got, err := lock.Published(limited(t)); err != nil || got != published {
 		t.Errorf("%v is published, %v, and %v should be", got, err, published)
 	}
 }
 
-func TestRegisterIsCreatedOnce(t *testing.T) {
-	eachOf(t, registers, func(t *testing.T, at tried[Register]) {
-		register, ctx := at.opened(t), limited(t)
-		_, reading := register.Read(ctx)
-		_, asking := register.Published(ctx)
+func TestLockIsCreatedOnce(t *testing.T) {
+	eachOf(t, locks, func(t *testing.T, at tried[Lock]) {
+		lock, ctx := at.opened(t), limited(t)
+		_, reading := lock.Read(ctx)
+		_, asking := lock.Published(ctx)
 		for what, err := range map[string]error{"Read": reading, "Published": asking,
-			"Swap": register.Swap(ctx, "a", "b"), "Raise": register.Raise(ctx, Published{Size: 1})} {
+			"Swap": lock.Swap(ctx, "a", "b"), "Raise": lock.Raise(ctx, Published{Size: 1})} {
 			if !errors.Is(err, ErrAbsent) {
 				t.Errorf("%s before Create: %v", what, err)
 			}
 		}
 		won := 0
-		for _, err := range each(16, func(i int) error { return register.Create(ctx, "first") }) {
+		for _, err := range each(16, func(i int) error { return lock.Create(ctx, "first") }) {
 			if err == nil {
 				won++
 			} else if !errors.Is(err, ErrExists) {
@@ -61,9 +61,9 @@ func TestRegisterIsCreatedOnce(t *testing.T) {
 		if won != 1 {
 			t.Errorf("%d of 16 created it", won)
 		}
-		standsAs(t, register, "first", 0)
-		must(t, register.Raise(ctx, Published{Size: 7}))
-		if err := register.Create(ctx, "again"); !errors.Is(err, ErrExists) {
+		standsAs(t, lock, "first", 0)
+		must(t, lock.Raise(ctx, Published{Size: 7}))
+		if err := lock.Create(ctx, "again"); !errors.Is(err, ErrExists) {
 			t.Errorf("Create once more: %v", err)
 		}
 		standsAs(t, at.opened(t), "first", 7)
@@ -73,25 +73,25 @@ func TestRegisterIsCreatedOnce(t *testing.T) {
 // TestFileWhoseTextIsLost: a lost text is not created again, since the log would start from nothing.
 func TestFileWhoseTextIsLost(t *testing.T) {
 	root, ctx := t.TempDir(), limited(t)
-	register, err := OpenFile(root)
+	lock, err := OpenFile(root)
 	must(t, err)
-	must(t, register.Create(ctx, "a"))
-	must(t, register.Raise(ctx, Published{Size: 5}))
+	must(t, lock.Create(ctx, "a"))
+	must(t, lock.Raise(ctx, Published{Size: 5}))
 	must(t, os.Remove(filepath.Join(root, textFile)))
-	if err := register.Create(ctx, "b"); !errors.Is(err, ErrExists) {
+	if err := lock.Create(ctx, "b"); !errors.Is(err, ErrExists) {
 		t.Errorf("Create: %v", err)
 	}
-	if _, err := register.Read(ctx); !errors.Is(err, ErrAbsent) {
+	if _, err := lock.Read(ctx); !errors.Is(err, ErrAbsent) {
 		t.Errorf("Read: %v", err)
 	}
-	if _, err := register.Published(ctx); !errors.Is(err, ErrAbsent) {
+	if _, err := lock.Published(ctx); !errors.Is(err, ErrAbsent) {
 		t.Errorf("Published: %v", err)
 	}
-	if err := register.Swap(ctx, "a", "b"); !errors.Is(err, ErrAbsent) {
+	if err := lock.Swap(ctx, "a", "b"); !errors.Is(err, ErrAbsent) {
 		t.Errorf("Swap: %v", err)
 	}
 	must(t, os.WriteFile(filepath.Join(root, textFile), []byte("a"), 0o644))
-	isPublished(t, register, Published{Size: 5})
+	isPublished(t, lock, Published{Size: 5})
 	for what, bend := range map[string]func() error{
 		"a number below 0": func() error { return os.WriteFile(filepath.Join(root, headFile), []byte("-5 1"), 0o644) },
 		"a size alone":     func() error { return os.WriteFile(filepath.Join(root, headFile), []byte("6"), 0o644) },
@@ -99,44 +99,44 @@ func TestFileWhoseTextIsLost(t *testing.T) {
 		"no file":          func() error { return os.Remove(filepath.Join(root, headFile)) },
 	} {
 		must(t, bend())
-		err := register.Raise(ctx, Published{Size: 6})
+		err := lock.Raise(ctx, Published{Size: 6})
 		if err == nil || errors.Is(err, ErrAbsent) || !strings.Contains(err.Error(), filepath.Join(root, headFile)) {
 			t.Errorf("Raise over %s: %v", what, err)
 		}
-		if _, err := register.Published(ctx); err == nil || !strings.Contains(err.Error(),
+		if _, err := lock.Published(ctx); err == nil || !strings.Contains(err.Error(),
 			filepath.Join(root, headFile)) {
 			t.Errorf("Published over %s: %v", what, err)
 		}
 	}
 }
 
-// TestReadingWaitsForNobody: neither a lock that another process holds nor a read-only file system delays a reader, and
-// no other user of the machine can take the lock.
+// TestReadingWaitsForNobody: neither a lock file that another process has locked nor a read-only file system delays a
+// reader, and no other user of the machine can lock the file.
 func TestReadingWaitsForNobody(t *testing.T) {
 	root, ctx := t.TempDir(), limited(t)
-	register, err := OpenFile(root)
+	lock, err := OpenFile(root)
 	must(t, err)
-	must(t, register.Create(ctx, "text"))
-	must(t, register.Raise(ctx, Published{Size: 5}))
+	must(t, lock.Create(ctx, "text"))
+	must(t, lock.Raise(ctx, Published{Size: 5}))
 	path := filepath.Join(root, lockFile)
 	info, err := os.Stat(path)
 	must(t, err)
 	if info.Mode().Perm() != 0o600 {
-		t.Errorf("the lock's mode is %o", info.Mode().Perm())
+		t.Errorf("the mode of the lock file is %o", info.Mode().Perm())
 	}
-	lock, err := os.Open(path)
+	taken, err := os.Open(path)
 	must(t, err)
-	defer lock.Close()
-	must(t, syscall.Flock(int(lock.Fd()), syscall.LOCK_EX))
+	defer taken.Close()
+	must(t, syscall.Flock(int(taken.Fd()), syscall.LOCK_EX))
 	defer func() { fsync = (*os.File).Sync }()
 	fsync = func(*os.File) error { return syscall.EROFS }
-	standsAs(t, register, "text", 5)
+	standsAs(t, lock, "text", 5)
 	// (another process doesn't know yet what is on the disk)
 	fsync = (*os.File).Sync
 	other, err := OpenFile(root)
 	must(t, err)
 	fsync = func(*os.File) error { return syscall.EIO }
-	standsAs(t, register, "text", 5)
+	standsAs(t, lock, "text", 5)
 	if _, err := other.Read(ctx); !errors.Is(err, syscall.EIO) {
 		t.Errorf("a disk that fails: %v", err)
 	}
@@ -147,40 +147,40 @@ func TestReadingWaitsForNobody(t *testing.T) {
 	standsAs(t, other, "text", 5)
 }
 
-func TestRegisterSwapsTheTextThatWasRead(t *testing.T) {
-	eachOf(t, registers, func(t *testing.T, at tried[Register]) {
-		register, ctx := at.opened(t), limited(t)
-		must(t, register.Create(ctx, "a"))
-		must(t, register.Swap(ctx, "a", "b"))
-		must(t, register.Swap(ctx, "a", "b"))
+func TestLockSwapsTheTextThatWasRead(t *testing.T) {
+	eachOf(t, locks, func(t *testing.T, at tried[Lock]) {
+		lock, ctx := at.opened(t), limited(t)
+		must(t, lock.Create(ctx, "a"))
+		must(t, lock.Swap(ctx, "a", "b"))
+		must(t, lock.Swap(ctx, "a", "b"))
 		for _, old := range []string{"a", "B", "b ", "bb", allBytes()} {
-			if err := register.Swap(ctx, old, "c"); !errors.Is(err, ErrLost) {
+			if err := lock.Swap(ctx, old, "c"); !errors.Is(err, ErrLost) {
 				t.Errorf("Swap over %.20q: %v", old, err)
 			}
 		}
-		standsAs(t, register, "b", 0)
+		standsAs(t, lock, "b", 0)
 		longest := strings.Repeat("x", MaxText)
-		must(t, register.Swap(ctx, "b", longest))
-		must(t, register.Swap(ctx, longest, allBytes()))
+		must(t, lock.Swap(ctx, "b", longest))
+		must(t, lock.Swap(ctx, longest, allBytes()))
 		standsAs(t, at.opened(t), allBytes(), 0)
 		for _, texts := range [][2]string{{allBytes(), longest + "x"}, {longest + "x", "d"}} {
-			if err := register.Swap(ctx, texts[0], texts[1]); !errors.Is(err, ErrTooLong) {
+			if err := lock.Swap(ctx, texts[0], texts[1]); !errors.Is(err, ErrTooLong) {
 				t.Errorf("Swap of too long a text: %v", err)
 			}
 		}
 		for _, texts := range [][2]string{{allBytes(), ""}, {"", "d"}} {
-			if err := register.Swap(ctx, texts[0], texts[1]); !errors.Is(err, ErrEmpty) {
+			if err := lock.Swap(ctx, texts[0], texts[1]); !errors.Is(err, ErrEmpty) {
 				t.Errorf("Swap of no text: %v", err)
 			}
 		}
-		standsAs(t, register, allBytes(), 0)
+		standsAs(t, lock, allBytes(), 0)
 	})
 }
 
-func TestRegisterLetsOneOfManyWin(t *testing.T) {
-	eachOf(t, registers, func(t *testing.T, at tried[Register]) {
+func TestLockLetsOneOfManyWin(t *testing.T) {
+	eachOf(t, locks, func(t *testing.T, at tried[Lock]) {
 		ctx := limited(t)
-		var handles []Register
+		var handles []Lock
 		for i := 0; i < 16; i++ {
 			handles = append(handles, at.opened(t))
 		}
@@ -211,21 +211,21 @@ func TestRegisterLetsOneOfManyWin(t *testing.T) {
 	})
 }
 
-func TestRegisterHasOneHistory(t *testing.T) {
-	eachOf(t, registers, func(t *testing.T, at tried[Register]) {
+func TestLockHasOneHistory(t *testing.T) {
+	eachOf(t, locks, func(t *testing.T, at tried[Lock]) {
 		const many, swaps = 16, 5
-		ctx, register := limited(t), at.opened(t)
-		must(t, register.Create(ctx, "start 0"))
+		ctx, lock := limited(t), at.opened(t)
+		must(t, lock.Create(ctx, "start 0"))
 		follows := make([]map[string]string, many)
 		for i, err := range each(many, func(i int) error {
 			follows[i] = map[string]string{}
 			for done := 0; done < swaps; {
-				old, err := register.Read(ctx)
+				old, err := lock.Read(ctx)
 				if err != nil {
 					return err
 				}
 				new := fmt.Sprintf("%d's %d: %d", i, done, number(old)+1)
-				err = register.Swap(ctx, old, new)
+				err = lock.Swap(ctx, old, new)
 				if err == nil {
 					follows[i][old] = new
 					done++
@@ -258,14 +258,14 @@ func TestRegisterHasOneHistory(t *testing.T) {
 		if length != many*swaps {
 			t.Errorf("a history of %d swaps, and %d were acknowledged", length, many*swaps)
 		}
-		standsAs(t, register, text, 0)
+		standsAs(t, lock, text, 0)
 	})
 }
 
 func TestPublishedNeverFalls(t *testing.T) {
-	eachOf(t, registers, func(t *testing.T, at tried[Register]) {
-		ctx, register, other := limited(t), at.opened(t), at.opened(t)
-		must(t, register.Create(ctx, "a"))
+	eachOf(t, locks, func(t *testing.T, at tried[Lock]) {
+		ctx, lock, other := limited(t), at.opened(t), at.opened(t)
+		must(t, lock.Create(ctx, "a"))
 		const many, raises = 15, 8
 		watching := make(chan struct{})
 		largest := make([]Published, many)
@@ -279,7 +279,7 @@ func TestPublishedNeverFalls(t *testing.T) {
 				number := func(digits int) uint64 { return uint64(numbers.Int63n(int64(1) << digits)) }
 				// (of some sizes there are many)
 				head := Published{number(2) << (20 * numbers.Intn(3)), number(numbers.Intn(60))}
-				if err := register.Raise(ctx, head); err != nil {
+				if err := lock.Raise(ctx, head); err != nil {
 					return err
 				}
 				if largest[i].Before(head) {
@@ -303,12 +303,12 @@ func TestPublishedNeverFalls(t *testing.T) {
 				most = largest[i]
 			}
 		}
-		isPublished(t, register, most)
-		must(t, register.Raise(ctx, Published{MaxNumber, 3}))
-		must(t, register.Raise(ctx, Published{MaxNumber, MaxNumber}))
-		must(t, register.Raise(ctx, Published{3, MaxNumber}))
+		isPublished(t, lock, most)
+		must(t, lock.Raise(ctx, Published{MaxNumber, 3}))
+		must(t, lock.Raise(ctx, Published{MaxNumber, MaxNumber}))
+		must(t, lock.Raise(ctx, Published{3, MaxNumber}))
 		for _, head := range []Published{{MaxNumber + 1, 0}, {0, MaxNumber + 1}} {
-			if err := register.Raise(ctx, head); !errors.Is(err, ErrNumber) {
+			if err := lock.Raise(ctx, head); !errors.Is(err, ErrNumber) {
 				t.Errorf("Raise to more than may be: %v", err)
 			}
 		}
@@ -317,9 +317,9 @@ func TestPublishedNeverFalls(t *testing.T) {
 }
 
 // watch reads the published number until it is stopped, and fails if the number falls.
-func watch(ctx context.Context, register Register, until chan struct{}) error {
+func watch(ctx context.Context, lock Lock, until chan struct{}) error {
 	for last := (Published{}); ; {
-		now, err := register.Published(ctx)
+		now, err := lock.Published(ctx)
 		if err != nil || now.Before(last) {
 			return fmt.Errorf("published fell from %v to %v, %v", last, now, err)
 		}
@@ -332,22 +332,22 @@ func watch(ctx context.Context, register Register, until chan struct{}) error {
 	}
 }
 
-// TestRegisterSettlesByReading has swaps whose context ends at any time. Whatever they return, the register has the old
+// TestLockSettlesByReading has swaps whose context ends at any time. Whatever they return, the lock has the old
 // text or theirs. It has theirs if they return nil. A swap that has lost is never performed later.
-func TestRegisterSettlesByReading(t *testing.T) {
-	eachOf(t, registers, func(t *testing.T, at tried[Register]) {
-		ctx, register := limited(t), at.opened(t)
-		must(t, register.Create(ctx, "text 0"))
+func TestLockSettlesByReading(t *testing.T) {
+	eachOf(t, locks, func(t *testing.T, at tried[Lock]) {
+		ctx, lock := limited(t), at.opened(t)
+		must(t, lock.Create(ctx, "text 0"))
 		start := time.Now()
-		must(t, register.Swap(ctx, "text 0", "text 1"))
+		must(t, lock.Swap(ctx, "text 0", "text 1"))
 		usual := time.Since(start)
 		stands, outcomes := "text 1", map[string]int{}
 		for i := 2; i < 42; i++ {
 			short, cancel := context.WithTimeout(ctx, time.Duration(rand.Int63n(int64(3*usual))))
 			new := fmt.Sprintf("text %d", i)
-			err := register.Swap(short, stands, new)
+			err := lock.Swap(short, stands, new)
 			cancel()
-			read, reading := register.Read(ctx)
+			read, reading := lock.Read(ctx)
 			must(t, reading)
 			switch {
 			case err == nil && read != new:
@@ -359,53 +359,53 @@ func TestRegisterSettlesByReading(t *testing.T) {
 			}
 			outcomes[fmt.Sprintf("acknowledged %t, done %t", err == nil, read == new)]++
 			settled := fmt.Sprintf("settled %d", i)
-			if err := register.Swap(ctx, read, settled); errors.Is(err, ErrLost) {
+			if err := lock.Swap(ctx, read, settled); errors.Is(err, ErrLost) {
 				// The abandoned swap was performed after the read.
-				must(t, register.Swap(ctx, new, settled))
+				must(t, lock.Swap(ctx, new, settled))
 			} else {
 				must(t, err)
 			}
 			stands = settled
 		}
-		standsAs(t, register, stands, 0)
+		standsAs(t, lock, stands, 0)
 		t.Logf("%s: %v", at.name, outcomes)
 	})
 }
 
-func TestRegisterEndsWithItsContext(t *testing.T) {
-	eachOf(t, registers, func(t *testing.T, at tried[Register]) {
-		register := at.opened(t)
-		must(t, register.Create(limited(t), "text"))
+func TestLockEndsWithItsContext(t *testing.T) {
+	eachOf(t, locks, func(t *testing.T, at tried[Lock]) {
+		lock := at.opened(t)
+		must(t, lock.Create(limited(t), "text"))
 		ended, cancel := context.WithCancel(limited(t))
 		cancel()
-		_, reading := register.Read(ended)
-		_, asking := register.Published(ended)
+		_, reading := lock.Read(ended)
+		_, asking := lock.Published(ended)
 		calls := map[string]error{"Read": reading, "Published": asking,
-			"Raise": register.Raise(ended, Published{Size: 1}), "Swap": register.Swap(ended, "text", "other")}
+			"Raise": lock.Raise(ended, Published{Size: 1}), "Swap": lock.Swap(ended, "text", "other")}
 		for what, err := range calls {
 			if err == nil || errors.Is(err, ErrLost) || errors.Is(err, ErrAbsent) {
 				t.Errorf("%s: %v", what, err)
 			}
 		}
-		standsAs(t, register, "text", 0)
+		standsAs(t, lock, "text", 0)
 	})
 }
 
-// TestFileWaitsForItsLock: as long as the context lets it.
-func TestFileWaitsForItsLock(t *testing.T) {
+// TestFileWaitsForItsLockFile: a swap waits for another process's lock of the file until its context ends.
+func TestFileWaitsForItsLockFile(t *testing.T) {
 	root := t.TempDir()
-	register, err := OpenFile(root)
+	lock, err := OpenFile(root)
 	must(t, err)
-	must(t, register.Create(limited(t), "text"))
-	lock, err := os.Open(filepath.Join(root, lockFile))
+	must(t, lock.Create(limited(t), "text"))
+	taken, err := os.Open(filepath.Join(root, lockFile))
 	must(t, err)
-	must(t, syscall.Flock(int(lock.Fd()), syscall.LOCK_EX))
+	must(t, syscall.Flock(int(taken.Fd()), syscall.LOCK_EX))
 	short, cancel := context.WithTimeout(limited(t), 50*time.Millisecond)
 	defer cancel()
-	if err := register.Swap(short, "text", "other"); !errors.Is(err, context.DeadlineExceeded) {
-		t.Errorf("Swap of a register that is locked: %v", err)
+	if err := lock.Swap(short, "text", "other"); !errors.Is(err, context.DeadlineExceeded) {
+		t.Errorf("Swap while another process has the lock file: %v", err)
 	}
-	time.AfterFunc(50*time.Millisecond, func() { lock.Close() })
-	must(t, register.Swap(limited(t), "text", "another"))
-	standsAs(t, register, "another", 0)
+	time.AfterFunc(50*time.Millisecond, func() { taken.Close() })
+	must(t, lock.Swap(limited(t), "text", "another"))
+	standsAs(t, lock, "another", 0)
 }

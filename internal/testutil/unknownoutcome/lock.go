@@ -1,0 +1,42 @@
+// Package unknownoutcome has a lock that does not know the outcome of some of its swaps, for tests of its users.
+package unknownoutcome
+
+import (
+	"context"
+	"fmt"
+
+	"wagtenib/internal/stores"
+)
+
+// Lock does not know the outcome of two swaps of each Every, which is at least three: of one that it did not make,
+// and of one that it made. While Fails is an error it does nothing, and answers that.
+type Lock struct {
+	stores.Lock
+	Every int
+	Fails error
+	swaps int
+}
+
+func (r *Lock) Create(ctx context.Context, text string) error {
+	if r.Fails != nil {
+		return r.Fails
+	}
+	return r.Lock.Create(ctx, text)
+}
+
+func (r *Lock) Swap(ctx context.Context, old, new string) error {
+	r.swaps++
+	if r.Fails != nil {
+		return r.Fails
+	}
+	switch r.swaps % r.Every {
+	case 1:
+		return fmt.Errorf("%w: it was not done", stores.ErrUnknown)
+	case 2:
+		if err := r.Lock.Swap(ctx, old, new); err != nil {
+			return err
+		}
+		return fmt.Errorf("%w: it was done", stores.ErrUnknown)
+	}
+	return r.Lock.Swap(ctx, old, new)
+}
