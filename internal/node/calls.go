@@ -7,8 +7,8 @@ import (
 	"wagtenib/internal/stores"
 )
 
-// limited gives each call to a store its time limit. A node has no other way to its stores, so no call can hold it for
-// ever.
+// limited gives each call to a store a time limit. A node calls its stores only through it, so no call can hold the node
+// for ever.
 type limited struct {
 	clock Clock
 	long  time.Duration
@@ -34,7 +34,7 @@ func within[T any](ctx context.Context, l *limited, call func(context.Context) (
 // nothing is the result of a call that only succeeds or fails.
 type nothing struct{}
 
-// done is within of a call without a result.
+// done calls a function that has no result with the time limit.
 func done(ctx context.Context, l *limited, call func(context.Context) error) error {
 	_, err := within(ctx, l, func(ctx context.Context) (nothing, error) { return nothing{}, call(ctx) })
 	return err

@@ -112,8 +112,8 @@ func (l *Loop) raise(ctx context.Context, published stores.Published, head Head,
 	return nil
 }
 
-// restore makes the newest state whole again, as far as its staged batch goes: objects that are missing or have another
-// content, and its head.
+// restore repairs the newest state as far as its staged batch allows: it puts objects that are missing or have another
+// content, and the state's head.
 func (l *Loop) restore(ctx context.Context, k *state) (Head, error) {
 	newest, err := l.learn(ctx)
 	if err != nil {
@@ -155,9 +155,9 @@ func (l *Loop) restore(ctx context.Context, k *state) (Head, error) {
 	return head, nil
 }
 
-// putHead has a state's head signed, and puts it beside something else. If another node put one, that is the head: the
-// signatures of one head differ. The signer refuses a head that is older than its last one; then the other node's is in
-// the store, or a later one.
+// putHead has a state's head signed, and puts it while another function runs. If another node has put the head, that one
+// is used: the signatures of one head differ. The signer refuses a head that is older than its last one. Then the other
+// node's head is in the store, or a later one.
 func (l *Loop) putHead(
 	ctx context.Context, k *state, of step.Head, objects []step.Object, beside func(context.Context) error,
 ) (Head, error) {
@@ -187,8 +187,8 @@ func (l *Loop) putHead(
 	return made, nil
 }
 
-// whyRefused returns what the signer's refusal of a state's head means. The refusal is an alarm only if the lock has the
-// state still: if it has another one, other nodes went on, and if it cannot be read, they may have.
+// whyRefused returns what the signer's refusal of a state's head means. The refusal counts only if the lock still has
+// the state. If it has another one, other nodes went on, and if it cannot be read, they may have.
 func (l *Loop) whyRefused(ctx context.Context, k *state, refused error) error {
 	newest, err := l.learn(ctx)
 	if err != nil {
@@ -292,8 +292,8 @@ func (n *Node) readHead(ctx context.Context, name string) (Head, error) {
 	return head, nil
 }
 
-// foreign returns why a note that was not verified is another log's, or another key's, or nil if it is neither: then
-// the settings have another origin, or another key.
+// foreign returns why a note could not be verified: errForeign if it has another origin than the settings or another key
+// signed it, and errNote if its first signature is not its origin's. It returns nil after any other error, or none.
 func (n *Node) foreign(err error) error {
 	var of *note.UnverifiedNoteError
 	if !errors.As(err, &of) {

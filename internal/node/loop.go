@@ -12,7 +12,7 @@ import (
 	"wagtenib/internal/stores"
 )
 
-// Loop is all that one node decides by. Only the coroutine that calls Run may use it, so nothing in it needs a lock.
+// Loop is all that one node decides by. Only the goroutine that calls Run may use it, so nothing in it needs a lock.
 type Loop struct {
 	*Node
 	seen seen

@@ -22,9 +22,9 @@ const (
 	// checkpointName is the name of the newest head for readers without a node (C2SP tlog-tiles, "Checkpoints").
 	checkpointName = "checkpoint"
 
-	nodeWord = "node "
-	saltWord = "salt "
-	nowhere  = "-"
+	nodePrefix = "node "
+	saltPrefix = "salt "
+	nowhere    = "-"
 )
 
 // headName returns the name of a head's object. Names are in the order of states.
@@ -47,7 +47,7 @@ type state struct {
 	text, line string
 	// look is the command of a node that read the text.
 	look *decider.Command
-	// node is where the node that set the text is asked; it is empty if that node said nothing.
+	// node is the address of the node that set the text, or empty if that node has none.
 	node string
 	// readAt is when this node read the text first, by Elapsed.
 	readAt time.Duration
@@ -66,15 +66,15 @@ func (k *state) published() stores.Published {
 // parseText reads a text of the lock.
 func parseText(text string) (*state, error) {
 	lines := strings.Split(text, "\n")
-	if len(lines) != 4 || lines[3] != "" || !strings.HasPrefix(lines[1], nodeWord) ||
-		!strings.HasPrefix(lines[2], saltWord) {
+	if len(lines) != 4 || lines[3] != "" || !strings.HasPrefix(lines[1], nodePrefix) ||
+		!strings.HasPrefix(lines[2], saltPrefix) {
 		return nil, fmt.Errorf("%w: the lock's text is not one of a log: %.40q", ErrDamaged, text)
 	}
 	read, err := step.ParseState(lines[0])
 	if err != nil {
 		return nil, fmt.Errorf("%w: the lock's text: %v", ErrDamaged, err)
 	}
-	k := &state{State: read, text: text, line: lines[0], node: strings.TrimPrefix(lines[1], nodeWord)}
+	k := &state{State: read, text: text, line: lines[0], node: strings.TrimPrefix(lines[1], nodePrefix)}
 	if k.node == nowhere {
 		k.node = ""
 	}
@@ -100,7 +100,7 @@ func Identity(leaf *tile.Leaf) stores.Identity {
 	return identity(leaf.Type, leaf.IssuerKeyHash, leaf.Certificate)
 }
 
-// where returns what the lock's text says about this node.
+// where returns this node's address as the lock's text has it.
 func (c *Config) where() string {
 	if c.Address == "" {
 		return nowhere
@@ -111,7 +111,7 @@ func (c *Config) where() string {
 // textAfter returns the lock's text of a step, and the name of its staged batch, as the decider makes them
 // (docs/NODE.md).
 func (c *Config) textAfter(before uint64, line string, to step.State, salt uint64) (text, staged string) {
-	return fmt.Sprintf("%s\n%s%s\n%s%016x%016x\n", line, nodeWord, c.where(), saltWord, before, salt),
+	return fmt.Sprintf("%s\n%s%s\n%s%016x%016x\n", line, nodePrefix, c.where(), saltPrefix, before, salt),
 		fmt.Sprintf("%s%016x%016x%016x", stagingPrefix, to.Timestamp, before, salt)
 }
 
@@ -125,8 +125,8 @@ func reference(object step.Object) string {
 	return object.Name + " " + hex.EncodeToString(object.Digest[:])
 }
 
-// identityOf returns SHA-256 over what of a submission is in its leaf: the type, and the certificate, or the issuer's
-// key hash and the TBSCertificate.
+// identityOf returns SHA-256 over the parts of a submission that are in its leaf: the type, and the certificate, or the
+// issuer's key hash and the TBSCertificate.
 func identityOf(s step.Submission) stores.Identity {
 	if len(s.LeafCertificate) > 0 {
 		return identity(chains.X509Entry, s.LeafCertificate)

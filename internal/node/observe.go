@@ -20,18 +20,18 @@ const (
 	Events
 )
 
-// Observer learns what a node does, for metrics. Count, Took and Cosigned may be called by several coroutines at once,
+// Observer learns what a node does, for metrics. Count, Took and Cosigned may be called by several goroutines at once,
 // and the others only by the loop's. They must not block.
 type Observer interface {
 	// Count counts an event.
 	Count(of Event)
-	// Took gives the duration of a part of a step: a command of the decider, or "take" for what comes before the step.
+	// Took reports the duration of a part of a step: a command of the decider, or "take" for what comes before the step.
 	Took(part string, long time.Duration)
 	// Decided counts a step that the lock took, of so many submissions. It writes so many bytes.
 	Decided(submissions, bytes int)
 	// Repaired counts an object that was missing or wrong and was made again.
 	Repaired(name string)
-	// Cosigned says whether a witness cosigned a head. The error is ErrWitnessAhead if it saw more.
+	// Cosigned reports whether a witness cosigned a head. The error is ErrWitnessAhead if it saw more.
 	Cosigned(witness string, err error)
 	// Faulted counts a fault that began where there was none.
 	Faulted(err error)
@@ -50,7 +50,7 @@ func (unobserved) Cosigned(string, error)     {}
 func (unobserved) Faulted(error)              {}
 func (unobserved) WentWell()                  {}
 
-// took gives the observer the duration of a part of a step that began then, by Elapsed.
+// took reports the duration of a part of a step that began then, by Elapsed, to the observer.
 func (l *Loop) took(part string, began time.Duration) {
 	l.config.Machine.Observer.Took(part, l.config.Machine.Clock.Elapsed()-began)
 }

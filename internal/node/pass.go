@@ -26,7 +26,8 @@ type pass struct {
 	heads *listing
 }
 
-// places are those of a step's entries. replaced are those that the index has wrong.
+// places holds the rows of a step's entries in the index. The index has other places for those in replaced, which are
+// wrong.
 type places struct{ rows, replaced []stores.Row }
 
 // made is a step of this node, or another node's out of its staged batch.
@@ -49,7 +50,7 @@ type made struct {
 // errCommand: the decider gives a command that cannot be carried out here.
 var errCommand = errors.New("node: no command of this node")
 
-// goOn reports the outcome of a command to the decider, and takes the next one.
+// goOn reports the outcome of the command to the decider, and takes the next command.
 func (p *pass) goOn(outcome *decider.Outcome) error {
 	next, err := p.config.Proved.Decider.Next(p.command, outcome)
 	if err != nil {
@@ -64,7 +65,7 @@ func (p *pass) carryOut(ctx context.Context) (bool, error) {
 	var outcome *decider.Outcome
 	var err error
 	if p.command.Do != decider.Place {
-		// The places are added beside the objects, and are timed there.
+		// The entries are added to the index beside the objects, and that is timed there.
 		defer p.took(p.command.Do, p.config.Machine.Clock.Elapsed())
 	}
 	switch p.command.Do {
@@ -322,7 +323,7 @@ func (p *pass) stage(ctx context.Context) (*decider.Outcome, error) {
 	return decider.Done(), nil
 }
 
-// put puts a state's objects under their public names. Beside that it adds the places of its entries, and keeps the
+// put puts a state's objects under their public names. Beside that it adds its entries to the index, and keeps the
 // state as the newest one that this node accepted. None of these needs another one, and the head needs all.
 func (p *pass) put(ctx context.Context) (*decider.Outcome, error) {
 	if err := errors.Join(p.checkState(), p.checkObjects()); err != nil {
@@ -355,7 +356,7 @@ func (p *pass) put(ctx context.Context) (*decider.Outcome, error) {
 	return decider.Done(), nil
 }
 
-// place does nothing: the places were added beside the objects.
+// place does nothing: put added the entries to the index beside the objects.
 func (p *pass) place(context.Context) (*decider.Outcome, error) {
 	return decider.Done(), p.checkState()
 }

@@ -11,7 +11,7 @@ import (
 )
 
 // Request is one submission of a client. It must be looked up before it is enqueued, and may then be looked up again.
-// Its methods are for one coroutine, which is not the loop's.
+// Its methods are for one goroutine, which is not the loop's.
 type Request struct {
 	node       *Node
 	submission step.Submission

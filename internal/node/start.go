@@ -12,7 +12,7 @@ import (
 )
 
 // Start looks at the lock, the stores, the signer and the machine's memory, and returns a node if the node may continue
-// from there. The caller must then call Run of the loop in one coroutine. Otherwise it refuses with ErrRolledBack,
+// from there. The caller must then call Run of the loop in one goroutine. Otherwise it refuses with ErrRolledBack,
 // ErrDamaged, ErrIndex or signer.ErrState.
 func Start(ctx context.Context, config Config) (*Node, *Loop, error) {
 	if err := config.check(); err != nil {
@@ -30,7 +30,7 @@ func Start(ctx context.Context, config Config) (*Node, *Loop, error) {
 			remembered.Root
 	}
 	for range startOver {
-		started, err := l.takeUp(ctx, remembered)
+		started, err := l.tryStart(ctx, remembered)
 		if err != nil {
 			return nil, nil, err
 		}
@@ -41,16 +41,18 @@ func Start(ctx context.Context, config Config) (*Node, *Loop, error) {
 	return nil, nil, fmt.Errorf("%w: in %d tries it did not stay the same (start again)", ErrRolledBack, startOver)
 }
 
-// found is what is found of a log at the start, as the decider reads it and as it was read.
+// found is what a start finds of a log: in the decider's form, and as it was read.
 type found struct {
 	decider.Found
+	// k is the state of the lock's text, and last the signer's last head. Either is nil if there is none.
 	k         *state
 	published stores.Published
 	last      *signer.Head
 }
 
-// takeUp looks once. It reports false if another node went on meanwhile, or if the lock was created just now.
-func (l *Loop) takeUp(ctx context.Context, remembered *signer.Head) (bool, error) {
+// tryStart looks once at everything. It reports false if another node went on meanwhile, or if the lock was created just
+// now.
+func (l *Loop) tryStart(ctx context.Context, remembered *signer.Head) (bool, error) {
 	f, err := l.find(ctx, remembered)
 	if err != nil {
 		return false, err
@@ -276,7 +278,7 @@ func (l *Loop) create(ctx context.Context) error {
 	if err != nil {
 		return fmt.Errorf("node: %w", err)
 	}
-	text := fmt.Sprintf("%s\n%s%s\n%s%016x%016x\n", line, nodeWord, l.config.where(), saltWord, 0, salt)
+	text := fmt.Sprintf("%s\n%s%s\n%s%016x%016x\n", line, nodePrefix, l.config.where(), saltPrefix, 0, salt)
 	err = l.config.Stores.Lock.Create(ctx, text)
 	if errors.Is(err, stores.ErrExists) {
 		// Another node created it; or its text is gone, and the engine still knows that it was created.

@@ -17,7 +17,7 @@ import (
 	"wagtenib/internal/witness"
 )
 
-// A log all of whose stores are rolled back together cannot show that to itself, but its witnesses saw more. A head is
+// If all stores of a log are rolled back together, its nodes cannot see that, but its witnesses saw more. A head is
 // signed, then cosigned by enough witnesses, then published. Before a node takes anything, enough witnesses must cosign
 // the newest head again, and none may say that it saw more (docs/WITNESS.md).
 
@@ -76,9 +76,9 @@ func (l *Loop) cosign(ctx context.Context, k *state, head *Head, objects []step.
 		return nil
 	}
 	quorums := l.config.Witnesses.Quorums
-	a := &asking{k: k, note: head.Note, objects: objects, least: quorums.Publish}
+	a := &asking{k: k, note: head.Note, objects: objects, min: quorums.Publish}
 	if !l.seen.isVouched {
-		a.least, a.whole = max(quorums.Publish, quorums.Start), true
+		a.min, a.isWhole = max(quorums.Publish, quorums.Start), true
 	}
 	lines, err := l.gather(ctx, a)
 	if err != nil {
@@ -101,7 +101,7 @@ func (l *Loop) vouch(ctx context.Context, k *state) error {
 		return err
 	}
 	if _, err := l.gather(ctx, &asking{k: k, note: ownNote(head.Note),
-		least: l.config.Witnesses.Quorums.Start, whole: true}); err != nil {
+		min: l.config.Witnesses.Quorums.Start, isWhole: true}); err != nil {
 		return err
 	}
 	l.seen.isVouched = true
@@ -131,33 +131,34 @@ type asking struct {
 	k       *state
 	note    []byte
 	objects []step.Object
-	// least is how many must cosign. whole says that all are waited for, and that none may have seen more.
-	least int
-	whole bool
+	// min is how many must cosign. isWhole says that all are waited for, and that none may have seen more.
+	min     int
+	isWhole bool
 
-	mu     sync.Mutex
-	lines  []byte
-	given  int
-	behind error
-	other  error
+	mu sync.Mutex
+	// lines are the cosignatures, and given is how many they are.
+	lines []byte
+	given int
+	// ahead is the error of a witness that saw more, and other the error of one that did not cosign for another reason.
+	ahead, other error
 }
 
-// heard keeps the outcome of asking one witness, and returns errEnough if no other one needs to be waited for.
-func (a *asking) heard(line string, err error) error {
+// keep keeps the outcome of asking one witness, and returns errEnough if no other one needs to be waited for.
+func (a *asking) keep(line string, err error) error {
 	a.mu.Lock()
 	defer a.mu.Unlock()
 	switch {
-	case !a.whole && a.given >= a.least:
+	case !a.isWhole && a.given >= a.min:
 		return errEnough
 	case errors.Is(err, ErrWitnessAhead):
-		a.behind = err
+		a.ahead = err
 	case err != nil:
 		a.other = err
 	default:
 		a.given++
 		a.lines = append(a.lines, line...)
 	}
-	if !a.whole && a.given >= a.least {
+	if !a.isWhole && a.given >= a.min {
 		return errEnough
 	}
 	return nil
@@ -172,32 +173,32 @@ func (l *Loop) gather(ctx context.Context, a *asking) ([]byte, error) {
 		calls[i] = func(ctx context.Context) error {
 			line, err := l.cosignature(ctx, i, a)
 			l.config.Machine.Observer.Cosigned(all[i].Verifier().Name(), err)
-			return a.heard(line, err)
+			return a.keep(line, err)
 		}
 	}
 	if err := l.config.Machine.Parallel(ctx, calls...); err != nil && !errors.Is(err, errEnough) {
 		return nil, fmt.Errorf("node: the witnesses: %w", err)
 	}
 	switch {
-	case a.given >= a.least && (a.behind == nil || !a.whole):
+	case a.given >= a.min && (a.ahead == nil || !a.isWhole):
 		return a.lines, nil
-	case a.behind != nil:
-		return nil, l.unwitnessed(ctx, a)
+	case a.ahead != nil:
+		return nil, l.whyAhead(ctx, a)
 	}
 	return nil, fmt.Errorf("%w: of %d entries at %d ms: %d of %d did, and %d are needed: %w", ErrWitnesses, a.k.Size,
-		a.k.Timestamp, a.given, len(all), a.least, a.other)
+		a.k.Timestamp, a.given, len(all), a.min, a.other)
 }
 
-// unwitnessed returns what it means that a witness saw more: other nodes went on meanwhile, or the log was rolled back.
-func (l *Loop) unwitnessed(ctx context.Context, a *asking) error {
+// whyAhead returns why a witness saw more: errMoves if other nodes went on meanwhile, or else ErrRolledBack.
+func (l *Loop) whyAhead(ctx context.Context, a *asking) error {
 	if err := l.checkCurrent(ctx, a.k); err != nil {
 		return err
 	}
-	return fmt.Errorf("%w: it has %d entries at %d ms: %v", ErrRolledBack, a.k.Size, a.k.Timestamp, a.behind)
+	return fmt.Errorf("%w: it has %d entries at %d ms: %v", ErrRolledBack, a.k.Size, a.k.Timestamp, a.ahead)
 }
 
 // cosignature has one witness cosign a head. It is asked from the size that it is known to have cosigned last, and then
-// from the one that it says. Only the coroutine that asks this witness uses its number in witnessed.
+// from the one that it says. Only the goroutine that asks this witness uses its number in witnessed.
 func (l *Loop) cosignature(ctx context.Context, which int, a *asking) (line string, err error) {
 	ctx, cancel := l.config.Machine.Clock.Within(ctx, l.config.Pace.Cosign)
 	defer cancel()

@@ -84,12 +84,12 @@ var all = []planted{
 		{"witnesses.go", "	head.Note = append(bytes.Clone(head.Note), lines...)", "	_ = lines"},
 	}},
 	{"one witness too few is enough", []edit{
-		{"witnesses.go", "least: quorums.Publish}", "least: quorums.Publish - 1}"},
+		{"witnesses.go", "min: quorums.Publish}", "min: quorums.Publish - 1}"},
 	}},
 	{"too few cosignatures do not stop a head", []edit{
 		{"witnesses.go",
-			"	case a.given >= a.least && (a.behind == nil || !a.whole):",
-			"	case a.behind == nil || !a.whole:",
+			"	case a.given >= a.min && (a.ahead == nil || !a.isWhole):",
+			"	case a.ahead == nil || !a.isWhole:",
 		},
 	}},
 	{"the newest head is not cosigned at a start", []edit{
@@ -100,19 +100,19 @@ var all = []planted{
 	}},
 	{"a witness that saw more does not stop a start", []edit{
 		{"witnesses.go",
-			"	case a.given >= a.least && (a.behind == nil || !a.whole):",
-			"	case a.given >= a.least || a.whole:",
+			"	case a.given >= a.min && (a.ahead == nil || !a.isWhole):",
+			"	case a.given >= a.min || a.isWhole:",
 		},
 	}},
 	{"one witness too few is enough at a start", []edit{
-		{"witnesses.go", "least: l.config.Witnesses.Quorums.Start,", "least: l.config.Witnesses.Quorums.Start - 1,"},
+		{"witnesses.go", "min: l.config.Witnesses.Quorums.Start,", "min: l.config.Witnesses.Quorums.Start - 1,"},
 		{"witnesses.go",
-			"	case a.given >= a.least && (a.behind == nil || !a.whole):",
-			"	case a.given >= a.least:",
+			"	case a.given >= a.min && (a.ahead == nil || !a.isWhole):",
+			"	case a.given >= a.min:",
 		},
 	}},
 	{"the first head of a log is cosigned as any other", []edit{
-		{"witnesses.go", "	if !l.seen.isVouched {\n		a.least", "	if false {\n		a.least"},
+		{"witnesses.go", "	if !l.seen.isVouched {\n		a.min", "	if false {\n		a.min"},
 	}},
 	{"a cosignature is not checked", []edit{
 		{"witnesses.go",

@@ -1,5 +1,5 @@
 // Package janitor deletes what nobody needs any more of a log, and reads old tiles again. It runs beside a node, in a
-// coroutine of its own, and nothing waits for it.
+// goroutine of its own, and nothing waits for it.
 //
 // It deletes these objects:
 //
@@ -11,7 +11,7 @@
 // A partial tile is the beginning of its full tile, so readers find what it had. While the node has a fault, the
 // janitor deletes nothing.
 //
-// Each pass goes on where the last one ended: pass.go has its parts in their order.
+// Each pass continues where the last one ended: pass.go has its parts in their order.
 package janitor
 
 import (
@@ -122,12 +122,12 @@ type Report struct {
 	DeletedTo, Next uint64
 }
 
-// Janitor deletes and reads again. All that it decides by is its coroutine's.
+// Janitor deletes and reads again. Only the goroutine that calls Run uses its fields, except the report.
 type Janitor struct {
 	config  Config
 	tiles   settled
 	heads   settled
-	sweep   sweep
+	partial partial
 	reread  reread
 	staged  listing
 	thin    thinning
@@ -166,7 +166,7 @@ func (j *Janitor) Report() Report {
 	return now
 }
 
-// Note keeps that a data tile is damaged, as somebody else saw. The janitor reads it again soon.
+// Note records that a data tile is damaged, if a reader or a step found that. The janitor reads it again soon.
 func (j *Janitor) Note(number uint64, err error) { j.damaged(number, err) }
 
 // Run makes one pass after another until the context ends.
@@ -177,15 +177,16 @@ func (j *Janitor) Run(ctx context.Context) error {
 	return fmt.Errorf("janitor: %w", ctx.Err())
 }
 
-// settled is a head that was published for some time: the newest one that was seen so long ago.
+// settled finds a head that has been published for some time, out of the newest heads that it is shown.
 type settled struct {
+	// head is that head. young is a later one, which was the newest at the time since, by Elapsed.
 	head, young signer.Head
 	since       time.Duration
 	isSeen      bool
 }
 
-// look takes the newest head, and moves on after a while. The head that it has is at least so old, and at most twice as
-// old.
+// look shows the newest head of now. The head that is kept has been published at least for the duration after, and at
+// most for twice as long.
 func (s *settled) look(newest signer.Head, now, after time.Duration) {
 	if !s.isSeen {
 		s.young, s.since, s.isSeen = newest, now, true

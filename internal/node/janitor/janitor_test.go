@@ -121,13 +121,13 @@ func TestKeepsPartialTilesOfDamagedTile(t *testing.T) {
 			if objects[full] = bent; bent == nil {
 				delete(objects, full)
 			}
-			if err := j.sweepTile(context.Background(), level, 0, head); !errors.Is(err, tile.ErrDamaged) ||
+			if err := j.deletePartials(context.Background(), level, 0, head); !errors.Is(err, tile.ErrDamaged) ||
 				objects[partial] == nil {
 				t.Errorf("%s of %d bytes: %v, and %s has %d", full, len(bent), err, partial, len(objects[partial]))
 			}
 		}
 		objects[full] = right
-		if err := j.sweepTile(context.Background(), level, 0, head); err != nil || objects[partial] != nil ||
+		if err := j.deletePartials(context.Background(), level, 0, head); err != nil || objects[partial] != nil ||
 			fmt.Sprint(j.Report().Tiles) != "1" {
 			t.Errorf("%s is whole: %v, and %s has %d bytes", full, err, partial, len(objects[partial]))
 		}

@@ -18,22 +18,23 @@ import (
 const (
 	headsPrefix   = "heads/"
 	stagingPrefix = "staging/"
-	// maxDeleted is how many objects of a kind one pass deletes, maxSwept how many tiles it looks at for partial ones,
-	// and maxReread how many it reads again.
+	// maxDeleted is how many objects of a kind one pass deletes. maxFull is of how many full tiles it deletes the partial
+	// ones, and maxReread how many tiles it reads again.
 	maxDeleted = 256
-	maxSwept   = 16
+	maxFull    = 16
 	maxReread  = 16
 	// maxDamaged is how many damaged tiles are remembered.
 	maxDamaged = 1024
-	// sweptAgain is how many full tiles of a level before the newest a janitor looks at first. It reads the older ones
-	// again in time.
-	sweptAgain = 256
+	// maxBefore is how many full tiles of a level, before the newest one, a janitor looks at when it starts. It deletes the
+	// partial ones of earlier tiles when it reads these again.
+	maxBefore = 256
 	// levels are those of the tiles of a log: data, and hashes of at most 2^40 entries.
 	levels = 6
 )
 
-// sweep is the next full tile of each level whose partial ones are deleted, the data tiles' first.
-type sweep struct {
+// partial is how far partial tiles are deleted.
+type partial struct {
+	// next is the number of the full tile, for each level, whose partial ones are deleted next. The data tiles are first.
 	next   [levels]uint64
 	begun  bool
 	failed int
@@ -62,7 +63,7 @@ func (j *Janitor) pass(ctx context.Context) {
 		what string
 		do   func(context.Context, Newest) error
 	}{
-		{"partial tiles", j.sweepTiles}, {"heads", j.deleteHeads}, {"staged batches", j.deleteStaged},
+		{"partial tiles", j.deletePartialTiles}, {"heads", j.deleteHeads}, {"staged batches", j.deleteStaged},
 		{"damaged tiles", j.readDamaged}, {"old tiles", j.readAgain},
 		{"issuers", j.readIssuers},
 	} {
@@ -75,7 +76,7 @@ func (j *Janitor) pass(ctx context.Context) {
 	}
 	j.report.Lock()
 	defer j.report.Unlock()
-	j.report.DeletedTo, j.report.Next = j.sweep.next[0]*tile.Width, j.reread.next
+	j.report.DeletedTo, j.report.Next = j.partial.next[0]*tile.Width, j.reread.next
 }
 
 // call calls a function with the time limit of one call.
@@ -116,40 +117,40 @@ func (j *Janitor) remove(ctx context.Context, name string, count *uint64) error 
 	return nil
 }
 
-// sweepTiles deletes the partial tiles of full ones that a head has had for Keep.Tiles.
-func (j *Janitor) sweepTiles(ctx context.Context, newest Newest) error {
+// deletePartialTiles deletes the partial tiles of full ones that a head has had for Keep.Tiles.
+func (j *Janitor) deletePartialTiles(ctx context.Context, newest Newest) error {
 	if j.tiles.head.Size == 0 {
 		return nil
 	}
-	if !j.sweep.begun {
-		j.sweep.begun = true
-		for at := range j.sweep.next {
+	if !j.partial.begun {
+		j.partial.begun = true
+		for at := range j.partial.next {
 			full := tile.Count(at-1, j.tiles.head.Size)
-			j.sweep.next[at] = full - min(full, sweptAgain)
+			j.partial.next[at] = full - min(full, maxBefore)
 		}
 	}
-	left := maxSwept
-	for at := range j.sweep.next {
-		for full := tile.Count(at-1, j.tiles.head.Size); left > 0 && j.sweep.next[at] < full; left-- {
-			if err := j.sweepTile(ctx, at-1, j.sweep.next[at], newest.Head); err != nil {
+	left := maxFull
+	for at := range j.partial.next {
+		for full := tile.Count(at-1, j.tiles.head.Size); left > 0 && j.partial.next[at] < full; left-- {
+			if err := j.deletePartials(ctx, at-1, j.partial.next[at], newest.Head); err != nil {
 				// A tile that fails again and again does not stop the others. Its partial tiles are deleted when it is
 				// read again.
-				if j.sweep.failed++; j.sweep.failed < maxFailed {
+				if j.partial.failed++; j.partial.failed < maxFailed {
 					return err
 				}
 			}
-			j.sweep.failed = 0
-			j.sweep.next[at]++
+			j.partial.failed = 0
+			j.partial.next[at]++
 		}
 	}
 	return nil
 }
 
-// maxFailed is how often in a row one tile may fail until the sweep goes on after it.
+// maxFailed is how often in a row one tile may fail until the janitor continues after it.
 const maxFailed = 3
 
-// sweepTile deletes the partial tiles of a full one, if the full one is whole.
-func (j *Janitor) sweepTile(ctx context.Context, level int, number uint64, newest signer.Head) error {
+// deletePartials deletes the partial tiles of a full one, if the full one is whole.
+func (j *Janitor) deletePartials(ctx context.Context, level int, number uint64, newest signer.Head) error {
 	full := tile.Full(level, number)
 	partials, err := j.list(ctx, tile.Name(full)+tile.Partial, "")
 	if err != nil || len(partials) == 0 {
@@ -282,7 +283,7 @@ func (j *Janitor) readTile(ctx context.Context, number uint64, newest Newest) er
 		if above >= tile.Count(level, j.tiles.head.Size) || number+1 != (above+1)<<uint(8*max(level, 0)) {
 			continue
 		}
-		if err := j.sweepTile(ctx, level, above, newest.Head); err != nil {
+		if err := j.deletePartials(ctx, level, above, newest.Head); err != nil {
 			return err
 		}
 	}
