@@ -367,11 +367,15 @@ func (w *world) unputHead() *signer.Head {
 	return last
 }
 
-// allRemember reports whether every machine's memory has the newest head that is published.
+// allRemember reports whether every machine's memory has the newest head: the newest one that was put, or one that is
+// signed and may be put late.
 func (w *world) allRemember() bool {
+	newest := w.judge.newest.Timestamp
+	if unput := w.unputHead(); unput != nil {
+		newest = max(newest, unput.Timestamp)
+	}
 	for _, m := range w.machines {
-		if m.remembered == nil || m.remembered.Size < uint64(len(w.judge.leaves)) ||
-			m.remembered.Timestamp < w.judge.newest.Timestamp {
+		if m.remembered == nil || m.remembered.Size < uint64(len(w.judge.leaves)) || m.remembered.Timestamp < newest {
 			return false
 		}
 	}

@@ -283,6 +283,14 @@ func TestStartBesideARollback(t *testing.T) {
 	}
 }
 
+// TestAllRolledBackBesideAPut has a node put a head late, and all stores be rolled back before that. Two machines have
+// not seen the head, so nothing could show them that. This must not happen (README.md, "What a history may lose").
+func TestAllRolledBackBesideAPut(t *testing.T) {
+	if result := sim.Run(sim.NewPlan(50_024_780), proved, false); result.Violation != nil {
+		t.Error(result.Violation)
+	}
+}
+
 // TestRefusalOverAnOlderHead has a node ask for a signature over the head that it had signed before, while another node
 // had a later one signed. The signer refuses, and does not answer which head is its last. That is no refusal of the head.
 func TestRefusalOverAnOlderHead(t *testing.T) {
