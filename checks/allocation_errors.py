@@ -284,7 +284,7 @@ def try_itself():
         made_up(line, NUMBERED[0], "lines", known, asked)
         missed += [line] if bool(given_too_much([("lines", line, known)], asked)) != (line in GIVEN_TOO_MUCH) else []
     if missed:
-        sys.exit("checks/want_of_memory.py judges these test lines of its own wrongly:\n" + "\n".join(missed))
+        sys.exit("checks/allocation_errors.py judges these test lines of its own wrongly:\n" + "\n".join(missed))
 
 
 def closers(line):
@@ -309,7 +309,7 @@ def main():
         line = line_of(lines[name], at)
         print(f"{name}:{line}: {lines[name].splitlines()[line - 1].strip()}")
     if places:
-        print(f"{len(places)} places invent an out-of-memory error, request unbounded memory, or keep a value from being dropped (the docstring of checks/want_of_memory.py has the rules)")
+        print(f"{len(places)} places invent an out-of-memory error, request unbounded memory, or keep a value from being dropped (the docstring of checks/allocation_errors.py has the rules)")
         sys.exit(1)
 
 

@@ -21,7 +21,7 @@ import sys
 
 from capacity import function_around, parameters, parts
 from source import CRATES, blanked, closing, crates, is_for_tests, line_of, sources, without_clauses
-from want_of_memory import BEHIND, asked, blocks, declared
+from allocation_errors import BEHIND, asked, blocks, declared
 
 FAULT = re.compile(
     r"\b(?:\w*Fault|Refusal|Self)::(Read|Write|Threads|Closed|Late|Stopped|Endless)\b|\b(?:io::)?(Error)::(?:from|new|other)\b|\b(ErrorKind::\w+)"
@@ -188,7 +188,7 @@ def try_itself():
 
     missed = [line for line in WRONG.splitlines() if not is_wrong(line)] + [line for line in RIGHT.splitlines() if is_wrong(line)]
     if missed:
-        sys.exit("checks/told_faults.py judges these test lines of its own wrongly:\n" + "\n".join(missed))
+        sys.exit("checks/fault_causes.py judges these test lines of its own wrongly:\n" + "\n".join(missed))
 
 
 def ends_and_waits(text, name):
@@ -199,7 +199,7 @@ def ends_and_waits(text, name):
             yield f"{name} ends with another status than it was given, or invents one"
     for word, number in WAITS.get(name, {}).items():
         if not re.search(rf"\bconst {word}: u64 = {number};", text):
-            yield f"{name} has another {word} than {number} (change it there, or in WAITS of checks/told_faults.py)"
+            yield f"{name} has another {word} than {number} (change it there, or in WAITS of checks/fault_causes.py)"
 
 
 def main():
@@ -222,10 +222,10 @@ def main():
                     differ.append(f"{name} reports {fault} in {len(lines)} places, and not in {often}: lines {', '.join(map(str, lines)) or 'none'}")
                 if "after the last turn over" in reason and not {at for at, other in places if other == fault} <= ends:
                     differ.append(f"{name} reports {fault} elsewhere than directly after such a loop")
-    differ += [f"{name} is in a table of checks/told_faults.py, but not among the sources" for name in sorted({*TOLD, *WAITS} - seen)]
+    differ += [f"{name} is in a table of checks/fault_causes.py, but not among the sources" for name in sorted({*TOLD, *WAITS} - seen)]
     if differ:
         print("\n".join(differ))
-        sys.exit("a fault that no clause can pin is reported where checks/told_faults.py does not give a reason (its table TOLD)")
+        sys.exit("a fault that no clause can pin is reported where checks/fault_causes.py does not give a reason (its table TOLD)")
 
 
 if __name__ == "__main__":
