@@ -95,7 +95,7 @@ func open(s *settings, lines *httpserver.Lines) (*running, error) {
 	if err != nil {
 		return nil, err
 	}
-	server, err := witness.New(witness.Options{Name: s.name, Key: key, Tell: lines.Error})
+	server, err := witness.New(witness.Options{Name: s.name, Key: key, Log: lines.Error})
 	if err != nil {
 		return nil, err
 	}
