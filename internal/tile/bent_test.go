@@ -9,7 +9,7 @@ import (
 	"wagtenib/internal/testutil"
 )
 
-// stored are the hashes of a tree, as x/mod keeps them.
+// stored has the hashes of a tree in the order of x/mod.
 type stored []tlog.Hash
 
 func (s stored) ReadHashes(indexes []int64) (found []tlog.Hash, err error) {
@@ -19,7 +19,7 @@ func (s stored) ReadHashes(indexes []int64) (found []tlog.Hash, err error) {
 	return found, nil
 }
 
-// tilesOf are all tiles of a tree of so many leaves, of two levels each.
+// tilesOf returns all tiles of a tree of size leaves. Each tile has two levels.
 func tilesOf(t *testing.T, size int64) (all []tlog.Tile, contents [][]byte) {
 	var hashes stored
 	for i := int64(0); i < size; i++ {
@@ -35,55 +35,55 @@ func tilesOf(t *testing.T, size int64) (all []tlog.Tile, contents [][]byte) {
 	return all, contents
 }
 
-// TestBent changes each hash of each tile of a tree, one at a time. Bent finds a full tile whose upper tile was read,
-// and a tile below a changed hash. It reports no other tile.
-func TestBent(t *testing.T) {
+// TestFirstMismatch changes each hash of each tile of a tree, one at a time. FirstMismatch must find a full tile if the
+// tile above it was read, and the tile below a changed hash. It must report no other tile.
+func TestFirstMismatch(t *testing.T) {
 	all, contents := tilesOf(t, 70)
-	if tile, found := Bent(all, contents); found {
-		t.Fatalf("a tree as it is has %v bent", tile)
+	if tile, found := FirstMismatch(all, contents); found {
+		t.Fatalf("%v of an unchanged tree does not match", tile)
 	}
-	if _, found := Bent(nil, nil); found {
-		t.Error("of no tiles one is bent")
+	if _, found := FirstMismatch(nil, nil); found {
+		t.Error("a mismatch is found in no tiles")
 	}
-	has := map[string]tlog.Tile{}
+	byPosition := map[string]tlog.Tile{}
 	for _, tile := range all {
-		has[fmt.Sprint(tile.L, " ", tile.N)] = tile
+		byPosition[fmt.Sprint(tile.L, " ", tile.N)] = tile
 	}
 	compared, others := 0, 0
 	for i, tile := range all {
 		for at := 0; at < tile.W; at++ {
-			// below is the full tile whose hash this one is, and above the tile that has this one's.
-			below, hasBelow := has[fmt.Sprint(tile.L-1, " ", tile.N*4+int64(at))]
-			above, hasAbove := has[fmt.Sprint(tile.L+1, " ", tile.N/4)]
+			// below is the full tile whose hash this is, and above is the tile that has this tile's hash.
+			below, hasBelow := byPosition[fmt.Sprint(tile.L-1, " ", tile.N*4+int64(at))]
+			above, hasAbove := byPosition[fmt.Sprint(tile.L+1, " ", tile.N/4)]
 			hasAbove = hasAbove && tile.W == 4 && int64(above.W) > tile.N%4
 			hasBelow = hasBelow && below.W == 4
-			bent := append([][]byte{}, contents...)
-			bent[i] = append([]byte{}, contents[i]...)
-			bent[i][32*at+5] ^= 1
-			found, isBent := Bent(all, bent)
-			if isBent != (hasAbove || hasBelow) {
-				t.Errorf("hash %d of %v is another: %v, %t", at, tile, found, isBent)
+			changed := append([][]byte{}, contents...)
+			changed[i] = append([]byte{}, contents[i]...)
+			changed[i][32*at+5] ^= 1
+			found, isFound := FirstMismatch(all, changed)
+			if isFound != (hasAbove || hasBelow) {
+				t.Errorf("hash %d of %v is changed: %v, %t", at, tile, found, isFound)
 			}
-			if isBent && !(hasAbove && found == tile) && !(hasBelow && found == below) {
-				t.Errorf("hash %d of %v is another, and it is said of %v", at, tile, found)
+			if isFound && !(hasAbove && found == tile) && !(hasBelow && found == below) {
+				t.Errorf("hash %d of %v is changed, and %v is reported", at, tile, found)
 			}
-			if isBent {
+			if isFound {
 				compared++
 			} else {
 				others++
 			}
 		}
 	}
-	// (16 full tiles of leaves below 4 below one, and the hashes of the level above: each is seen; of the two leaves at
-	// the end nothing is)
+	// The tree has 16 full tiles of leaves, 4 full tiles above them, and one tile above these. All their hashes are
+	// compared. The hashes of the two last leaves are compared with nothing.
 	if compared < 64+16+4 || others == 0 {
 		t.Errorf("%d hashes were compared, and %d not", compared, others)
 	}
 }
 
-// TestBentPart: a tile that was read without the one above it is compared with nothing. If a tile is cut off, Bent
-// reports it or the tile below it.
-func TestBentPart(t *testing.T) {
+// TestFirstMismatchOfSomeTiles checks that a tile that was read without the one above it is compared with nothing. If a
+// tile is cut off, FirstMismatch must report it or the tile below it.
+func TestFirstMismatchOfSomeTiles(t *testing.T) {
 	all, contents := tilesOf(t, 16)
 	var low []tlog.Tile
 	var lowContents [][]byte
@@ -93,14 +93,14 @@ func TestBentPart(t *testing.T) {
 		}
 	}
 	lowContents[1][3] ^= 1
-	if tile, found := Bent(low, lowContents); found {
-		t.Errorf("%v is bent, and nothing was read that says so", tile)
+	if tile, found := FirstMismatch(low, lowContents); found {
+		t.Errorf("%v is reported, although the tile above it was not read", tile)
 	}
 	for i, tile := range all {
-		bent := append([][]byte{}, contents...)
-		bent[i] = contents[i][:len(contents[i])-1]
-		if _, found := Bent(all, bent); !found {
-			t.Errorf("%v is cut off, and nothing is bent", tile)
+		changed := append([][]byte{}, contents...)
+		changed[i] = contents[i][:len(contents[i])-1]
+		if _, found := FirstMismatch(all, changed); !found {
+			t.Errorf("%v is cut off, and no mismatch is found", tile)
 		}
 	}
 }
