@@ -81,8 +81,8 @@ func (r *reader) checkBeginning(ctx context.Context, tile tlog.Tile, content []b
 	if before.W = int(r.last.N % tileWidth); tile.N != r.last.N/tileWidth || before.W == 0 {
 		return nil
 	}
-	kept, err := r.mirror.objects.Get(ctx, nameOf(before), maxObject)
-	if err == nil && !bytes.HasPrefix(content, kept) {
+	stored, err := r.mirror.objects.Get(ctx, nameOf(before), maxObject)
+	if err == nil && !bytes.HasPrefix(content, stored) {
 		return wrong("%s: %s does not begin with the stored bytes", r.node, nameOf(tile))
 	}
 	return err

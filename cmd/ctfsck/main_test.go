@@ -223,9 +223,8 @@ func TestStatus(t *testing.T) {
 		{nil, 2, "", "ctfsck FOLDER"},
 		{[]string{"--version"}, 0, "ctfsck ", ""},
 	} {
-		if status, out, problem := testutil.Runs(t, of.arguments...); status != of.status || !strings.HasPrefix(out,
-			of.out) ||
-			(of.out == "") != (out == "") ||
+		if status, out, problem := testutil.Runs(t, of.arguments...); status != of.status ||
+			!strings.HasPrefix(out, of.out) || (of.out == "") != (out == "") ||
 			!strings.Contains(problem, of.problem) || (of.problem == "") != (problem == "") {
 			t.Errorf("%q: status %d, %q and %q", of.arguments, status, out, problem)
 		}

@@ -385,9 +385,9 @@ func TestEndAnswers(t *testing.T) {
 func TestEndIsLate(t *testing.T) {
 	p, ofA := ofOneLog(t)
 	one, state := p.startOver("--shutdown-timeout", "20ms")
-	gone := make(chan struct{})
+	unanswered := make(chan struct{})
 	go func() {
-		defer close(gone)
+		defer close(unanswered)
 		response, err := http.Post(one.addresses["clients"]+"/add-checkpoint", "text/plain",
 			strings.NewReader("old 0\n\n"+string(ofA(3))))
 		if err == nil {
@@ -410,7 +410,7 @@ func TestEndIsLate(t *testing.T) {
 	if duration := time.Since(start); duration > testutil.Longest/2 {
 		t.Errorf("the end took %v", duration)
 	}
-	<-gone
+	<-unanswered
 }
 
 // TestKeyWithoutState checks that --verifier-key needs no state, and that serving does.

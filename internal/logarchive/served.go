@@ -40,7 +40,7 @@ func OriginOf(path string) (string, error) {
 }
 
 // Open opens a complete archive. The error wraps ErrFolder, ErrIncomplete or ErrDamaged, or says what cannot be read.
-// Another process may add to the archive at the same time. What it adds is served after the next Open.
+// Another process may add to the archive at the same time. New entries are served after the next Open.
 func Open(ctx context.Context, path string) (s *Served, err error) {
 	if _, err := OriginOf(path); err != nil {
 		return nil, err

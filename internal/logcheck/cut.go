@@ -32,8 +32,8 @@ func Precertificates(path string) (count int, err error) {
 	}
 	var size uint64
 	for name := range f.objects {
-		if words := headForm.FindStringSubmatch(name); words != nil {
-			if of := number(words[1]); of > size {
+		if parts := headForm.FindStringSubmatch(name); parts != nil {
+			if of := number(parts[1]); of > size {
 				size = of
 			}
 		}

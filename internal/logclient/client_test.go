@@ -230,8 +230,7 @@ func TestWaitsAsTheLogSays(t *testing.T) {
 			}), logclient.Options{Clock: testClock})
 			content, err := c.Checkpoint(context.Background())
 			if string(content) != "the checkpoint" || err != nil || len(testClock.waits) != 1 ||
-				testClock.waits[0] < of.minWait ||
-				testClock.waits[0] > of.minWait+time.Second {
+				testClock.waits[0] < of.minWait || testClock.waits[0] > of.minWait+time.Second {
 				t.Errorf("%q, %v after waits of %v", content, err, testClock.waits)
 			}
 		})
@@ -272,9 +271,8 @@ func TestReadsDespiteRefusals(t *testing.T) {
 	next := uint64(0)
 	err := c.Entries(context.Background(), 0, size, func(page logclient.Page, _ bool) error {
 		for i, entry := range page.Entries {
-			expected := testlog.Entry{Timestamp: 1000 + next, Certificate: []byte{0x30, 3, byte(next >> 16),
-				byte(next >> 8),
-				byte(next)}}
+			expected := testlog.Entry{Timestamp: 1000 + next,
+				Certificate: []byte{0x30, 3, byte(next >> 16), byte(next >> 8), byte(next)}}
 			if page.Start+uint64(i) != next || !slices.Equal(entry.LeafInput, expected.MerkleLeaf(next)) {
 				return fmt.Errorf("entry %d is %x", next, entry.LeafInput)
 			}

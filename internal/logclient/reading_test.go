@@ -51,8 +51,7 @@ func TestLimitsTheAnswersOfAPage(t *testing.T) {
 		fmt.Fprintf(w, "%-*s", answer, `{"entries":[{"leaf_input":"AAAA","extra_data":""}]}`)
 	})
 	for maxBytes, expected := range map[int64]error{100 * answer: logclient.ErrTooLarge,
-		255 * answer: logclient.ErrTooLarge,
-		256 * answer: nil} {
+		255 * answer: logclient.ErrTooLarge, 256 * answer: nil} {
 		requests = 0
 		c := client(t, log, logclient.Options{Limits: logclient.Limits{Page: maxBytes}})
 		entries := 0

@@ -20,16 +20,16 @@ type recent struct {
 // contains reports whether a tile with this content was compared.
 func (r *recent) contains(name string, content []byte) bool {
 	r.mu.Lock()
-	kept, isYoung := r.young[name]
+	known, isYoung := r.young[name]
 	if !isYoung {
-		kept = r.aged[name]
+		known = r.aged[name]
 	}
 	r.mu.Unlock()
-	if kept == nil || !bytes.Equal(kept, content) {
+	if known == nil || !bytes.Equal(known, content) {
 		return false
 	}
 	if !isYoung {
-		r.remember(name, kept)
+		r.remember(name, known)
 	}
 	return true
 }

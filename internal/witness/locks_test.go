@@ -41,15 +41,16 @@ func lockKinds() map[string]func(folder, name string) string {
 			all[kind] = func(_, name string) string { return "etcd://" + members + "/" + name }
 		}
 	}
-	words := map[string]string{}
-	for _, word := range strings.Fields(os.Getenv("STORES_POSTGRES")) {
-		key, value, _ := strings.Cut(word, "=")
-		words[key] = value
+	settings := map[string]string{}
+	for _, setting := range strings.Fields(os.Getenv("STORES_POSTGRES")) {
+		key, value, _ := strings.Cut(setting, "=")
+		settings[key] = value
 	}
-	if len(words) > 0 {
+	if len(settings) > 0 {
 		all["postgres"] = func(_, name string) string {
-			return fmt.Sprintf("postgres://%s@%s:%s/%s?sslmode=%s&log=%s", words["user"], words["host"], words["port"],
-				words["dbname"], words["sslmode"], name)
+			return fmt.Sprintf("postgres://%s@%s:%s/%s?sslmode=%s&log=%s", settings["user"], settings["host"],
+				settings["port"],
+				settings["dbname"], settings["sslmode"], name)
 		}
 	}
 	return all

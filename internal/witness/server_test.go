@@ -323,11 +323,11 @@ func TestOpenssl(t *testing.T) {
 	s.now = func() uint64 { return 1234567890 }
 	head := checkpoint(origin, 3, one.root(t, 3))
 	w := post(t, s, request(0, nil, by.sign(head)))
-	words := strings.Fields(w.Body.String())
-	if w.Code != 200 || len(words) != 3 || words[0] != "—" || words[1] != "w.example" {
+	fields := strings.Fields(w.Body.String())
+	if w.Code != 200 || len(fields) != 3 || fields[0] != "—" || fields[1] != "w.example" {
 		t.Fatalf("%d %q", w.Code, w.Body)
 	}
-	blob, err := base64.StdEncoding.DecodeString(words[2])
+	blob, err := base64.StdEncoding.DecodeString(fields[2])
 	must(t, err)
 	// C2SP signed-note defines the four bytes of the key ID: SHA-256(NAME || 0x0A || 4 || key).
 	public := run("pkey", "-in", pem, "-pubout", "-outform", "DER")

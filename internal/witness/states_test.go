@@ -33,10 +33,10 @@ func TestWrongDecisions(t *testing.T) {
 	}
 	before, err := stateIn(t, folder).Read(limited(t))
 	must(t, err)
-	grows := request(3, one.proof(t, 3, 5), signed(one, 5))
+	growth := request(3, one.proof(t, 3, 5), signed(one, 5))
 	const timestamp = 1 << 40
 	text := checkpoint(origin, 5, one.root(t, 5))
-	says := func(message []byte, err error) decision {
+	returns := func(message []byte, err error) decision {
 		return func(state, Request, uint64) ([]byte, error) { return message, err }
 	}
 	for name, test := range map[string]struct {
@@ -49,17 +49,17 @@ func TestWrongDecisions(t *testing.T) {
 		"no proof":                   {acceptsAll, request(3, nil, signed(one, 5)), "decision"},
 		"another size than the last": {acceptsAll, request(2, one.proof(t, 2, 5), signed(one, 5)), "decision"},
 		"an older one":               {acceptsAll, request(3, nil, signed(one, 2)), "decision"},
-		"bytes of another time":      {says(Message(1, text), nil), grows, "decision"},
-		"bytes of another text": {says(Message(timestamp, checkpoint(origin, 5, other.root(t, 5))), nil),
-			grows, "decision"},
-		"a log's head in its bytes": {says([]byte(text), nil), grows, "decision"},
-		"no bytes":                  {says(nil, nil), grows, "decision"},
-		"an unknown code":           {says(nil, wagtenib.Code(1000)), grows, "decision"},
-		"the code of another call":  {says(nil, wagtenib.ErrLaterLeaf), grows, "decision"},
-		"no memory":                 {says(nil, wagtenib.ErrMemory), grows, "decision"},
-		"a bad state":               {says(nil, wagtenib.ErrState), grows, "state"},
-		"another log's state":       {says(nil, wagtenib.ErrOtherOrigin), grows, "state"},
-		"a time that falls":         {says(nil, wagtenib.ErrTimeFalls), grows, "clock"},
+		"bytes of another time":      {returns(Message(1, text), nil), growth, "decision"},
+		"bytes of another text": {returns(Message(timestamp, checkpoint(origin, 5, other.root(t, 5))), nil),
+			growth, "decision"},
+		"a log's head in its bytes": {returns([]byte(text), nil), growth, "decision"},
+		"no bytes":                  {returns(nil, nil), growth, "decision"},
+		"an unknown code":           {returns(nil, wagtenib.Code(1000)), growth, "decision"},
+		"the code of another call":  {returns(nil, wagtenib.ErrLaterLeaf), growth, "decision"},
+		"out of memory":             {returns(nil, wagtenib.ErrMemory), growth, "decision"},
+		"a bad state":               {returns(nil, wagtenib.ErrState), growth, "state"},
+		"another log's state":       {returns(nil, wagtenib.ErrOtherOrigin), growth, "state"},
+		"an earlier time":           {returns(nil, wagtenib.ErrTimeFalls), growth, "clock"},
 	} {
 		s := witnessOf(t, folder, key, by)
 		s.decision = test.decide
@@ -74,7 +74,7 @@ func TestWrongDecisions(t *testing.T) {
 			t.Errorf("%s: the state changed: %s, %v", name, text, err)
 		}
 	}
-	if w := post(t, right, grows); w.Code != 200 {
+	if w := post(t, right, growth); w.Code != 200 {
 		t.Errorf("after all that: %d %s", w.Code, w.Body)
 	}
 }

@@ -22,13 +22,13 @@ func TestPathProofAndRoot(t *testing.T) {
 		asked = append(asked, name)
 		return tile, nil
 	}
-	expect := func(got [][32]byte, err error, want ...[32]byte) {
+	expect := func(got [][32]byte, err error, expected ...[32]byte) {
 		t.Helper()
-		if err != nil || len(got) != len(want) {
+		if err != nil || len(got) != len(expected) {
 			t.Fatalf("%x, %v", got, err)
 		}
-		for i := range want {
-			if got[i] != want[i] {
+		for i := range expected {
+			if got[i] != expected[i] {
 				t.Errorf("hash %d is %x", i, got[i])
 			}
 		}
