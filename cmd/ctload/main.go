@@ -100,8 +100,7 @@ func run() error {
 	clients := flag.Int("clients", 8, "number of submissions at once")
 	rate := flag.Float64("rate", 0, "maximum number of submissions a second. 0 means no limit")
 	long := flag.Duration("for", 0, "`duration` of the run. 0 means until a signal")
-	maxAnswers := flag.Int("most", 0, "`number` of answers after which the program ends, as soon as the waiting "+
-		"submissions are also answered. 0 means no end")
+	maxAnswers := flag.Int("most", 0, "`number` of answers after which no new submission is sent. 0 means no end")
 	repeats := flag.Int("repeats", 5, "`number` of submissions of 100 that are sent again")
 	interval := flag.Duration("tell", time.Minute, "`duration` between two lines with metrics")
 	ready := flag.Int("ready", 0, "`number` of submissions that are made before the first is sent, so that the time "+

@@ -35,7 +35,7 @@ func AcceptedBy(path, origin string, keys []note.Verifier) (size uint64, root [3
 		return 0, root, fmt.Errorf("%w: %s: %v", ErrAccepted, path, err)
 	}
 	if checkpoint.Origin != origin {
-		return 0, root, fmt.Errorf("%w: %s: it is of the log %q", ErrAccepted, path, checkpoint.Origin)
+		return 0, root, fmt.Errorf("%w: %s: it belongs to the log %q", ErrAccepted, path, checkpoint.Origin)
 	}
 	return checkpoint.TreeSize, checkpoint.Root, nil
 }
