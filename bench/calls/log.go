@@ -13,16 +13,16 @@ import (
 )
 
 const (
-	origin  = "log.example/calls"
-	hour    = 3_600_000 // milliseconds
-	begun   = 384       // entries: the last tile is half full
-	length  = 1500      // bytes of a certificate
-	height  = 8
-	chained = 2 // fingerprints of a chain
-	signed  = 100
+	origin    = "log.example/calls"
+	hour      = 3_600_000 // milliseconds
+	firstSize = 384       // the number of entries before the step, so that the last tile is half full
+	length    = 1500      // the number of bytes of a certificate
+	height    = 8
+	issuers   = 2 // the number of fingerprints of a chain
+	receipts  = 100
 )
 
-// stored are the hashes of a tree, in tlog's order.
+// stored has the hashes of a tree, in tlog's order.
 type stored []tlog.Hash
 
 func (s stored) ReadHashes(indexes []int64) ([]tlog.Hash, error) {
@@ -33,7 +33,7 @@ func (s stored) ReadHashes(indexes []int64) ([]tlog.Hash, error) {
 	return hashes, nil
 }
 
-// log is a made-up log before a step, with all that a step needs.
+// log is a generated log before a step, with all that a step needs.
 type log struct {
 	state   string
 	edge    []byte
@@ -41,17 +41,18 @@ type log struct {
 	hashes  stored
 	leaves  [][]byte
 	head    wagtenib.TreeHead
-	chance  *rand.Rand
+	random  *rand.Rand
 }
 
 // submissions returns a batch, and its certificates.
 func (l *log) submissions(count int) (batch []byte, certificates [][]byte) {
 	for range count {
 		certificate := make([]byte, length)
-		l.chance.Read(certificate)
+		l.random.Read(certificate)
 		certificates = append(certificates, certificate)
 		var err error
-		batch, err = wagtenib.AppendSubmission(batch, wagtenib.Submission{Certificate: certificate, Chain: make([]wagtenib.Hash, chained)})
+		batch, err = wagtenib.AppendSubmission(batch, wagtenib.Submission{Certificate: certificate,
+			Chain: make([]wagtenib.Hash, issuers)})
 		stop(err)
 	}
 	return batch, certificates
@@ -68,15 +69,15 @@ func leafOf(certificate []byte, now, index uint64) []byte {
 // tileEntry appends an entry of a data tile: the leaf without its first two bytes, and the chain.
 func tileEntry(tile, leaf []byte) []byte {
 	tile = append(tile, leaf[2:]...)
-	tile = append(tile, 0, chained*sha256.Size)
-	return append(tile, make([]byte, chained*sha256.Size)...)
+	tile = append(tile, 0, issuers*sha256.Size)
+	return append(tile, make([]byte, issuers*sha256.Size)...)
 }
 
 func newLog() *log {
-	l := &log{chance: rand.New(rand.NewSource(1))}
+	l := &log{random: rand.New(rand.NewSource(1))}
 	state, err := wagtenib.StepBegin(1000)
 	stop(err)
-	batch, certificates := l.submissions(begun)
+	batch, certificates := l.submissions(firstSize)
 	step, err := wagtenib.MakeStep(origin, state, nil, batch, 1001, hour)
 	stop(err)
 	l.state = step.State
@@ -94,28 +95,29 @@ func newLog() *log {
 		more, err := tlog.StoredHashes(int64(index), leaf, l.hashes)
 		stop(err)
 		l.hashes, l.leaves = append(l.hashes, more...), append(l.leaves, leaf)
-		if index >= begun&^(1<<height-1) {
+		if index >= firstSize&^(1<<height-1) {
 			l.entries = tileEntry(l.entries, leaf)
 		}
 	}
-	root, err := tlog.TreeHash(begun, l.hashes)
+	root, err := tlog.TreeHash(firstSize, l.hashes)
 	stop(err)
-	l.head = wagtenib.TreeHead{TreeSize: begun, Timestamp: 1001, Root: wagtenib.Hash(root)}
+	l.head = wagtenib.TreeHead{TreeSize: firstSize, Timestamp: 1001, Root: wagtenib.Hash(root)}
 	return l
 }
 
-// steps returns a step of so many entries, by the library and by x/mod's tlog with crypto/sha256. Both must come to the same root.
+// steps returns the work of a step of count entries, by the library and by x/mod's tlog with crypto/sha256. Both must
+// have the same root.
 func (l *log) steps(count int) []work {
 	batch, certificates := l.submissions(count)
-	made, err := wagtenib.MakeStep(origin, l.state, l.edge, batch, 1002, hour)
+	step, err := wagtenib.MakeStep(origin, l.state, l.edge, batch, 1002, hour)
 	stop(err)
 	root, digests := l.plainStep(certificates, 1002)
-	if want := fmt.Sprintf("%s\n%d\n%s\n", origin, begun+count, root); made.Checkpoint != want {
-		stop(fmt.Errorf("the step's checkpoint is %q, and %q is due", made.Checkpoint, want))
+	if expected := fmt.Sprintf("%s\n%d\n%s\n", origin, firstSize+count, root); step.Checkpoint != expected {
+		stop(fmt.Errorf("the step's checkpoint is %q, expected %q", step.Checkpoint, expected))
 	}
-	for _, object := range made.Objects {
+	for _, object := range step.Objects {
 		if !digests[object.Digest] {
-			stop(fmt.Errorf("no tile of tlog's has the digest of %s", object.Name))
+			stop(fmt.Errorf("no tile of tlog has the digest of %s", object.Name))
 		}
 	}
 	name := fmt.Sprintf("step of %d entries", count)
@@ -125,7 +127,8 @@ func (l *log) steps(count int) []work {
 	}
 }
 
-// plainStep returns the root after a step and the digests of its tiles, as a log in Go would make them: without the checks of the state, of the edge and of repeats.
+// plainStep returns the root after a step and the digests of its tiles, as a log in Go would compute them. It does not
+// check the state, the edge or duplicates.
 func (l *log) plainStep(certificates [][]byte, now uint64) (tlog.Hash, map[[sha256.Size]byte]bool) {
 	hashes, entries := append(stored(nil), l.hashes...), append([]byte(nil), l.entries...)
 	digests, bundle := map[[sha256.Size]byte]bool{}, []byte(nil)
@@ -133,9 +136,9 @@ func (l *log) plainStep(certificates [][]byte, now uint64) (tlog.Hash, map[[sha2
 		digests[sha256.Sum256(content)] = true
 		bundle = append(bundle, content...)
 	}
-	size := int64(begun + len(certificates))
+	size := int64(firstSize + len(certificates))
 	for at, certificate := range certificates {
-		index := int64(begun + at)
+		index := int64(firstSize + at)
 		leaf := leafOf(certificate, now, uint64(index))
 		more, err := tlog.StoredHashes(index, leaf, hashes)
 		stop(err)
@@ -145,7 +148,7 @@ func (l *log) plainStep(certificates [][]byte, now uint64) (tlog.Hash, map[[sha2
 			entries = nil
 		}
 	}
-	for _, tile := range tlog.NewTiles(height, begun, size) {
+	for _, tile := range tlog.NewTiles(height, firstSize, size) {
 		content, err := tlog.ReadTileData(tile, hashes)
 		stop(err)
 		put(content)
@@ -156,48 +159,51 @@ func (l *log) plainStep(certificates [][]byte, now uint64) (tlog.Hash, map[[sha2
 	return root, digests
 }
 
-// guard returns a head that follows and the receipts of its last entries, by the library and by x/mod's tlog.
+// guard returns the work to check the next head and the receipts of its last entries, by the library and by x/mod's
+// tlog.
 func (l *log) guard() []work {
-	const old = begun - signed
+	const old = firstSize - receipts
 	first, err := tlog.TreeHash(old, l.hashes)
 	stop(err)
-	proof, err := tlog.ProveTree(begun, old, l.hashes)
+	proof, err := tlog.ProveTree(firstSize, old, l.hashes)
 	stop(err)
 	named := wagtenib.TreeHead{TreeSize: old, Timestamp: 1000, Root: wagtenib.Hash(first)}
 	last, err := wagtenib.GuardFirstHead(named, named)
 	stop(err)
-	paths := make([]tlog.RecordProof, signed)
+	paths := make([]tlog.RecordProof, receipts)
 	for at := range paths {
-		paths[at], err = tlog.ProveRecord(begun, int64(old+at), l.hashes)
+		paths[at], err = tlog.ProveRecord(firstSize, int64(old+at), l.hashes)
 		stop(err)
 	}
-	name := fmt.Sprintf("guard: a head and %d receipts", signed)
+	name := fmt.Sprintf("guard: a head and %d receipts", receipts)
 	linked := func() error {
-		head, err := wagtenib.GuardHead(last[:], l.head, ofTlog(proof), hour)
-		for at := 0; at < signed && err == nil; at++ {
-			err = wagtenib.GuardReceipt(head[:], l.leaves[old+at], uint64(old+at), ofTlog(paths[at]))
+		head, err := wagtenib.GuardHead(last[:], l.head, hashesOf(proof), hour)
+		for at := 0; at < receipts && err == nil; at++ {
+			err = wagtenib.GuardReceipt(head[:], l.leaves[old+at], uint64(old+at), hashesOf(paths[at]))
 		}
 		return err
 	}
 	plain := func() error {
-		err := tlog.CheckTree(proof, begun, tlog.Hash(l.head.Root), old, first)
-		for at := 0; at < signed && err == nil; at++ {
-			err = tlog.CheckRecord(paths[at], begun, tlog.Hash(l.head.Root), int64(old+at), tlog.RecordHash(l.leaves[old+at]))
+		err := tlog.CheckTree(proof, firstSize, tlog.Hash(l.head.Root), old, first)
+		for at := 0; at < receipts && err == nil; at++ {
+			err = tlog.CheckRecord(paths[at], firstSize, tlog.Hash(l.head.Root), int64(old+at),
+				tlog.RecordHash(l.leaves[old+at]))
 		}
 		return err
 	}
 	return []work{{name, linked}, {name + "/Go", plain}}
 }
 
-func ofTlog(hashes []tlog.Hash) []wagtenib.Hash {
-	found := make([]wagtenib.Hash, len(hashes))
+func hashesOf(hashes []tlog.Hash) []wagtenib.Hash {
+	result := make([]wagtenib.Hash, len(hashes))
 	for at, hash := range hashes {
-		found[at] = wagtenib.Hash(hash)
+		result[at] = wagtenib.Hash(hash)
 	}
-	return found
+	return result
 }
 
-// node returns the ten commands of a node that makes a step and publishes it. The library has no equal in Go.
+// node returns the work of the ten commands with which a node makes a step and publishes it. There is no equal work in
+// Go.
 func node() work {
 	next := wagtenib.NodeState{Timestamp: 9, PreviousTimestamp: 7, Salt: 2}
 	seen := wagtenib.NodeState{Timestamp: 7, PreviousTimestamp: 5, Salt: 1}

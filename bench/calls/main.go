@@ -1,6 +1,7 @@
-// Times calls of bindings/go/wagtenib, and equal work by the Go libraries, once each: calls.
+// Command calls measures calls of bindings/go/wagtenib, and equal work by the Go libraries.
 //
-// It prints a line for each: the name, the nanoseconds of processor time of one call, and the median of its nanoseconds by the clock. bench/calls.py runs it by turns.
+// It prints a line for each: the name, the nanoseconds of processor time of one call, and the median of its nanoseconds
+// by the clock. bench/calls.py runs it in turns.
 package main
 
 import (
@@ -13,13 +14,13 @@ import (
 	"wagtenib/bindings/go/wagtenib"
 )
 
-// enough is how long a work is repeated at least, and fewest how often.
+// minDuration is the minimum time for which each work is repeated, and minRepeats the minimum number of repetitions.
 const (
-	enough = 40 * time.Millisecond
-	fewest = 3
+	minDuration = 40 * time.Millisecond
+	minRepeats  = 3
 )
 
-// work is something that is timed. An error ends the program.
+// work is a function that is measured. An error ends the program.
 type work struct {
 	name string
 	do   func() error
@@ -32,24 +33,25 @@ func stop(err error) {
 	}
 }
 
-// spent returns the processor time of this process.
-func spent() time.Duration {
-	var own syscall.Rusage
-	stop(syscall.Getrusage(syscall.RUSAGE_SELF, &own))
-	return time.Duration(own.Utime.Nano() + own.Stime.Nano())
+// processorTime returns the processor time of this process.
+func processorTime() time.Duration {
+	var usage syscall.Rusage
+	stop(syscall.Getrusage(syscall.RUSAGE_SELF, &usage))
+	return time.Duration(usage.Utime.Nano() + usage.Stime.Nano())
 }
 
-// timed does a work again and again, and returns the processor time of one time and the median by the clock.
-func timed(w work) (processor, clock time.Duration) {
+// measure does a work repeatedly. It returns the processor time of one repetition, and the median of the time by the
+// clock.
+func measure(w work) (processor, clock time.Duration) {
 	stop(w.do())
 	var each []time.Duration
-	before := spent()
-	for start := time.Now(); len(each) < fewest || time.Since(start) < enough; {
-		one := time.Now()
+	before := processorTime()
+	for start := time.Now(); len(each) < minRepeats || time.Since(start) < minDuration; {
+		begin := time.Now()
 		stop(w.do())
-		each = append(each, time.Since(one))
+		each = append(each, time.Since(begin))
 	}
-	processor = (spent() - before) / time.Duration(len(each))
+	processor = (processorTime() - before) / time.Duration(len(each))
 	slices.Sort(each)
 	return processor, each[len(each)/2]
 }
@@ -65,7 +67,7 @@ func main() {
 	works = append(works, node(), leafHash()[0], leafHash()[1])
 	works = append(works, certificates()...)
 	for _, w := range works {
-		processor, clock := timed(w)
+		processor, clock := measure(w)
 		fmt.Printf("%s\t%d\t%d\n", w.name, processor.Nanoseconds(), clock.Nanoseconds())
 	}
 }

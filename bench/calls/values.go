@@ -15,7 +15,7 @@ import (
 	"wagtenib/bindings/go/wagtenib"
 )
 
-// leafHash returns the hash of a leaf, by the library and by x/mod's tlog with crypto/sha256.
+// leafHash returns the work to hash a leaf, by the library and by x/mod's tlog with crypto/sha256.
 func leafHash() []work {
 	leaf := make([]byte, length)
 	return []work{
@@ -24,7 +24,8 @@ func leafHash() []work {
 	}
 }
 
-// certificates returns the names of a certificate, by the library and by crypto/x509, which also reads its other fields.
+// certificates returns the work to read the names of a certificate, by the library and by crypto/x509, which also reads
+// the other fields.
 func certificates() []work {
 	key, err := ecdsa.GenerateKey(elliptic.P256(), rand.Reader)
 	stop(err)
@@ -32,16 +33,16 @@ func certificates() []work {
 	for at := range 10 {
 		template.DNSNames = append(template.DNSNames, fmt.Sprintf("name%d.example.org", at))
 	}
-	made, err := x509.CreateCertificate(rand.Reader, template, template, &key.PublicKey, key)
+	der, err := x509.CreateCertificate(rand.Reader, template, template, &key.PublicKey, key)
 	stop(err)
-	names, err := wagtenib.CertificateNames(wagtenib.X509Entry, made)
+	names, err := wagtenib.CertificateNames(wagtenib.X509Entry, der)
 	stop(err)
 	if len(names) != 1+len(template.DNSNames) {
 		stop(fmt.Errorf("the certificate has %d names, and %d are found", 1+len(template.DNSNames), len(names)))
 	}
 	name := fmt.Sprintf("the %d names of a certificate", len(names))
 	return []work{
-		{name, func() error { _, err := wagtenib.CertificateNames(wagtenib.X509Entry, made); return err }},
-		{name + "/Go", func() error { _, err := x509.ParseCertificate(made); return err }},
+		{name, func() error { _, err := wagtenib.CertificateNames(wagtenib.X509Entry, der); return err }},
+		{name + "/Go", func() error { _, err := x509.ParseCertificate(der); return err }},
 	}
 }

@@ -1,11 +1,13 @@
-// Writes the tiles of a log that nobody submitted to, in C2SP static-ct-api's form, and its deduplication index
-// (bench/large.py).
+// Command fabricate writes the tiles of a log to which nobody submitted, in the format of C2SP static-ct-api, and its
+// deduplication index (bench/large.py).
 //
-//	fabricate tiles OBJECTS ENTRIES MOMENT              writes data and hash tiles below the folder OBJECTS; prints the root, the digest of the partial
-//	                                                    data tile, and a line with the name of each partial tile: of data, then by levels
-//	fabricate index FOLDER ENTRIES MOMENT               adds the entries to the index in FOLDER
+//	fabricate tiles OBJECTS ENTRIES TIMESTAMP   writes data and hash tiles below the folder OBJECTS; prints the root,
+//	                                            the digest of the partial data tile, and a line with the name of each
+//	                                            partial tile: first that of data, then those of the levels
+//	fabricate index FOLDER ENTRIES TIMESTAMP    adds the entries to the index in FOLDER
 //
-// The certificate at index i is 52 zero bytes, followed by i in 8 bytes. All entries have the moment MOMENT, in milliseconds.
+// The certificate at index i is 52 zero bytes, followed by i in 8 bytes. All entries have the timestamp TIMESTAMP, in
+// milliseconds.
 package main
 
 import (
@@ -27,16 +29,16 @@ import (
 )
 
 const (
-	// width is how many hashes, or entries, a full tile has (C2SP tlog-tiles).
+	// width is the number of hashes or entries of a full tile (C2SP tlog-tiles).
 	width = 256
-	// certificate is how many bytes an entry's has.
+	// certificate is the number of bytes of an entry's certificate.
 	certificate = 60
-	// workers is how many goroutines make tiles.
+	// workers is the number of goroutines that write tiles.
 	workers = 2
-	// newest is how many of the last entries the index gets in their own order, as from a node. Those before them it gets
-	// in the order of their keys, so that LevelDB has nothing to merge.
+	// newest is the number of last entries that are added to the index in their own order, as by a node. The entries
+	// before them are added in the order of their keys, so that LevelDB has nothing to merge.
 	newest = 1_000_000
-	// indexBits is how many bits hold an entry's index while rows are put in order.
+	// indexBits is the number of bits of an entry's index while rows are sorted.
 	indexBits = 27
 )
 
@@ -49,7 +51,7 @@ func stop(err error) {
 	}
 }
 
-// entry is a TimestampedEntry (RFC 6962, section 3.4), with the extension leaf_index of static-ct-api.
+// entry returns a TimestampedEntry (RFC 6962, section 3.4), with the extension leaf_index of static-ct-api.
 func entry(index, timestamp uint64) []byte {
 	b := binary.BigEndian.AppendUint64(make([]byte, 0, 128), timestamp)
 	b = append(b, 0, 0, 0, 0, certificate)
@@ -59,24 +61,25 @@ func entry(index, timestamp uint64) []byte {
 	return binary.BigEndian.AppendUint32(b, uint32(index))
 }
 
-// leafHash is MTH of the one leaf (RFC 6962, section 2.1): of MerkleTreeLeaf, which has version and type before the entry.
+// leafHash returns the hash of a leaf (RFC 6962, section 2.1). The MerkleTreeLeaf has the version and the type before
+// the entry.
 func leafHash(entry []byte) hash {
 	return sha256.Sum256(append(make([]byte, 3, 128), entry...))
 }
 
-// identity is what the index knows an entry by: the hash of the entry's type and certificate.
+// identity returns the identity of an entry in the index: the hash of the entry's type and certificate.
 func identity(index uint64) hash {
 	signed := entry(index, 0)[13 : 13+certificate]
 	return sha256.Sum256(append([]byte{0, 0}, signed...))
 }
 
-// node is the hash of a node over its children (RFC 6962, section 2.1).
+// node returns the hash of a node with these children (RFC 6962, section 2.1).
 func node(left, right hash) hash {
 	b := append(append([]byte{1}, left[:]...), right[:]...)
 	return sha256.Sum256(b)
 }
 
-// root is that of subtrees of one size, except the last, which may be smaller.
+// root returns the root of subtrees of one size, except the last, which may be smaller.
 func root(hashes []hash) hash {
 	if len(hashes) == 0 {
 		return sha256.Sum256(nil)
@@ -88,14 +91,14 @@ func root(hashes []hash) hash {
 	return node(root(hashes[:k]), root(hashes[k:]))
 }
 
-// name is a tile's, as tlog-tiles writes it; level is data, or a number.
-func name(level string, index, wide int) string {
+// name returns a tile's name (C2SP tlog-tiles). The level is "data" or a number.
+func name(level string, index, count int) string {
 	path := fmt.Sprintf("%03d", index%1000)
 	for index /= 1000; index > 0; index /= 1000 {
 		path = fmt.Sprintf("x%03d/%s", index%1000, path)
 	}
-	if wide < width {
-		path += fmt.Sprintf(".p/%d", wide)
+	if count < width {
+		path += fmt.Sprintf(".p/%d", count)
 	}
 	return "tile/" + level + "/" + path
 }
@@ -119,31 +122,31 @@ func join(hashes []hash) []byte {
 	return b
 }
 
-// tree is what is known of the tiles while they are written.
+// tree has the state of the tiles while they are written.
 type tree struct {
 	objects   string
 	timestamp uint64
-	// data is the partial data tile, and partial are the names of all partial tiles.
+	// data is the partial data tile, and partial has the names of all partial tiles.
 	data    []byte
 	partial []string
-	// edge are the hashes of the partial tile of each level, from below.
+	// edge has the hashes of the partial tile of each level, lowest first.
 	edge [][]hash
 }
 
-// leaves writes the data tile and the hash tile of so many entries from a multiple of width on, and gives the hashes.
-func (t *tree) leaves(tile, wide int) (data []byte, hashes []hash) {
-	hashes, data = make([]hash, wide), make([]byte, 0, wide*(certificate+25))
+// leaves writes the data tile and the hash tile with this number, which have count entries, and returns the hashes.
+func (t *tree) leaves(tile, count int) (data []byte, hashes []hash) {
+	hashes, data = make([]hash, count), make([]byte, 0, count*(certificate+25))
 	for at := range hashes {
 		e := entry(uint64(width*tile+at), t.timestamp)
 		hashes[at] = leafHash(e)
 		data = append(append(data, e...), 0, 0)
 	}
-	stop(write(t.objects, name("data", tile, wide), data))
-	stop(write(t.objects, name("0", tile, wide), join(hashes)))
+	stop(write(t.objects, name("data", tile, count), data))
+	stop(write(t.objects, name("0", tile, count), join(hashes)))
 	return data, hashes
 }
 
-// bottom writes all data tiles, and all tiles of level 0, and gives the hashes of the level above.
+// bottom writes all data tiles and all tiles of level 0, and returns the hashes of the level above.
 func (t *tree) bottom(entries int) []hash {
 	above := make([]hash, entries/width)
 	tiles := make(chan int, 64)
@@ -164,15 +167,15 @@ func (t *tree) bottom(entries int) []hash {
 	close(tiles)
 	all.Wait()
 	var last []hash
-	if wide := entries % width; wide > 0 {
-		t.data, last = t.leaves(len(above), wide)
-		t.partial = append(t.partial, name("data", len(above), wide), name("0", len(above), wide))
+	if count := entries % width; count > 0 {
+		t.data, last = t.leaves(len(above), count)
+		t.partial = append(t.partial, name("data", len(above), count), name("0", len(above), count))
 	}
 	t.edge = append(t.edge, last)
 	return above
 }
 
-// level writes the tiles of a level above the lowest, and gives the hashes of the one above it.
+// level writes the tiles of a level above the lowest, and returns the hashes of the next level.
 func (t *tree) level(number int, hashes []hash) []hash {
 	level, above := strconv.Itoa(number), make([]hash, len(hashes)/width)
 	for tile := range above {
@@ -190,15 +193,15 @@ func (t *tree) level(number int, hashes []hash) []hash {
 	return above
 }
 
-// root is that of the tree: each level's partial tile is carried on by what is below it.
+// root returns the root of the tree. The partial tile of each level is extended by the root of what is below it.
 func (t *tree) root() hash {
-	var carried []hash
+	var below []hash
 	for _, hashes := range t.edge {
-		if all := append(append([]hash{}, hashes...), carried...); len(all) > 0 {
-			carried = []hash{root(all)}
+		if all := append(append([]hash{}, hashes...), below...); len(all) > 0 {
+			below = []hash{root(all)}
 		}
 	}
-	return root(carried)
+	return root(below)
 }
 
 func tiles(objects string, entries int, timestamp uint64) {
@@ -213,25 +216,27 @@ func tiles(objects string, entries int, timestamp uint64) {
 	}
 }
 
-// table is a table of the index: the letter with which its keys begin, and the hash of an entry that follows it.
+// table is a table of the index: the letter with which its keys begin, and the hash of an entry that follows the
+// letter.
 type table struct {
 	letter byte
 	of     func(index uint64) hash
 }
 
-// tables are those of internal/stores, in the order of their letters.
+// tables returns the tables of internal/stores, in the order of their letters.
 func tables(timestamp uint64) []table {
 	return []table{{'i', identity}, {'l', func(index uint64) hash { return leafHash(entry(index, timestamp)) }}}
 }
 
-// options are those of internal/stores that say how files are made, with a buffer of this many bytes, and without syncs.
+// options returns the options of internal/stores that determine how files are written, with a buffer of this many
+// bytes, and without syncs.
 func options(buffer int) *opt.Options {
 	return &opt.Options{WriteBuffer: buffer, CompactionTableSize: 2 << 20, CompactionTotalSize: 256 << 20,
 		CompactionL0Trigger: 8, WriteL0SlowdownTrigger: 64, WriteL0PauseTrigger: 128, CompactionGPOverlapsFactor: 40,
 		Filter: filter.NewBloomFilter(10), Compression: opt.NoCompression, DisableSeeksCompaction: true, NoSync: true}
 }
 
-// adder adds rows to LevelDB, many at once.
+// adder adds rows to LevelDB in large batches.
 type adder struct {
 	to        *leveldb.DB
 	timestamp uint64
@@ -255,7 +260,8 @@ func (a *adder) write() {
 
 // inOrder adds the rows of the first entries in the order of their keys.
 func (a *adder) inOrder(to table, entries uint64) {
-	// Each has the first bits of the hash, followed by the index. LevelDB orders the few that have the same first bits.
+	// Each row has the first bits of the hash, followed by the index. LevelDB sorts the few rows with the same first
+	// bits.
 	rows := make([]uint64, entries)
 	for i := range entries {
 		h := to.of(i)
@@ -268,8 +274,8 @@ func (a *adder) inOrder(to table, entries uint64) {
 	a.write()
 }
 
-// filled opens the index in a folder, has rows added, and closes it.
-func filled(folder string, timestamp uint64, buffer int, add func(a *adder)) {
+// fill opens the index in a folder, adds rows by a function, and closes the index.
+func fill(folder string, timestamp uint64, buffer int, add func(a *adder)) {
 	to, err := leveldb.OpenFile(folder, options(buffer))
 	stop(err)
 	a := &adder{to: to, timestamp: timestamp}
@@ -278,18 +284,18 @@ func filled(folder string, timestamp uint64, buffer int, add func(a *adder)) {
 	stop(to.Close())
 }
 
-// index adds entries to the index in a folder, which does not exist yet.
+// index adds entries to the index in a folder, which must not exist yet.
 func index(folder string, entries, timestamp uint64) {
 	first := entries - min(entries, newest)
 	if first > 1<<indexBits {
 		stop(fmt.Errorf("%d entries are more than can be put in order", entries))
 	}
-	filled(folder, timestamp, 2<<20, func(a *adder) {
+	fill(folder, timestamp, 2<<20, func(a *adder) {
 		for _, one := range tables(timestamp) {
 			a.inOrder(one, first)
 		}
 	})
-	filled(folder, timestamp, 16<<20, func(a *adder) {
+	fill(folder, timestamp, 16<<20, func(a *adder) {
 		for i := first; i < entries; i++ {
 			for _, one := range tables(timestamp) {
 				a.add(one, i)
@@ -298,21 +304,21 @@ func index(folder string, entries, timestamp uint64) {
 	})
 }
 
-func number(word string) uint64 {
-	n, err := strconv.ParseUint(word, 10, 63)
+func number(argument string) uint64 {
+	n, err := strconv.ParseUint(argument, 10, 63)
 	stop(err)
 	return n
 }
 
 func main() {
-	words := os.Args[1:]
+	arguments := os.Args[1:]
 	switch {
-	case len(words) == 4 && words[0] == "tiles":
-		tiles(words[1], int(number(words[2])), number(words[3]))
-	case len(words) == 4 && words[0] == "index":
-		index(words[1], number(words[2]), number(words[3]))
+	case len(arguments) == 4 && arguments[0] == "tiles":
+		tiles(arguments[1], int(number(arguments[2])), number(arguments[3]))
+	case len(arguments) == 4 && arguments[0] == "index":
+		index(arguments[1], number(arguments[2]), number(arguments[3]))
 	default:
-		fmt.Fprintln(os.Stderr, "fabricate: tiles OBJECTS ENTRIES MOMENT, or index FOLDER ENTRIES MOMENT")
+		fmt.Fprintln(os.Stderr, "fabricate: tiles OBJECTS ENTRIES TIMESTAMP, or index FOLDER ENTRIES TIMESTAMP")
 		os.Exit(2)
 	}
 }

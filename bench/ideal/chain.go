@@ -15,7 +15,7 @@ import (
 // entry is a submission that waits for a step.
 type entry struct {
 	id hash
-	// signed is the entry type and the signed entry, and extra what a data tile has after the extensions.
+	// signed is the entry type and the signed entry, and extra the bytes after the extensions in a data tile.
 	signed, extra []byte
 	place
 	// placed is closed after place is known, and published after the step's checkpoint is on the disk.
@@ -34,7 +34,7 @@ func (e *entry) leaf() []byte {
 	return vector(leaf, 2, e.extensions())
 }
 
-// vector appends content after its length in so many bytes (RFC 5246, section 4.3).
+// vector appends content after its length, which has width bytes (RFC 5246, section 4.3).
 func vector(to []byte, width int, content []byte) []byte {
 	for i := width - 1; i >= 0; i-- {
 		to = append(to, byte(len(content)>>(8*i)))
@@ -42,7 +42,7 @@ func vector(to []byte, width int, content []byte) []byte {
 	return append(to, content...)
 }
 
-// check checks a chain up to a root, and returns its entry.
+// check verifies a chain up to a root, and returns its entry.
 func (s *server) check(chain [][]byte, isPrecertificate bool) (*entry, error) {
 	certificates, err := s.parse(chain)
 	if err != nil {
@@ -78,7 +78,7 @@ func (s *server) check(chain [][]byte, isPrecertificate bool) (*entry, error) {
 	return e, nil
 }
 
-// parse parses a chain. Its last certificate is an accepted root, which is added if the chain lacks it.
+// parse parses a chain. Its last certificate must be an accepted root, which is added if the chain lacks it.
 func (s *server) parse(chain [][]byte) ([]*x509.Certificate, error) {
 	var certificates []*x509.Certificate
 	for _, der := range chain {

@@ -1,10 +1,10 @@
-// Command ideal is the least that a log of C2SP static-ct-api costs: a queue, one loop, tiles and a checkpoint. It
-// proves nothing, and has no guard, no index on disk that it can search, no bounds, no recovery and no second node. It
-// keeps what a log must keep: every file of a step is on the disk before the step's timestamps are answered.
+// Command ideal is a log of C2SP static-ct-api with the minimum cost: a queue, one loop, tiles and a checkpoint. It
+// proves nothing, and has no guard, no index on disk that it can search, no limits, no recovery and no second node. It
+// stores what a log must store: every file of a step is on the disk before the step's SCTs are returned.
 //
 //	ideal --folder FOLDER --key KEY --roots ROOTS --listen ADDRESS
 //
-// It reads the roots again at SIGHUP. bench/peers.py runs it by turns with ctserve.
+// It reads the roots again at SIGHUP. bench/peers.py runs it in turns with ctserve.
 package main
 
 import (
@@ -33,7 +33,7 @@ import (
 const (
 	// origin is the log's name in its checkpoints.
 	origin = "ideal.example/log"
-	// maxBody is the maximum length of a request's body in bytes.
+	// maxBody is the maximum number of bytes of a request's body.
 	maxBody = 1 << 20
 )
 
@@ -49,7 +49,7 @@ type server struct {
 	queue   queue
 	places  places
 	tree    tree
-	// size and steps are of the newest checkpoint.
+	// size and steps are those of the newest checkpoint.
 	size, steps atomic.Int64
 }
 
@@ -61,7 +61,7 @@ type queue struct {
 	wake    chan struct{}
 }
 
-// add has an entry wait. It returns the entry that waits already, if there is an equal one.
+// add adds an entry to the queue. If an equal entry already waits, it returns that one.
 func (q *queue) add(e *entry) *entry {
 	q.mu.Lock()
 	if first := q.byID[e.id]; first != nil {
@@ -86,22 +86,23 @@ func (q *queue) take() []*entry {
 	return taken
 }
 
-// places has the index and the timestamp of each entry in memory. Its file has them too, in the order of the entries.
+// places has the index and the timestamp of each entry in memory. Its file also has the indexes, in the order of the
+// entries.
 type places struct {
 	mu   sync.RWMutex
 	byID map[hash]place
 	file *os.File
 }
 
-// place is where an entry is in the log, and since when.
+// place is the index and the timestamp of an entry in the log.
 type place struct{ index, timestamp uint64 }
 
 // find returns the place of an entry that is in the log.
 func (p *places) find(id hash) (place, bool) {
 	p.mu.RLock()
 	defer p.mu.RUnlock()
-	found, ok := p.byID[id]
-	return found, ok
+	result, ok := p.byID[id]
+	return result, ok
 }
 
 // must ends the program after an error.
@@ -113,24 +114,24 @@ func must(err error) {
 
 // submit answers add-chain and add-pre-chain.
 func (s *server) submit(w http.ResponseWriter, r *http.Request) {
-	var asked struct {
+	var request struct {
 		Chain [][]byte `json:"chain"`
 	}
 	body, err := io.ReadAll(io.LimitReader(r.Body, maxBody))
 	if err == nil {
-		err = json.Unmarshal(body, &asked)
+		err = json.Unmarshal(body, &request)
 	}
 	var e *entry
 	if err == nil {
-		e, err = s.check(asked.Chain, strings.HasSuffix(r.URL.Path, "pre-chain"))
+		e, err = s.check(request.Chain, strings.HasSuffix(r.URL.Path, "pre-chain"))
 	}
 	if err != nil {
 		http.Error(w, err.Error(), http.StatusBadRequest)
 		return
 	}
-	at, isKnown := s.places.find(e.id)
+	known, isKnown := s.places.find(e.id)
 	if isKnown {
-		e.place = at
+		e.place = known
 	} else {
 		e = s.queue.add(e)
 		<-e.placed
@@ -153,7 +154,7 @@ func sign(key *ecdsa.PrivateKey, message []byte) []byte {
 	return vector([]byte{4, 3}, 2, der)
 }
 
-// getSTH answers get-sth by the size alone, with the number of steps so far.
+// getSTH answers get-sth with only the size, and with the number of steps so far.
 func (s *server) getSTH(w http.ResponseWriter, _ *http.Request) {
 	fmt.Fprintf(w, `{"tree_size":%d,"steps":%d}`, s.size.Load(), s.steps.Load())
 }
@@ -167,7 +168,7 @@ func (s *server) getRoots(w http.ResponseWriter, _ *http.Request) {
 	must(json.NewEncoder(w).Encode(map[string]any{"certificates": certificates}))
 }
 
-// readRoots reads the roots from a file in PEM.
+// readRoots reads the roots from a PEM file.
 func (s *server) readRoots(path string) {
 	content, err := os.ReadFile(path)
 	must(err)
@@ -180,7 +181,7 @@ func (s *server) readRoots(path string) {
 	s.roots.Store(&roots)
 }
 
-// root returns an accepted root that has a certificate's issuer as its subject, or nil.
+// root returns an accepted root whose subject is the issuer of a certificate, or nil.
 func (s *server) root(of *x509.Certificate) *x509.Certificate {
 	for _, root := range *s.roots.Load() {
 		if bytes.Equal(root.RawSubject, of.RawIssuer) {
@@ -190,7 +191,7 @@ func (s *server) root(of *x509.Certificate) *x509.Certificate {
 	return nil
 }
 
-// readKey reads the first EC private key of a file in PEM.
+// readKey reads the first EC private key in a PEM file.
 func readKey(path string) *ecdsa.PrivateKey {
 	content, err := os.ReadFile(path)
 	must(err)

@@ -13,17 +13,17 @@ import (
 )
 
 const (
-	// width is how many hashes or entries a full tile has (C2SP tlog-tiles), and height the levels of the tree that a
-	// tile spans.
+	// width is the number of hashes or entries of a full tile (C2SP tlog-tiles), and height the number of levels of the
+	// tree in a tile.
 	width, height = 256, 8
 )
 
 // tree is the right edge of the log. Only the loop uses it.
 type tree struct {
 	size uint64
-	// subtrees are the roots of the perfect subtrees, largest first.
+	// subtrees has the roots of the perfect subtrees, largest first.
 	subtrees []subtree
-	// levels are the partial hash tiles by their levels, and data is the partial data tile.
+	// levels has the partial hash tiles by their levels, and data is the partial data tile.
 	levels [][]byte
 	data   []byte
 	// synced has the folders that exist.
@@ -42,7 +42,7 @@ type object struct {
 	content []byte
 }
 
-// append adds an entry and returns the tiles that are full now.
+// append adds an entry and returns the tiles that became full.
 func (t *tree) append(e *entry) (full []object) {
 	leaf := e.leaf()
 	t.data = append(append(t.data, leaf[2:]...), e.extra...)
@@ -65,7 +65,7 @@ func (t *tree) append(e *entry) (full []object) {
 	}
 }
 
-// addHash adds a subtree's root to the hash tile of its level, and returns the tile if it is full now.
+// addHash adds a subtree's root to the hash tile of its level, and returns the tile if it became full.
 func (t *tree) addHash(n subtree) []object {
 	level := n.height / height
 	if level == len(t.levels) {
@@ -82,8 +82,8 @@ func (t *tree) addHash(n subtree) []object {
 
 // partial returns the partial tiles.
 func (t *tree) partial() (objects []object) {
-	if wide := t.size % width; wide > 0 {
-		objects = append(objects, object{fmt.Sprintf("tile/data/%s.p/%d", number(t.size/width), wide), t.data})
+	if count := t.size % width; count > 0 {
+		objects = append(objects, object{fmt.Sprintf("tile/data/%s.p/%d", number(t.size/width), count), t.data})
 	}
 	for level, hashes := range t.levels {
 		if n := t.size >> (height * level); n%width > 0 {
@@ -182,14 +182,14 @@ func (s *server) checkpoint(timestamp uint64) []byte {
 	return fmt.Appendf(nil, "%s\n%d\n%s\n\n— %s %s\n", origin, s.tree.size, text(root[:]), origin, text(signature))
 }
 
-// keep appends rows to the file of places and syncs it.
-func (p *places) keep(rows []byte) {
+// store appends rows to the file of places and syncs it.
+func (p *places) store(rows []byte) {
 	_, err := p.file.Write(rows)
 	must(err)
 	must(syscall.Fdatasync(int(p.file.Fd())))
 }
 
-// add adds the places of entries that are in the log now.
+// add adds the places of entries that are now in the log.
 func (p *places) add(entries []*entry) {
 	p.mu.Lock()
 	defer p.mu.Unlock()
@@ -198,7 +198,7 @@ func (p *places) add(entries []*entry) {
 	}
 }
 
-// step adds entries to the log. It returns after all that it wrote is on the disk.
+// step adds entries to the log. It returns after everything that it wrote is on the disk.
 func (s *server) step(entries []*entry) {
 	timestamp := uint64(time.Now().UnixMilli())
 	var objects []object
@@ -213,13 +213,13 @@ func (s *server) step(entries []*entry) {
 	}
 	objects = append(objects, s.tree.partial()...)
 	checkpoint := s.checkpoint(timestamp)
-	kept := make(chan struct{})
+	stored := make(chan struct{})
 	go func() {
-		defer close(kept)
-		s.places.keep(rows)
+		defer close(stored)
+		s.places.store(rows)
 	}()
 	s.writeAll(objects)
-	<-kept
+	<-stored
 	next := filepath.Join(s.folder, "checkpoint.new")
 	write(next, checkpoint)
 	must(os.Rename(next, filepath.Join(s.folder, "checkpoint")))

@@ -1,7 +1,7 @@
-// Measures the deduplication index on a folder: index FOLDER STEP ENTRIES. It adds so many entries in steps, each in one
-// call, to an index in FOLDER, which must not exist. At each power of ten it prints the bytes that the kernel wrote for
-// this process, for each entry; the bytes of the index; the memory of this process; and the bytes that it read for a
-// look-up of an unknown identity. At the end it opens the index again, and prints how long that took.
+// Command index measures the deduplication index in a folder: index FOLDER STEP ENTRIES. It adds ENTRIES entries, STEP
+// in each call, to an index in FOLDER, which must not exist. At each power of ten it prints the bytes per entry that
+// the kernel wrote for this process, the bytes of the index per entry, the memory of this process, and the bytes that
+// it read for a look-up of an unknown identity. At the end it opens the index again, and prints how long that took.
 package main
 
 import (
@@ -20,10 +20,10 @@ import (
 	"wagtenib/internal/stores"
 )
 
-// first is the timestamp of the first entry. The others follow in a millisecond each.
+// first is the timestamp of the first entry. Each further entry is a millisecond later.
 const first = 1767225600000
 
-// lookups is how many unknown identities are looked up at each size.
+// lookups is the number of unknown identities that are looked up at each size.
 const lookups = 2000
 
 func stop(err error) {
@@ -38,7 +38,7 @@ func hash(of byte, entry int) stores.Identity {
 	return sha256.Sum256(binary.BigEndian.AppendUint64([]byte{of}, uint64(entry)))
 }
 
-// kernel returns a number that the kernel has about this process.
+// kernel returns a number about this process from a file of the kernel.
 func kernel(file, name string) (number float64) {
 	content, err := os.ReadFile("/proc/self/" + file)
 	stop(err)
@@ -53,11 +53,11 @@ func kernel(file, name string) (number float64) {
 	return 0
 }
 
-// size returns the bytes of all files in a folder.
+// size returns the number of bytes of all files in a folder.
 func size(folder string) (bytes int64) {
 	stop(filepath.WalkDir(folder, func(path string, file fs.DirEntry, err error) error {
 		if errors.Is(err, fs.ErrNotExist) {
-			// LevelDB deletes tables meanwhile.
+			// LevelDB may have deleted a table meanwhile.
 			return nil
 		}
 		if err != nil || file.IsDir() {
@@ -71,7 +71,7 @@ func size(folder string) (bytes int64) {
 	return bytes
 }
 
-// add adds the entries from one up to another.
+// add adds the entries from one index up to another.
 func add(index stores.Index, from, to int) {
 	rows := make([]stores.Row, 0, to-from)
 	for entry := from; entry < to; entry++ {
@@ -81,7 +81,7 @@ func add(index stores.Index, from, to int) {
 	stop(index.Add(context.Background(), rows))
 }
 
-// read returns how many bytes a look-up of an unknown identity reads.
+// read returns the number of bytes that a look-up of an unknown identity reads.
 func read(index stores.Index) float64 {
 	before := kernel("io", "rchar")
 	for entry := range lookups {
@@ -119,9 +119,9 @@ func main() {
 		}
 	}
 	stop(index.Close())
-	began := time.Now()
+	start := time.Now()
 	index, err = stores.OpenLevelDB(context.Background(), folder)
 	stop(err)
-	fmt.Printf("opened again in %v\n", time.Since(began).Round(time.Millisecond))
+	fmt.Printf("opened again in %v\n", time.Since(start).Round(time.Millisecond))
 	stop(index.Close())
 }

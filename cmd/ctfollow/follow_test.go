@@ -14,16 +14,16 @@ import (
 	"golang.org/x/mod/sumdb/tlog"
 )
 
-// publish has a tree's checkpoint at a moment be the newest.
-func (g *grown) publish(tree tlog.Tree, timestamp uint64) {
+// publish publishes the checkpoint of a tree with a timestamp.
+func (g *growingLog) publish(tree tlog.Tree, timestamp uint64) {
 	g.mu.Lock()
 	defer g.mu.Unlock()
 	g.objects["/checkpoint"] = []byte(noteOf(tree, "— "+origin+" ", blobOf(g.t, g.key, g.keyID, tree, timestamp)))
 }
 
-// TestBehind: of two checkpoints of one size the later one isn't of an earlier moment, nor of another root, also where
-// the first was read by a mirror before.
-func TestBehind(t *testing.T) {
+// TestRefusesEarlierCheckpoints checks that a later checkpoint of the same size must have neither an earlier timestamp
+// nor another root, also if a mirror read the first one in an earlier run.
+func TestRefusesEarlierCheckpoints(t *testing.T) {
 	ctx, folder := context.Background(), t.TempDir()
 	g, r := newLog(t)
 	must(t, r.resume(folder))
@@ -33,33 +33,33 @@ func TestBehind(t *testing.T) {
 	again.node, again.key, again.keyID = r.node, r.key, r.keyID
 	must(t, again.resume(folder))
 	other := tlog.Tree{N: 5, Hash: sha256.Sum256([]byte("another root"))}
-	for what, reads := range map[string]*reader{"it": r, "a mirror that goes on": again} {
-		if reads.last != tree || reads.timestamp != 7 {
-			t.Errorf("%s has read %v at %d", what, reads.last, reads.timestamp)
+	for what, reader := range map[string]*reader{"it": r, "a mirror that continues": again} {
+		if reader.last != tree || reader.timestamp != 7 {
+			t.Errorf("%s has read %v at %d", what, reader.last, reader.timestamp)
 		}
 		g.publish(tree, 6)
-		if err := reads.follow(ctx); !errors.Is(err, errWrong) {
-			t.Errorf("%s reads an earlier moment: %v", what, err)
+		if err := reader.follow(ctx); !errors.Is(err, errWrong) {
+			t.Errorf("%s accepts an earlier timestamp: %v", what, err)
 		}
 		g.publish(other, 8)
-		if err := reads.follow(ctx); !errors.Is(err, errWrong) || !strings.Contains(err.Error(), "is not consistent") {
-			t.Errorf("%s reads another root: %v", what, err)
+		if err := reader.follow(ctx); !errors.Is(err, errWrong) || !strings.Contains(err.Error(), "is not consistent") {
+			t.Errorf("%s accepts another root: %v", what, err)
 		}
 		g.publish(tree, 7)
-		if err := reads.follow(ctx); err != nil || reads.timestamp != 7 {
+		if err := reader.follow(ctx); err != nil || reader.timestamp != 7 {
 			t.Errorf("%s reads the same: %v", what, err)
 		}
 	}
-	// An older checkpoint is refused after a newer one too.
+	// An older checkpoint is also refused after a newer one.
 	g.publish(tree, 9)
 	must(t, r.follow(ctx))
 	g.publish(tree, 8)
 	if err := r.follow(ctx); !errors.Is(err, errWrong) || r.timestamp != 9 {
-		t.Errorf("behind 9 comes 8: %v, and it has %d", err, r.timestamp)
+		t.Errorf("8 after 9: %v, and the last timestamp is %d", err, r.timestamp)
 	}
 }
 
-// TestEmptyTree: the tree without entries has its one root (RFC 6962, section 2.1).
+// TestEmptyTree checks that the tree without entries has only one root (RFC 6962, section 2.1).
 func TestEmptyTree(t *testing.T) {
 	g, r := newLog(t)
 	g.publish(tlog.Tree{Hash: sha256.Sum256([]byte("another root"))}, 7)
@@ -70,7 +70,8 @@ func TestEmptyTree(t *testing.T) {
 	must(t, r.follow(context.Background()))
 }
 
-// TestStatuses: a response with another status than 200 is no checkpoint, whatever it contains. Only a 404 is wrong.
+// TestStatuses checks that a response with another status than 200 is not a checkpoint, whatever it contains. Only a
+// 404 is errWrong.
 func TestStatuses(t *testing.T) {
 	g, r := newLog(t)
 	g.grow(1, 7)
@@ -95,13 +96,13 @@ func TestStatuses(t *testing.T) {
 	must(t, r.follow(context.Background()))
 }
 
-// TestShortTiles: a data tile with fewer entries than its name says, or that breaks off, is wrong; one with more is
-// read as far as its name says.
+// TestShortTiles checks that a data tile with fewer entries than its name says, or that is cut off, is wrong. If it has
+// more, only as many as its name says are read.
 func TestShortTiles(t *testing.T) {
 	const name = "/tile/data/000.p/3"
 	for what, of := range map[string]struct {
-		bend  func(whole []byte) []byte
-		wrong bool
+		change func(whole []byte) []byte
+		wrong  bool
 	}{
 		"an entry less":  {func(whole []byte) []byte { return whole[:len(whole)/3*2] }, true},
 		"nothing":        {func(whole []byte) []byte { return nil }, true},
@@ -111,16 +112,16 @@ func TestShortTiles(t *testing.T) {
 	} {
 		g, r := newLog(t)
 		g.grow(3, 7)
-		g.objects[name] = of.bend(append([]byte{}, g.objects[name]...))
+		g.objects[name] = of.change(append([]byte{}, g.objects[name]...))
 		if err := r.follow(context.Background()); errors.Is(err, errWrong) != of.wrong || (err == nil) == of.wrong {
 			t.Errorf("%s: %v", what, err)
 		}
 	}
 }
 
-// TestKeptIssuers: an issuer that is stored is not read again. An issuer whose file cannot be looked up is an error,
-// and does not count as missing.
-func TestKeptIssuers(t *testing.T) {
+// TestStoredIssuers checks that a stored issuer is not read again. An issuer whose file cannot be read is an error, and
+// does not count as missing.
+func TestStoredIssuers(t *testing.T) {
 	g, r := newLog(t)
 	folder := t.TempDir()
 	must(t, r.resume(folder))
@@ -133,20 +134,20 @@ func TestKeptIssuers(t *testing.T) {
 	}
 	g.grow(3, 8)
 	must(t, r.follow(context.Background()))
-	kept, err := filepath.Glob(filepath.Join(folder, "issuer", "*"))
-	if must(t, err); len(kept) != 3 {
-		t.Fatalf("%v are kept", kept)
+	stored, err := filepath.Glob(filepath.Join(folder, "issuer", "*"))
+	if must(t, err); len(stored) != 3 {
+		t.Fatalf("%v are stored", stored)
 	}
-	must(t, os.Remove(kept[0]))
-	must(t, os.Mkdir(kept[0], 0o700))
+	must(t, os.Remove(stored[0]))
+	must(t, os.Mkdir(stored[0], 0o700))
 	g.grow(6, 9)
 	if err := r.follow(context.Background()); err == nil || errors.Is(err, errWrong) || r.last.N != 3 {
-		t.Errorf("an issuer that can't be read: %v, and %d entries are kept", err, r.last.N)
+		t.Errorf("an issuer that cannot be read: %v, and %d entries are stored", err, r.last.N)
 	}
 }
 
-// TestTilesThatFail: tiles of hashes that are not the checkpoint's are wrong. A tile without a response is read again,
-// and the last tree stays.
+// TestTilesThatFail checks that hash tiles that are not those of the checkpoint are wrong. If a tile has no response,
+// it is read again, and the last tree does not change.
 func TestTilesThatFail(t *testing.T) {
 	g, first := newLog(t)
 	g.grow(5, 7)
@@ -156,8 +157,8 @@ func TestTilesThatFail(t *testing.T) {
 			w.WriteHeader(status[q.URL.Path])
 			return
 		}
-		content, there := g.objects[q.URL.Path]
-		if !there {
+		content, isPresent := g.objects[q.URL.Path]
+		if !isPresent {
 			http.NotFound(w, q)
 			return
 		}
@@ -172,7 +173,7 @@ func TestTilesThatFail(t *testing.T) {
 		readers = append(readers, r)
 	}
 	g.grow(300, 8)
-	fails := func(what string, wrong bool) {
+	checkFails := func(what string, wrong bool) {
 		t.Helper()
 		r := readers[0]
 		readers = readers[1:]
@@ -185,17 +186,17 @@ func TestTilesThatFail(t *testing.T) {
 		right := g.objects[name]
 		g.objects[name] = append([]byte{}, right...)
 		g.objects[name][7] ^= 1
-		fails(name+" is another", true)
+		checkFails(name+" has other bytes", true)
 		g.objects[name] = right
 	}
 	for _, name := range []string{"/tile/0/000", "/tile/data/000", "/tile/data/001.p/44"} {
 		status[name] = http.StatusServiceUnavailable
-		fails(name+" doesn't come", false)
+		checkFails(name+" is not answered", false)
 		delete(status, name)
 	}
 	for _, name := range []string{"/tile/0/001.p/44", "/tile/data/000"} {
 		status[name] = http.StatusNotFound
-		fails(name+" isn't there", true)
+		checkFails(name+" is missing", true)
 		delete(status, name)
 	}
 	must(t, readers[0].follow(context.Background()))
@@ -204,18 +205,18 @@ func TestTilesThatFail(t *testing.T) {
 	}
 }
 
-// TestKeysInFiles: a file that has no key of ECDSA in PEM is none of a log's.
+// TestKeysInFiles checks that a file without an ECDSA key in PEM is refused.
 func TestKeysInFiles(t *testing.T) {
 	folder := t.TempDir()
 	for name, text := range map[string]string{
 		"nothing": "", "no PEM": "x", "no key": "-----BEGIN PUBLIC KEY-----\nAAAA\n-----END PUBLIC KEY-----\n",
-		// (of Ed25519: RFC 8410, section 10.1)
+		// This is an Ed25519 key (RFC 8410, section 10.1).
 		"another kind": "-----BEGIN PUBLIC KEY-----\nMCowBQYDK2VwAyEAGb9ECWmEzf6FQbrBZ9w7lshQhqowtrbLDFw4rXAxZuE=\n-----END PUBLIC KEY-----\n",
 	} {
 		path := filepath.Join(folder, "key.pem")
 		must(t, os.WriteFile(path, []byte(text), 0o600))
 		if _, err := newReader(origin, path); err == nil {
-			t.Errorf("%s is a key", name)
+			t.Errorf("%s is accepted as a key", name)
 		}
 	}
 	if _, err := newReader(origin, filepath.Join(folder, "nowhere")); !errors.Is(err, os.ErrNotExist) {

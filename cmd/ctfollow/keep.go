@@ -14,8 +14,8 @@ import (
 	"wagtenib/internal/stores"
 )
 
-// mirror is a folder with what was checked of a log. Its checkpoint is written last: a folder that has one has all that
-// it needs.
+// mirror is a folder with what was checked of a log. Its checkpoint is written last, so a folder with a checkpoint has
+// everything that the checkpoint needs.
 type mirror struct {
 	folder  string
 	objects stores.Objects
@@ -23,8 +23,8 @@ type mirror struct {
 
 const checkpointName = "checkpoint"
 
-// resume keeps what is checked from now on in a folder, and continues from the folder's checkpoint. The log must have
-// signed that.
+// resume makes the reader store what it checks in a folder, and continue from the folder's checkpoint if there is one.
+// The log must have signed that checkpoint.
 func (r *reader) resume(folder string) error {
 	objects, err := stores.OpenFolder(folder)
 	if err != nil {
@@ -48,19 +48,20 @@ func (r *reader) resume(folder string) error {
 	return err
 }
 
-// keep has an object in the folder. One that is there with other bytes is wrong, and stays.
+// keep stores an object in the folder. If the object exists with other bytes, that is wrong, and the object does not
+// change.
 func (r *reader) keep(ctx context.Context, name string, content []byte) error {
 	err := r.mirror.objects.Put(ctx, name, content)
 	if errors.Is(err, stores.ErrOther) {
-		return wrong("%s: %s is kept with other bytes", r.node, name)
+		return wrong("%s: %s is stored with other bytes", r.node, name)
 	}
 	return err
 }
 
-// keepEntries keeps a data tile whose leaves are the tree's, and its issuers.
+// keepEntries stores a data tile, which was compared with the tree's leaves, and its issuers.
 func (r *reader) keepEntries(ctx context.Context, tile tlog.Tile, content []byte, read []entry) error {
 	content = content[:read[len(read)-1].end]
-	if err := r.beginsAsKept(ctx, tile, content); err != nil {
+	if err := r.checkBeginning(ctx, tile, content); err != nil {
 		return err
 	}
 	for _, one := range read {
@@ -73,21 +74,21 @@ func (r *reader) keepEntries(ctx context.Context, tile tlog.Tile, content []byte
 	return r.keep(ctx, nameOf(tile), content)
 }
 
-// beginsAsKept reports whether a data tile begins with what is kept of it: no hash has its precertificates and
+// checkBeginning checks that a data tile begins with the stored partial one, because no hash covers precertificates and
 // fingerprints.
-func (r *reader) beginsAsKept(ctx context.Context, tile tlog.Tile, content []byte) error {
+func (r *reader) checkBeginning(ctx context.Context, tile tlog.Tile, content []byte) error {
 	before := tile
 	if before.W = int(r.last.N % tileWidth); tile.N != r.last.N/tileWidth || before.W == 0 {
 		return nil
 	}
-	kept, err := r.mirror.objects.Get(ctx, nameOf(before), maxObject)
-	if err == nil && !bytes.HasPrefix(content, kept) {
+	stored, err := r.mirror.objects.Get(ctx, nameOf(before), maxObject)
+	if err == nil && !bytes.HasPrefix(content, stored) {
 		return wrong("%s: %s does not begin with the stored bytes", r.node, nameOf(tile))
 	}
 	return err
 }
 
-// keepIssuer keeps a certificate under its fingerprint.
+// keepIssuer stores a certificate under its fingerprint.
 func (r *reader) keepIssuer(ctx context.Context, fingerprint []byte) error {
 	name := "issuer/" + hex.EncodeToString(fingerprint)
 	if _, err := r.mirror.objects.Get(ctx, name, maxObject); !errors.Is(err, stores.ErrAbsent) {
@@ -103,13 +104,13 @@ func (r *reader) keepIssuer(ctx context.Context, fingerprint []byte) error {
 	return r.keep(ctx, name, content)
 }
 
-// keepHead keeps the hash tiles of a tree whose data tiles are kept, and then its checkpoint. The hashes were checked
-// against its root.
+// keepHead stores the hash tiles of a tree whose data tiles are stored, and then its checkpoint. The hashes were
+// checked against its root.
 func (r *reader) keepHead(ctx context.Context, tree tlog.Tree, hashes tlog.HashReader, tiles *tiles,
 	checkpoint []byte) error {
 	all := tlog.NewTiles(tileHeight, r.last.N, tree.N)
 	for i, tile := range all {
-		// (of a partial tile it gives each width on the way, of which no head that is kept has any but the last)
+		// NewTiles also returns the partial tiles of smaller trees, which no stored checkpoint needs.
 		if i+1 < len(all) && all[i+1].L == tile.L && all[i+1].N == tile.N {
 			continue
 		}
@@ -121,22 +122,22 @@ func (r *reader) keepHead(ctx context.Context, tree tlog.Tree, hashes tlog.HashR
 			return err
 		}
 	}
-	// (who serves the folder may be another user)
+	// The file server may run as another user.
 	if err := stores.ShowFile(filepath.Join(r.mirror.folder, checkpointName), checkpoint); err != nil {
 		return err
 	}
 	return r.mirror.dropPartial(r.last.N, tree.N)
 }
 
-// dropPartial takes the partial tiles of a tree away whose full ones a larger tree has: readers take those (C2SP
+// dropPartial deletes the partial tiles of a tree that are full in a larger tree. Readers use the full ones (C2SP
 // static-ct-api).
 func (m *mirror) dropPartial(before, now int64) error {
 	tile := tlog.Tile{H: tileHeight, L: -1, W: tileWidth}
-	if err := m.dropBehind(tile, before, now); err != nil {
+	if err := m.dropFull(tile, before, now); err != nil {
 		return err
 	}
 	for tile.L = 0; before > 0; tile.L++ {
-		if err := m.dropBehind(tile, before, now); err != nil {
+		if err := m.dropFull(tile, before, now); err != nil {
 			return err
 		}
 		before, now = before/tileWidth, now/tileWidth
@@ -144,8 +145,9 @@ func (m *mirror) dropPartial(before, now int64) error {
 	return nil
 }
 
-// dropBehind deletes the partial versions of a tile, of up to so many hashes or entries, after it has become full.
-func (m *mirror) dropBehind(tile tlog.Tile, before, now int64) error {
+// dropFull deletes the partial versions of a tile after the tile has become full. The tree had this number of hashes or
+// entries of this level before, and has this number now.
+func (m *mirror) dropFull(tile tlog.Tile, before, now int64) error {
 	if tile.N = before / tileWidth; tile.N == now/tileWidth {
 		return nil
 	}

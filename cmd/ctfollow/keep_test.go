@@ -25,27 +25,27 @@ import (
 	"wagtenib/internal/testutil"
 )
 
-// grown is a log that grows, by x/mod's tlog, over HTTP: all its objects by their paths.
-type grown struct {
+// growingLog is a log that grows, by x/mod's tlog, over HTTP. It has all its objects by their paths.
+type growingLog struct {
 	t      *testing.T
 	key    *ecdsa.PrivateKey
 	keyID  []byte
 	hashes stored
 	data   [][]byte
-	// mu is held while objects change, and during lookups, since another process may read.
+	// mu is locked while objects change, and during look-ups, because another goroutine may read.
 	mu      sync.Mutex
 	objects map[string][]byte
 }
 
-// newLog makes one without entries, and a reader of it.
-func newLog(t *testing.T) (*grown, *reader) {
+// newLog returns a log without entries, and a reader of it.
+func newLog(t *testing.T) (*growingLog, *reader) {
 	key, r := readerOf(t)
-	g := &grown{t: t, key: key, keyID: r.keyID, objects: map[string][]byte{}}
+	g := &growingLog{t: t, key: key, keyID: r.keyID, objects: map[string][]byte{}}
 	server := httptest.NewServer(http.HandlerFunc(func(w http.ResponseWriter, q *http.Request) {
 		g.mu.Lock()
-		content, there := g.objects[q.URL.Path]
+		content, isPresent := g.objects[q.URL.Path]
 		g.mu.Unlock()
-		if !there {
+		if !isPresent {
 			http.NotFound(w, q)
 			return
 		}
@@ -56,10 +56,10 @@ func newLog(t *testing.T) (*grown, *reader) {
 	return g, r
 }
 
-// issuerOf is the certificate of this number's issuer.
+// issuerOf returns the certificate of the issuer of the entry with this number.
 func issuerOf(i int64) []byte { return []byte(fmt.Sprint("issuer ", i%3)) }
 
-// withIssuer is an entry of a precertificate, which no hash has, with an issuer.
+// withIssuer returns an entry of a precertificate with an issuer. No hash covers the precertificate.
 func withIssuer(text string, precertificate string, issuer []byte) []byte {
 	entry := append(make([]byte, 8), 0, 1)
 	entry = append(append(append(entry, make([]byte, 32)...), 0, 0, byte(len(text))), text...)
@@ -68,13 +68,13 @@ func withIssuer(text string, precertificate string, issuer []byte) []byte {
 	return append(append(entry, 0, 32), fingerprint[:]...)
 }
 
-// leafOf is what a hash has of an entry of withIssuer.
+// leafOf returns the bytes of an entry of withIssuer that a hash covers.
 func leafOf(entry []byte, text string) []byte {
 	return append([]byte{0, 0}, entry[:8+2+32+3+len(text)+2]...)
 }
 
-// grow has so many entries, and publishes them at a moment.
-func (g *grown) grow(size int64, timestamp uint64) tlog.Tree {
+// grow adds entries up to a size, and publishes a checkpoint with a timestamp.
+func (g *growingLog) grow(size int64, timestamp uint64) tlog.Tree {
 	g.t.Helper()
 	g.mu.Lock()
 	defer g.mu.Unlock()
@@ -110,7 +110,7 @@ func (g *grown) grow(size int64, timestamp uint64) tlog.Tree {
 	return tree
 }
 
-// files are the names of a folder's files, in order, without those that aren't served.
+// files returns the sorted names of a folder's files.
 func files(t *testing.T, folder string) (found []string) {
 	t.Helper()
 	must(t, filepath.WalkDir(folder, func(path string, of os.DirEntry, err error) error {
@@ -124,9 +124,9 @@ func files(t *testing.T, folder string) (found []string) {
 	return found
 }
 
-// TestMirror keeps a log at many sizes, each time with a new reader that continues from the folder. At each size the
-// folder has exactly the objects that a reader of that size needs, byte for byte. A reader can read it from a file
-// server.
+// TestMirror stores a log at many sizes, each time with a new reader that continues from the folder. At each size the
+// folder has exactly the objects that a reader of that size needs, byte for byte. A reader can read the folder from a
+// file server.
 func TestMirror(t *testing.T) {
 	g, first := newLog(t)
 	folder := filepath.Join(t.TempDir(), "a", "mirror")
@@ -138,20 +138,20 @@ func TestMirror(t *testing.T) {
 		r.node, r.key, r.keyID = first.node, first.key, first.keyID
 		must(t, r.resume(folder))
 		if i > 0 && r.last.N != sizes[i-1] {
-			t.Fatalf("it goes on from %d, and %d are kept", r.last.N, sizes[i-1])
+			t.Fatalf("it continues from %d, and %d are stored", r.last.N, sizes[i-1])
 		}
 		must(t, r.follow(context.Background()))
 		if r.last != tree {
 			t.Fatalf("%v was read, and %v is published", r.last, tree)
 		}
-		due := []string{"checkpoint"}
+		expected := []string{"checkpoint"}
 		for level, n := -1, size; level == -1 || n > 0; level++ {
 			for index := int64(0); index*256 < n; index++ {
 				tile := tlog.Tile{H: tileHeight, L: level, N: index, W: 256}
 				if left := n - index*256; left < 256 {
 					tile.W = int(left)
 				}
-				due = append(due, nameOf(tile))
+				expected = append(expected, nameOf(tile))
 			}
 			if level >= 0 {
 				n /= 256
@@ -159,35 +159,35 @@ func TestMirror(t *testing.T) {
 		}
 		for k := int64(0); k < size && k < 3; k++ {
 			fingerprint := sha256.Sum256(issuerOf(k))
-			due = append(due, "issuer/"+hex.EncodeToString(fingerprint[:]))
+			expected = append(expected, "issuer/"+hex.EncodeToString(fingerprint[:]))
 		}
-		for _, name := range due {
+		for _, name := range expected {
 			ever[name] = true
 		}
-		// (partial tiles of the sizes before stay until their full one is there)
-		kept := map[string]bool{}
+		// Partial tiles of earlier sizes remain until their full one exists.
+		stored := map[string]bool{}
 		for _, name := range files(t, folder) {
 			if !ever[name] {
-				t.Errorf("at %d: %s is kept, which no size has", size, name)
+				t.Errorf("at %d: %s is stored, which no size needs", size, name)
 			}
 			content, err := os.ReadFile(filepath.Join(folder, name))
 			must(t, err)
 			if !bytes.Equal(content, g.objects["/"+name]) {
 				t.Errorf("at %d: %s has other bytes", size, name)
 			}
-			if full, _, partial := strings.Cut(name, ".p/"); partial && kept[full] {
-				t.Errorf("at %d: %s stays beside its full tile", size, name)
+			if full, _, partial := strings.Cut(name, ".p/"); partial && stored[full] {
+				t.Errorf("at %d: %s remains beside its full tile", size, name)
 			}
 			info, err := os.Stat(filepath.Join(folder, name))
 			must(t, err)
 			if info.Mode().Perm() != 0o644 {
 				t.Errorf("%s: %v", name, info.Mode())
 			}
-			kept[name] = true
+			stored[name] = true
 		}
-		for _, name := range due {
-			if !kept[name] {
-				t.Errorf("at %d: %s isn't kept", size, name)
+		for _, name := range expected {
+			if !stored[name] {
+				t.Errorf("at %d: %s is not stored", size, name)
 			}
 		}
 	}
@@ -201,11 +201,12 @@ func TestMirror(t *testing.T) {
 	}
 }
 
-// TestPartialTilesGo: when a tree grows, partial tiles with a full one are deleted, at each level, and no others.
-func TestPartialTilesGo(t *testing.T) {
+// TestDeletesPartialTiles checks that when a tree grows, partial tiles with a full one are deleted, at each level, and
+// no others.
+func TestDeletesPartialTiles(t *testing.T) {
 	for _, test := range []struct {
-		before, now int64
-		there, left string
+		before, now   int64
+		present, left string
 	}{
 		{5, 200, "data/000.p/5 0/000.p/5", "data/000.p/5 0/000.p/5"},
 		{5, 256, "data/000.p/5 0/000.p/5", ""},
@@ -216,35 +217,35 @@ func TestPartialTilesGo(t *testing.T) {
 		{256*256*256 - 1, 256 * 256 * 256, "data/x065/535.p/255 0/x065/535.p/255 1/255.p/255 2/000.p/255", ""},
 	} {
 		m := &mirror{folder: t.TempDir()}
-		for _, name := range strings.Fields(test.there) {
+		for _, name := range strings.Fields(test.present) {
 			path := filepath.Join(m.folder, "tile", name)
 			must(t, os.MkdirAll(filepath.Dir(path), 0o700))
 			must(t, os.WriteFile(path, nil, 0o600))
 		}
 		must(t, m.dropPartial(test.before, test.now))
-		var due []string
+		var expected []string
 		for _, name := range strings.Fields(test.left) {
-			due = append(due, "tile/"+name)
+			expected = append(expected, "tile/"+name)
 		}
-		sort.Strings(due)
-		if left := files(t, m.folder); strings.Join(left, " ") != strings.Join(due, " ") {
-			t.Errorf("from %d to %d: %v stay", test.before, test.now, left)
+		sort.Strings(expected)
+		if left := files(t, m.folder); strings.Join(left, " ") != strings.Join(expected, " ") {
+			t.Errorf("from %d to %d: %v remain", test.before, test.now, left)
 		}
 	}
 }
 
-// TestMirrorRefuses: an object that differs from the stored one, or from its name, ends the program, and the stored
-// objects stay.
+// TestMirrorRefuses checks that an object that differs from the stored one, or from its name, is an error, and that the
+// stored objects do not change.
 func TestMirrorRefuses(t *testing.T) {
 	fingerprint := sha256.Sum256(issuerOf(1))
 	issuer := "/issuer/" + hex.EncodeToString(fingerprint[:])
 	for what, test := range map[string]struct {
-		// before has what the log does to 5 entries that were kept, and to those of a size that is read then.
-		change func(g *grown, folder string)
+		// change changes the log after 5 entries were stored, or the folder, and makes the log grow.
+		change func(g *growingLog, folder string)
 		wrong  bool
 	}{
-		"nothing is changed": {func(g *grown, folder string) { g.grow(9, 8) }, false},
-		"another log of the key": {func(g *grown, folder string) {
+		"nothing is changed": {func(g *growingLog, folder string) { g.grow(9, 8) }, false},
+		"another log of the key": {func(g *growingLog, folder string) {
 			g.hashes, g.data = nil, nil
 			g.data = append(g.data, withIssuer("another", "", issuerOf(0)))
 			more, err := tlog.StoredHashes(0, leafOf(g.data[0], "another"), g.hashes)
@@ -252,34 +253,34 @@ func TestMirrorRefuses(t *testing.T) {
 			g.hashes = more
 			g.grow(9, 8)
 		}, true},
-		"a log that was set back": {func(g *grown, folder string) {
+		"a log that was rolled back": {func(g *growingLog, folder string) {
 			g.hashes, g.data = nil, nil
 			g.grow(4, 8)
 		}, true},
-		"a precertificate of an entry that is kept": {func(g *grown, folder string) {
+		"a precertificate of an entry that is kept": {func(g *growingLog, folder string) {
 			g.grow(9, 8)
 			at := "/tile/data/000.p/9"
 			g.objects[at] = bytes.Replace(g.objects[at], []byte("precertificate 2"), []byte("precertificate !"), 1)
 		}, true},
-		"an issuer with another hash": {func(g *grown, folder string) {
+		"an issuer with another hash": {func(g *growingLog, folder string) {
 			must(g.t, os.Remove(folder+issuer))
 			g.grow(9, 8)
 			g.objects[issuer] = []byte("another")
 		}, true},
-		"an issuer that isn't there": {func(g *grown, folder string) {
+		"an issuer that is missing": {func(g *growingLog, folder string) {
 			must(g.t, os.Remove(folder+issuer))
 			g.grow(9, 8)
 			delete(g.objects, issuer)
 		}, true},
-		"a new tile that is kept with other bytes": {func(g *grown, folder string) {
+		"a new tile that is kept with other bytes": {func(g *growingLog, folder string) {
 			must(g.t, os.WriteFile(folder+"/tile/0/000.p/9", []byte("other"), 0o600))
 			g.grow(9, 8)
 		}, true},
-		"a new data tile that is kept with other bytes": {func(g *grown, folder string) {
+		"a new data tile that is kept with other bytes": {func(g *growingLog, folder string) {
 			must(g.t, os.WriteFile(folder+"/tile/data/000.p/9", []byte("other"), 0o600))
 			g.grow(9, 8)
 		}, true},
-		"a kept tile that went": {func(g *grown, folder string) {
+		"a stored tile that is missing": {func(g *growingLog, folder string) {
 			must(g.t, os.Remove(folder+"/tile/data/000.p/5"))
 			g.grow(9, 8)
 		}, false},
@@ -295,14 +296,14 @@ func TestMirrorRefuses(t *testing.T) {
 		if errors.Is(err, errWrong) != test.wrong || (err == nil) != (what == "nothing is changed") {
 			t.Errorf("%s: %v", what, err)
 		}
-		if kept, _ := os.ReadFile(filepath.Join(folder, "checkpoint")); err != nil && !bytes.Equal(kept, before) {
-			t.Errorf("%s: the checkpoint that is kept is another one", what)
+		if stored, _ := os.ReadFile(filepath.Join(folder, "checkpoint")); err != nil && !bytes.Equal(stored, before) {
+			t.Errorf("%s: the stored checkpoint has changed", what)
 		}
 	}
 }
 
-// TestMirrorOfAnother: a folder whose checkpoint isn't the log's, or can't be read, isn't gone on from, and one that
-// can't be made isn't used.
+// TestMirrorOfAnother checks that a reader does not continue from a folder whose checkpoint is that of another log or
+// cannot be read, and that it does not use a folder that cannot be created.
 func TestMirrorOfAnother(t *testing.T) {
 	g, r := newLog(t)
 	folder, node := t.TempDir(), r.node
@@ -316,24 +317,24 @@ func TestMirrorOfAnother(t *testing.T) {
 	must(t, os.Remove(filepath.Join(folder, "checkpoint")))
 	must(t, os.Mkdir(filepath.Join(folder, "checkpoint"), 0o700))
 	if err := r.resume(folder); err == nil || errors.Is(err, errWrong) {
-		t.Errorf("a checkpoint that can't be read: %v", err)
+		t.Errorf("a checkpoint that cannot be read: %v", err)
 	}
 	must(t, os.WriteFile(filepath.Join(folder, "file"), nil, 0o600))
 	if err := r.resume(filepath.Join(folder, "file", "below")); err == nil {
-		t.Error("a folder below a file is made")
+		t.Error("a folder below a file is created")
 	}
-	// A checkpoint that cannot be written is an error, and is not wrong.
+	// A checkpoint that cannot be written is an error, but not errWrong.
 	_, r = readerOf(t)
 	r.node, r.key, r.keyID = node, &g.key.PublicKey, g.keyID
 	must(t, r.resume(t.TempDir()))
 	must(t, os.Mkdir(filepath.Join(r.mirror.folder, "checkpoint"), 0o700))
 	if err := r.follow(context.Background()); err == nil || errors.Is(err, errWrong) || r.last.N != 0 {
-		t.Errorf("a checkpoint that can't be written: %v, %d", err, r.last.N)
+		t.Errorf("a checkpoint that cannot be written: %v, %d", err, r.last.N)
 	}
 	if left, _ := filepath.Glob(filepath.Join(r.mirror.folder, "checkpoint.writing-*")); len(left) != 0 {
-		t.Errorf("half of it is left: %v", left)
+		t.Errorf("a half-written file remains: %v", left)
 	}
-	// As long as one isn't written the tiles of the one before stay.
+	// Until the new checkpoint is written, the tiles of the one before remain.
 	g, r = newLog(t)
 	g.grow(5, 7)
 	must(t, r.resume(t.TempDir()))
@@ -342,17 +343,17 @@ func TestMirrorOfAnother(t *testing.T) {
 	must(t, os.Mkdir(filepath.Join(r.mirror.folder, "checkpoint"), 0o700))
 	g.grow(300, 8)
 	if err := r.follow(context.Background()); err == nil {
-		t.Error("a checkpoint is written over a folder")
+		t.Error("a checkpoint replaces a folder")
 	}
 	for _, name := range []string{"tile/data/000.p/5", "tile/0/000.p/5"} {
 		if _, err := os.Stat(filepath.Join(r.mirror.folder, name)); err != nil {
-			t.Errorf("no checkpoint is written yet, and %s went: %v", name, err)
+			t.Errorf("no new checkpoint is written yet, and %s was deleted: %v", name, err)
 		}
 	}
 }
 
-// TestCheckpointThatIsCutShort: if the disk is full in the middle of a checkpoint, the one before stays, and the reader
-// continues from it.
+// TestCheckpointThatIsCutShort checks that if the disk is full in the middle of a checkpoint, the one before remains,
+// and that the reader continues from it.
 func TestCheckpointThatIsCutShort(t *testing.T) {
 	g, r := newLog(t)
 	g.grow(1, 7)
@@ -360,24 +361,24 @@ func TestCheckpointThatIsCutShort(t *testing.T) {
 	must(t, r.follow(context.Background()))
 	before := g.objects["/checkpoint"]
 	g.grow(1, 8)
-	// (nothing else of a log of one entry is as long)
+	// No other file of a log of one entry has as many bytes.
 	err := testutil.ShortFiles(t, uint64(len(before)-20), func() error { return r.follow(context.Background()) })
 	if !errors.Is(err, syscall.EFBIG) || r.timestamp != 7 {
-		t.Errorf("%v, and the last moment is %d", err, r.timestamp)
+		t.Errorf("%v, and the last timestamp is %d", err, r.timestamp)
 	}
-	kept := func(want []byte) {
+	checkStored := func(expected []byte) {
 		t.Helper()
 		if content, err := os.ReadFile(filepath.Join(r.mirror.folder, "checkpoint")); err != nil ||
-			!bytes.Equal(content, want) {
-			t.Errorf("%q is kept, %v", content, err)
+			!bytes.Equal(content, expected) {
+			t.Errorf("%q is stored, %v", content, err)
 		}
 	}
-	kept(before)
+	checkStored(before)
 	must(t, r.follow(context.Background()))
-	kept(g.objects["/checkpoint"])
+	checkStored(g.objects["/checkpoint"])
 }
 
-// failing is a store that fails at one call of what begins so.
+// failing is a store that fails at a call with a name that begins with a text.
 type failing struct {
 	stores.Objects
 	gets, puts string
@@ -385,11 +386,11 @@ type failing struct {
 
 var errStore = errors.New("the store fails")
 
-func (f failing) Get(ctx context.Context, name string, most int64) ([]byte, error) {
+func (f failing) Get(ctx context.Context, name string, maxBytes int64) ([]byte, error) {
 	if f.gets != "" && strings.HasPrefix(name, f.gets) {
 		return nil, errStore
 	}
-	return f.Objects.Get(ctx, name, most)
+	return f.Objects.Get(ctx, name, maxBytes)
 }
 
 func (f failing) Put(ctx context.Context, name string, content []byte) error {
@@ -399,8 +400,8 @@ func (f failing) Put(ctx context.Context, name string, content []byte) error {
 	return f.Objects.Put(ctx, name, content)
 }
 
-// TestFolderThatFails: if an object cannot be read or stored, that is an error, no checkpoint is written, and nothing
-// is wrong. Afterwards the missing objects are stored.
+// TestFolderThatFails checks that if an object cannot be read or stored, that is an error but not errWrong, and no
+// checkpoint is written. Afterwards the missing objects are stored.
 func TestFolderThatFails(t *testing.T) {
 	for _, of := range []failing{{gets: "issuer/"}, {gets: "tile/data/"}, {puts: "issuer/"}, {puts: "tile/data/"},
 		{puts: "tile/0/"}, {puts: "tile/1/"}} {
@@ -419,9 +420,9 @@ func TestFolderThatFails(t *testing.T) {
 			r.last.N != 5 {
 			t.Errorf("%+v: %v, and %d are read", of, err, r.last.N)
 		}
-		if kept, err := os.ReadFile(filepath.Join(r.mirror.folder, "checkpoint")); err != nil ||
-			!bytes.Equal(kept, before) {
-			t.Errorf("%+v: %q is kept, %v", of, kept, err)
+		if stored, err := os.ReadFile(filepath.Join(r.mirror.folder, "checkpoint")); err != nil ||
+			!bytes.Equal(stored, before) {
+			t.Errorf("%+v: %q is stored, %v", of, stored, err)
 		}
 		r.mirror.objects = folder
 		must(t, r.follow(context.Background()))
@@ -434,16 +435,16 @@ func TestFolderThatFails(t *testing.T) {
 	}
 }
 
-// TestPartialTilesThatStay: if a partial tile cannot be deleted, that is an error. What was read counts as read after
-// it can be deleted.
-func TestPartialTilesThatStay(t *testing.T) {
+// TestPartialTilesThatCannotBeDeleted checks that if a partial tile cannot be deleted, that is an error. The tree
+// counts as read only after its tiles can be deleted.
+func TestPartialTilesThatCannotBeDeleted(t *testing.T) {
 	for _, in := range []string{"tile/data", "tile/0"} {
 		g, r := newLog(t)
 		g.grow(5, 7)
 		must(t, r.resume(t.TempDir()))
 		must(t, r.follow(context.Background()))
 		g.grow(300, 8)
-		// In this folder a file blocks the partial tile, and the tiles are elsewhere.
+		// In this folder, which is not that of the tiles, a file blocks the partial tile.
 		folder := r.mirror.folder
 		r.mirror.folder = t.TempDir()
 		must(t, os.MkdirAll(filepath.Join(r.mirror.folder, "tile"), 0o700))
@@ -459,7 +460,7 @@ func TestPartialTilesThatStay(t *testing.T) {
 	}
 }
 
-// TestEntries: a text that is not a list of entries is refused.
+// TestEntries checks that bytes that are not a list of entries are refused.
 func TestEntries(t *testing.T) {
 	whole := append(withIssuer("a", "b", issuerOf(0)), entryOf("c")...)
 	read, err := entriesOf(whole)
@@ -469,23 +470,23 @@ func TestEntries(t *testing.T) {
 	}
 	for end := range whole {
 		read, err := entriesOf(whole[:end])
-		if at := end == 0 || end == read0(whole); at != (err == nil) {
+		if isEnd := end == 0 || end == endOfFirst(whole); isEnd != (err == nil) {
 			t.Errorf("%d bytes: %d entries, %v", end, len(read), err)
 		}
 	}
 	half := append([]byte{}, entryOf("c")...)
 	half[len(half)-1] = 16
 	if _, err := entriesOf(append(half, make([]byte, 16)...)); err == nil {
-		t.Error("half a fingerprint is read")
+		t.Error("half a fingerprint is accepted")
 	}
 	kind := append([]byte{}, entryOf("c")...)
 	binary.BigEndian.PutUint16(kind[8:], 2)
 	if _, err := entriesOf(kind); err == nil {
-		t.Error("a kind that isn't one is read")
+		t.Error("an unknown entry type is accepted")
 	}
 }
 
-func read0(whole []byte) int {
+func endOfFirst(whole []byte) int {
 	read, _ := entriesOf(whole)
 	return read[0].end
 }

@@ -14,8 +14,8 @@ import (
 
 func TestMain(m *testing.M) { testutil.Main(m, main) }
 
-// TestProgram: status 0 means that everything that was read is right, also if a mirror continues from it. Wrong tiles
-// and wrong arguments have status 1 and the reason.
+// TestProgram checks that status 0 means that everything that was read is right, also if a mirror continues from it.
+// Wrong tiles and wrong arguments have status 1 and the reason.
 func TestProgram(t *testing.T) {
 	g, r := newLog(t)
 	folder := t.TempDir()
@@ -23,46 +23,48 @@ func TestProgram(t *testing.T) {
 	der, err := x509.MarshalPKIXPublicKey(&g.key.PublicKey)
 	must(t, err)
 	must(t, os.WriteFile(key, pem.EncodeToMemory(&pem.Block{Type: "PUBLIC KEY", Bytes: der}), 0o600))
-	words := []string{"--nodes", r.node + "/," + r.node, "--origin", origin, "--key", key, "--every", "1ms"}
-	keeps := append(words[:len(words):len(words)], "--once", "--keep", filepath.Join(folder, "mirror"))
+	arguments := []string{"--nodes", r.node + "/," + r.node, "--origin", origin, "--key", key, "--every", "1ms"}
+	mirrorArguments := append(arguments[:len(arguments):len(arguments)], "--once", "--keep", filepath.Join(folder,
+		"mirror"))
 	five := g.grow(5, 7)
-	says := fmt.Sprintf("%s: 5 entries, root %v: consistent, and all leaves are there\n5 entries were read, and all "+
-		"was right\n", r.node, five.Hash)
-	if status, out, problem := testutil.Runs(t, keeps...); status != 0 || out != says || problem != "" {
+	expected := fmt.Sprintf("%s: 5 entries, root %v: consistent, and all leaves are there\n"+
+		"5 entries were read, and all was right\n", r.node, five.Hash)
+	if status, out, problem := testutil.Runs(t, mirrorArguments...); status != 0 || out != expected || problem != "" {
 		t.Errorf("status %d, %q and %q", status, out, problem)
 	}
-	if status, out, problem := testutil.Runs(t, keeps...); status != 0 ||
+	if status, out, problem := testutil.Runs(t, mirrorArguments...); status != 0 ||
 		out != "5 entries were read, and all was right\n" || problem != "" {
 		t.Errorf("the same once more: status %d, %q and %q", status, out, problem)
 	}
 	g.publish(five, 6)
-	if status, _, problem := testutil.Runs(t, keeps...); status != 1 ||
+	if status, _, problem := testutil.Runs(t, mirrorArguments...); status != 1 ||
 		!strings.Contains(problem, "there were 5 at 7 ms before") {
-		t.Errorf("an earlier moment than the mirror's: status %d, %q", status, problem)
+		t.Errorf("an earlier timestamp than that of the mirror: status %d, %q", status, problem)
 	}
-	// (without a mirror it knows of none before)
-	if status, out, problem := testutil.Runs(t, append(words, "--once")...); status != 0 || out != says || problem != "" {
+	// Without a mirror, the program knows no earlier checkpoint.
+	if status, out, problem := testutil.Runs(t, append(arguments, "--once")...); status != 0 || out != expected ||
+		problem != "" {
 		t.Errorf("without a mirror: status %d, %q and %q", status, out, problem)
 	}
 	for _, of := range []struct {
-		words []string
-		says  string
+		arguments []string
+		expected  string
 	}{
-		{append(words, "--origin", "log.example/other"), "no checkpoint of log.example/other"},
-		{append(words, "--key", filepath.Join(folder, "nowhere")), "no such file"},
-		{append(words, "--keep", filepath.Join(key, "below")), "not a directory"},
-		{append(words, "word"), `unexpected argument "word"`},
+		{append(arguments, "--origin", "log.example/other"), "no checkpoint of log.example/other"},
+		{append(arguments, "--key", filepath.Join(folder, "nowhere")), "no such file"},
+		{append(arguments, "--keep", filepath.Join(key, "below")), "not a directory"},
+		{append(arguments, "word"), `unexpected argument "word"`},
 	} {
-		if status, out, problem := testutil.Runs(t, of.words...); status != 1 || out != "" ||
-			!strings.HasPrefix(problem, "ctfollow: ") || !strings.Contains(problem, of.says) {
-			t.Errorf("%q: status %d, %q and %q", of.says, status, out, problem)
+		if status, out, problem := testutil.Runs(t, of.arguments...); status != 1 || out != "" ||
+			!strings.HasPrefix(problem, "ctfollow: ") || !strings.Contains(problem, of.expected) {
+			t.Errorf("%q: status %d, %q and %q", of.expected, status, out, problem)
 		}
 	}
-	// A node that does not answer is asked again until the time is over, and that is not wrong.
-	if status, out, problem := testutil.Runs(t, append(words, "--nodes", "http://127.0.0.1:1", "--for",
+	// A node that does not answer is asked again until the time is over. That is not an error.
+	if status, out, problem := testutil.Runs(t, append(arguments, "--nodes", "http://127.0.0.1:1", "--for",
 		"50ms")...); status != 0 || !strings.HasSuffix(out, "0 entries were read, and all was right\n") ||
 		problem != "" {
-		t.Errorf("nobody answers: status %d, %q and %q", status, out, problem)
+		t.Errorf("no node answers: status %d, %q and %q", status, out, problem)
 	}
 	if status, out, _ := testutil.Runs(t, "--version"); status != 0 || !strings.HasPrefix(out, "ctfollow ") {
 		t.Errorf("--version: status %d, %q", status, out)

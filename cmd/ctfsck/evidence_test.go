@@ -19,7 +19,7 @@ import (
 	"wagtenib/internal/watch/watchstore"
 )
 
-// TestEvidence: a fork is shown by two signed heads and the log's key, and by no other key and no other files.
+// TestEvidence checks that two signed heads and the log's key show a fork, and that no other key and no other files do.
 func TestEvidence(t *testing.T) {
 	log, err := testlog.New("log.example/2027")
 	must(t, err)
@@ -40,10 +40,10 @@ func TestEvidence(t *testing.T) {
 	pemOf := func(der []byte) []byte { return pem.EncodeToMemory(&pem.Block{Type: "PUBLIC KEY", Bytes: der}) }
 	own, stranger := write(keys, "own", pemOf(log.PublicKey())), write(keys, "stranger", pemOf(other.PublicKey()))
 	none := write(keys, "none", []byte("no key"))
-	for key, due := range map[string]string{own: "two roots of 300 leaves", stranger: "another key",
-		none: "no public key"} {
+	for key, expected := range map[string]string{own: "two roots of 300 leaves", stranger: "another key",
+		none: "not a public key"} {
 		status, out, problem := testutil.Runs(t, "evidence", folder, key)
-		if (status == 0) != (key == own) || !strings.Contains(out+problem, due) {
+		if (status == 0) != (key == own) || !strings.Contains(out+problem, expected) {
 			t.Errorf("%s: status %d: %s%s", filepath.Base(key), status, out, problem)
 		}
 	}
@@ -59,8 +59,8 @@ func TestEvidence(t *testing.T) {
 	}
 }
 
-// TestEvidenceOfAFork: a log that ctwatch follows signs another root. The evidence in the store of ctwatch convinces
-// ctfsck, with the log's key and without the log, in one command.
+// TestEvidenceOfAFork makes a log that ctwatch follows sign another root. ctfsck must accept the evidence in the store
+// of ctwatch, with the log's key and without the log, in one command.
 func TestEvidenceOfAFork(t *testing.T) {
 	for _, kind := range []string{"tiled", "RFC 6962"} {
 		log, err := testlog.New("log.example/2027")

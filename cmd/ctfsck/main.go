@@ -1,9 +1,10 @@
-// Command ctfsck judges a log from what it published in a folder or a bucket: ctfsck FOLDER|s3://.. KEY.PEM
-// [ANSWERS..]. KEY.PEM has the log's public key. A file of answers is one that ctload --answers wrote: each line is a
-// JSON object, as logcheck.Answer has it. It says what it saw, or what is wrong, with status 1.
+// Command ctfsck checks a log by what it published in a folder or a bucket: ctfsck FOLDER|s3://.. KEY.PEM [ANSWERS..].
+// KEY.PEM has the log's public key. A file of answers is one that ctload --answers wrote. Each of its lines is a JSON
+// object with the fields of logcheck.Answer. ctfsck prints what it saw. If something is wrong, it prints that, and its
+// status is 1.
 //
-// ctfsck evidence FOLDER KEY.PEM judges the evidence against a log that a monitor kept in a folder. It prints what the
-// files show, and what must be believed beside them. The status is 1 if they do not show what evidence.json says.
+// ctfsck evidence FOLDER KEY.PEM checks the evidence against a log that a monitor stored in a folder. It prints what
+// the files show, and what must be believed in addition. The status is 1 if they do not show what evidence.json says.
 package main
 
 import (
@@ -24,33 +25,33 @@ const (
 	usage = "ctfsck FOLDER|s3://.. KEY.PEM [ANSWERS..]\nctfsck evidence FOLDER KEY.PEM\n"
 	page  = `ctfsck FOLDER|s3://.. KEY.PEM [ANSWERS..]
 
-Judges a log from what it published. It prints what it saw, or what is wrong, with status 1.
+Checks a log by what it published. It prints what it saw, or what is wrong, with status 1.
 
   FOLDER|s3://..  the log's objects: FOLDER/objects of the log's folder, a copy of it, or the address of its bucket
   KEY.PEM         the file with the log's public key in PEM
-  ANSWERS         a file that ctload --answers wrote. Each timestamp in it must be the log's, and have its entry
+  ANSWERS         a file that ctload --answers wrote. Each timestamp in it must be that of the log, and have its entry
 
 ctfsck evidence FOLDER KEY.PEM
 
-Judges evidence against a log. It prints what the files show, and what must be believed beside them. The status is 1 if
+Checks evidence against a log. It prints what the files show, and what must be believed in addition. The status is 1 if
 they do not show what evidence.json says.
 
   FOLDER          the folder with the files that ctwatch evidence or ctwatch --evidence wrote
   KEY.PEM         the file with the log's public key in PEM, from a log list and not from FOLDER
 
-ctfsck --version prints the version. ctwatch audit --sct judges a single answer of add-chain.
+ctfsck --version prints the version. ctwatch audit --sct checks a single answer of add-chain.
 `
 )
 
-// asksForHelp reports whether the arguments of the command line, or those after evidence, ask for the page.
-func asksForHelp(words []string) bool {
-	if len(words) > 1 && words[0] == "evidence" {
-		words = words[1:]
+// asksForHelp reports whether the arguments of the command line, or those after "evidence", ask for help.
+func asksForHelp(arguments []string) bool {
+	if len(arguments) > 1 && arguments[0] == "evidence" {
+		arguments = arguments[1:]
 	}
-	if len(words) == 0 {
+	if len(arguments) == 0 {
 		return false
 	}
-	return words[0] == "help" || words[0] == "--help" || words[0] == "-help" || words[0] == "-h"
+	return arguments[0] == "help" || arguments[0] == "--help" || arguments[0] == "-help" || arguments[0] == "-h"
 }
 
 func main() {
@@ -84,7 +85,7 @@ func main() {
 		report.Heads, report.Leaves, report.Repeats, report.Tiles, report.Issuers, report.Answers)
 }
 
-// readKey returns the public key of a file in PEM, as DER.
+// readKey returns the public key in a PEM file, as DER.
 func readKey(keyFile string) ([]byte, error) {
 	content, err := os.ReadFile(keyFile)
 	if err != nil {
@@ -92,7 +93,7 @@ func readKey(keyFile string) ([]byte, error) {
 	}
 	block, _ := pem.Decode(content)
 	if block == nil || block.Type != "PUBLIC KEY" {
-		return nil, fmt.Errorf("ctfsck: %s is no public key in PEM", keyFile)
+		return nil, fmt.Errorf("ctfsck: %s is not a public key in PEM", keyFile)
 	}
 	return block.Bytes, nil
 }
@@ -135,7 +136,7 @@ func judge(folder, keyFile string, answerFiles []string) (logcheck.Report, error
 	return report, err
 }
 
-// fetch copies a bucket into a folder, except the bundles.
+// fetch copies a bucket into a folder, except its staged batches.
 func fetch(address, folder string) error {
 	ctx := context.Background()
 	objects, err := stores.ObjectsAt(ctx, address)
@@ -147,7 +148,7 @@ func fetch(address, folder string) error {
 	return err
 }
 
-// maxLine is how long an answer's line may be.
+// maxLine is the maximum number of bytes of a line of an answers file.
 const maxLine = 1 << 20
 
 func readAnswers(name string, answers []logcheck.Answer) ([]logcheck.Answer, error) {
@@ -171,7 +172,7 @@ func readAnswers(name string, answers []logcheck.Answer) ([]logcheck.Answer, err
 		}
 		if field := missing(fields); field != "" {
 			return nil, fmt.Errorf("ctfsck: %s: not an answers file of ctload: line %d has no field %s "+
-				"(ctwatch audit --sct judges an answer of add-chain)", name, number, field)
+				"(ctwatch audit --sct checks an answer of add-chain)", name, number, field)
 		}
 		answers = append(answers, a)
 	}
@@ -181,8 +182,8 @@ func readAnswers(name string, answers []logcheck.Answer) ([]logcheck.Answer, err
 	return answers, nil
 }
 
-// missing returns the name of a field of logcheck.Answer that a line lacks, or nothing. The line of a precertificate has
-// issuer_key_hash and tbs_certificate, and the line of a certificate has certificate.
+// missing returns the name of a field of logcheck.Answer that a line lacks, or an empty text. The line of a
+// precertificate has issuer_key_hash and tbs_certificate, and the line of a certificate has certificate.
 func missing(fields map[string]json.RawMessage) string {
 	names := []string{"log_id", "timestamp", "extensions", "signature", "certificate"}
 	if fields["issuer_key_hash"] != nil || fields["tbs_certificate"] != nil {

@@ -27,7 +27,7 @@ var must = testutil.Must
 
 func TestMain(m *testing.M) { testutil.Main(m, main) }
 
-// log is one of one leaf, whose certificate is longer than a line of a scanner is by itself.
+// log is a log with one leaf, whose certificate is longer than the default maximum of a scanner's line.
 type log struct {
 	folder, key string
 	answer      logcheck.Answer
@@ -51,7 +51,7 @@ func newLog(t testing.TB) log {
 		byte(len(certificate)>>8), byte(len(certificate)&255))
 	entry = append(append(append(entry, certificate...), 0, 8), extensions...)
 	leaf := append([]byte{0, 0}, entry...)
-	// (the root of one leaf is the leaf's hash)
+	// The root of a tree with one leaf is the leaf's hash.
 	root := sha256.Sum256(append([]byte{0}, leaf...))
 	id := sha256.Sum256(der)
 	name := sha256.Sum256(append([]byte(origin+"\n\x05"), id[:]...))
@@ -75,7 +75,7 @@ func newLog(t testing.TB) log {
 	return l
 }
 
-// file is one with these answers.
+// file returns a file with these answers.
 func file(t testing.TB, answers ...logcheck.Answer) string {
 	path := filepath.Join(t.TempDir(), "answers")
 	var lines bytes.Buffer
@@ -86,12 +86,13 @@ func file(t testing.TB, answers ...logcheck.Answer) string {
 	return path
 }
 
-// TestJudge: all answers in all files are judged. A file that does not exist or has no key or answer is named.
+// TestJudge checks that all answers in all files are checked, and that the error names a file that does not exist or
+// has no key or answer.
 func TestJudge(t *testing.T) {
 	l := newLog(t)
 	report, err := judge(l.folder, l.key, []string{file(t, l.answer), file(t, l.answer, l.answer), file(t)})
-	if want := (logcheck.Report{Heads: 1, Leaves: 1, Tiles: 2, Answers: 3}); err != nil || report != want {
-		t.Fatalf("%+v, and not %+v: %v", report, want, err)
+	if expected := (logcheck.Report{Heads: 1, Leaves: 1, Tiles: 2, Answers: 3}); err != nil || report != expected {
+		t.Fatalf("%+v, expected %+v: %v", report, expected, err)
 	}
 	wrong := l.answer
 	wrong.Timestamp++
@@ -111,7 +112,7 @@ func TestJudge(t *testing.T) {
 		path := filepath.Join(t.TempDir(), "key")
 		must(t, os.WriteFile(path, []byte(text), 0o600))
 		if _, err := judge(l.folder, path, nil); err == nil ||
-			!strings.Contains(err.Error(), "is no public key in PEM") {
+			!strings.Contains(err.Error(), "is not a public key in PEM") {
 			t.Errorf("%s in place of a key: %v", what, err)
 		}
 	}
@@ -143,19 +144,19 @@ func TestJudge(t *testing.T) {
 	}
 }
 
-// TestRefusesOtherAnswers: a plain answer of add-chain is no line of an answers file, and neither is a line that lacks
-// one field. The error names the file, the line and the field.
+// TestRefusesOtherAnswers checks that an answer of add-chain is not accepted as a line of an answers file, nor a line
+// that lacks a field. The error names the file, the line and the field.
 func TestRefusesOtherAnswers(t *testing.T) {
 	l := newLog(t)
-	refused := func(what, text, due string) {
+	refused := func(what, text, expected string) {
 		t.Helper()
 		path := file(t, l.answer)
 		whole, err := os.ReadFile(path)
 		must(t, err)
 		must(t, os.WriteFile(path, append(whole, text+"\n"...), 0o600))
-		due = path + ": not an answers file of ctload: line 2 has no field " + due + " "
-		if _, err := judge(l.folder, l.key, []string{path}); err == nil || !strings.Contains(err.Error(), due) {
-			t.Errorf("%s: %v, and not %q", what, err, due)
+		expected = path + ": not an answers file of ctload: line 2 has no field " + expected + " "
+		if _, err := judge(l.folder, l.key, []string{path}); err == nil || !strings.Contains(err.Error(), expected) {
+			t.Errorf("%s: %v, expected %q", what, err, expected)
 		}
 	}
 	in := base64.StdEncoding.EncodeToString
@@ -188,29 +189,29 @@ func TestRefusesOtherAnswers(t *testing.T) {
 	}
 }
 
-// TestHelp: a request for help prints what each argument is on standard output, with status 0.
+// TestHelp checks that a request for help prints what each argument is on standard output, with status 0.
 func TestHelp(t *testing.T) {
-	for _, words := range [][]string{{"--help"}, {"-h"}, {"help"}, {"evidence", "--help"}} {
-		status, out, problem := testutil.Runs(t, words...)
+	for _, arguments := range [][]string{{"--help"}, {"-h"}, {"help"}, {"evidence", "--help"}} {
+		status, out, problem := testutil.Runs(t, arguments...)
 		if status != 0 || problem != "" {
-			t.Errorf("%q: status %d and %q", words, status, problem)
+			t.Errorf("%q: status %d and %q", arguments, status, problem)
 		}
-		for _, due := range []string{"\n  FOLDER|s3://.. ", "\n  KEY.PEM ", "\n  ANSWERS ", "\n  FOLDER "} {
-			if !strings.Contains(out, due) {
-				t.Errorf("%q: there is no %q in %q", words, due, out)
+		for _, expected := range []string{"\n  FOLDER|s3://.. ", "\n  KEY.PEM ", "\n  ANSWERS ", "\n  FOLDER "} {
+			if !strings.Contains(out, expected) {
+				t.Errorf("%q: there is no %q in %q", arguments, expected, out)
 			}
 		}
 	}
 }
 
-// TestStatus: a right log has status 0, a wrong one has status 1 and the reason on standard error, and missing
-// arguments have status 2.
+// TestStatus checks that a correct log has status 0, that a wrong one has status 1 and the reason on standard error,
+// and that missing arguments have status 2.
 func TestStatus(t *testing.T) {
 	l := newLog(t)
 	wrong := l.answer
 	wrong.LogID = make([]byte, 32)
 	for _, of := range []struct {
-		words        []string
+		arguments    []string
 		status       int
 		out, problem string
 	}{
@@ -222,10 +223,10 @@ func TestStatus(t *testing.T) {
 		{nil, 2, "", "ctfsck FOLDER"},
 		{[]string{"--version"}, 0, "ctfsck ", ""},
 	} {
-		if status, out, problem := testutil.Runs(t, of.words...); status != of.status || !strings.HasPrefix(out, of.out) ||
-			(of.out == "") != (out == "") ||
+		if status, out, problem := testutil.Runs(t, of.arguments...); status != of.status ||
+			!strings.HasPrefix(out, of.out) || (of.out == "") != (out == "") ||
 			!strings.Contains(problem, of.problem) || (of.problem == "") != (problem == "") {
-			t.Errorf("%q: status %d, %q and %q", of.words, status, out, problem)
+			t.Errorf("%q: status %d, %q and %q", of.arguments, status, out, problem)
 		}
 	}
 }

@@ -1,9 +1,9 @@
-// Command ctload submits certificates and precertificates of an authority of its own to the nodes of a log, and
-// measures how long they take. It adds its root to a file of roots before it begins, has a command tell the nodes, and
-// waits until each has that. Each timestamp is written as a line that ctfsck judges (logcheck.Answer). A submission that
-// isn't answered is sent again, to the next node, until it is.
+// Command ctload submits certificates and precertificates of its own CA to the nodes of a log, and measures how long
+// they take. Before it begins, it adds its root to a file of roots, runs a command that makes the nodes reload their
+// roots, and waits until each node has the root. It writes each SCT as a line that ctfsck checks (logcheck.Answer). If
+// a submission is not answered, ctload sends it to the next node, until it is answered.
 //
-// It ends after its time or at a signal, with status 1 where a submission was refused as wrong.
+// It ends after its time or at a signal. The status is 1 if a submission was refused as wrong.
 package main
 
 import (
@@ -40,30 +40,30 @@ type load struct {
 	answers *json.Encoder
 	// pace has a token for each submission if a rate is set.
 	pace <-chan time.Time
-	// made are submissions that were made before any was sent.
-	made chan submission
+	// prepared has the submissions that were made before the first one was sent.
+	prepared chan submission
 	results
 }
 
-// settings are what is submitted, to which nodes, and how often.
+// settings determine what is submitted, to which nodes, and how often.
 type settings struct {
-	nodes     []string
-	authority *fakelog.Authority
-	ends      time.Time
-	most      int
-	repeats   int
+	nodes      []string
+	authority  *fakelog.Authority
+	notAfter   time.Time
+	maxAnswers int
+	repeats    int
 }
 
-// results are the answers so far.
+// results has the answers so far.
 type results struct {
-	mu    sync.Mutex
-	took  []time.Duration
-	again map[string]int
-	past  []submission
-	count int
+	mu        sync.Mutex
+	latencies []time.Duration
+	retries   map[string]int
+	past      []submission
+	count     int
 }
 
-// submission is a body for add-chain or add-pre-chain, and what its timestamp has to be of.
+// submission is a body for add-chain or add-pre-chain, with the fields of its answer that are known in advance.
 type submission struct {
 	call string
 	body []byte
@@ -71,10 +71,11 @@ type submission struct {
 }
 
 const (
-	// maxDuration is how many latencies are kept, and maxPast how many submissions that may be repeated.
-	maxDuration, maxPast = 1 << 20, 1000
-	maxReply             = 1 << 20
-	answersWithin        = 30 * time.Second
+	// maxLatencies is the maximum number of latencies in memory, and maxPast the maximum number of submissions that may
+	// be repeated.
+	maxLatencies, maxPast = 1 << 20, 1000
+	maxReply              = 1 << 20
+	requestTimeout        = 30 * time.Second
 )
 
 func main() {
@@ -93,28 +94,28 @@ func run() error {
 	roots := flag.String("roots", "", "`file` of roots in PEM, to which its own is added")
 	reload := flag.String("reload", "",
 		"shell `command` that makes the nodes reload their roots, run after the root was written")
-	notAfter := flag.String("not-after", "",
-		"`day` on which the certificates expire, for example 2027-03-01 (default in half a year)")
-	answers := flag.String("answers", "", "`file` to which what was answered is added")
-	clients := flag.Int("clients", 8, "submissions at once")
+	day := flag.String("not-after", "",
+		"`day` on which the certificates expire, for example 2027-03-01. The default is in half a year")
+	answers := flag.String("answers", "", "`file` to which the answers are appended")
+	clients := flag.Int("clients", 8, "number of submissions at once")
 	rate := flag.Float64("rate", 0, "maximum number of submissions a second. 0 means no limit")
 	long := flag.Duration("for", 0, "`duration` of the run. 0 means until a signal")
-	most := flag.Int("most", 0, "end once so many were answered, and those that wait are, too; 0 is no end")
-	repeats := flag.Int("repeats", 5, "of 100 submissions so many are sent again")
-	tell := flag.Duration("tell", time.Minute, "`duration` between two lines with metrics")
-	ready := flag.Int("ready", 0, "so many submissions are made before the first is sent, so that making them takes "+
-		"nothing of the time")
+	maxAnswers := flag.Int("most", 0, "`number` of answers after which no new submission is sent. 0 means no end")
+	repeats := flag.Int("repeats", 5, "`number` of submissions of 100 that are sent again")
+	interval := flag.Duration("tell", time.Minute, "`duration` between two lines with metrics")
+	ready := flag.Int("ready", 0, "`number` of submissions that are made before the first is sent, so that the time "+
+		"to make them is not measured")
 	flag.Parse()
 	if *ready < 0 {
-		return fmt.Errorf("--ready is a number from 0")
+		return fmt.Errorf("--ready must be 0 or more")
 	}
 	if flag.NArg() > 0 {
 		return fmt.Errorf("unexpected argument %q (see --help)", flag.Arg(0))
 	}
-	ends := time.Now().AddDate(0, 6, 0)
-	if *notAfter != "" {
+	notAfter := time.Now().AddDate(0, 6, 0)
+	if *day != "" {
 		var err error
-		if ends, err = time.Parse("2006-01-02", *notAfter); err != nil {
+		if notAfter, err = time.Parse("2006-01-02", *day); err != nil {
 			return err
 		}
 	}
@@ -127,12 +128,12 @@ func run() error {
 		return err
 	}
 	defer file.Close()
-	l := &load{settings: settings{strings.Split(*nodes, ","), authority, ends, *most, *repeats},
-		answers: json.NewEncoder(file), results: results{again: map[string]int{}},
-		client: &http.Client{Timeout: answersWithin, Transport: &http.Transport{MaxIdleConnsPerHost: *clients}}}
+	l := &load{settings: settings{strings.Split(*nodes, ","), authority, notAfter, *maxAnswers, *repeats},
+		answers: json.NewEncoder(file), results: results{retries: map[string]int{}},
+		client: &http.Client{Timeout: requestTimeout, Transport: &http.Transport{MaxIdleConnsPerHost: *clients}}}
 	ctx, stop := signal.NotifyContext(context.Background(), syscall.SIGTERM, syscall.SIGINT)
 	defer stop()
-	if err := l.ready(ctx); err != nil {
+	if err := l.waitForRoot(ctx); err != nil {
 		return err
 	}
 	if *rate > 0 {
@@ -146,10 +147,10 @@ func run() error {
 		defer cancel()
 		ctx = timed
 	}
-	return l.all(ctx, *clients, *tell)
+	return l.runClients(ctx, *clients, *interval)
 }
 
-// newRoot makes a CA, adds its root to a file, and runs the command that makes the nodes reload their roots.
+// newRoot creates a CA, adds its root to a file, and runs the command that makes the nodes reload their roots.
 func newRoot(roots, reload string) (*fakelog.Authority, error) {
 	authority, err := fakelog.NewAuthority(fmt.Sprintf("An authority of %d", os.Getpid()))
 	if err != nil {
@@ -181,8 +182,8 @@ func add(path string, content []byte) error {
 	return file.Close()
 }
 
-// ready waits until each node has the authority among its roots.
-func (l *load) ready(ctx context.Context) error {
+// waitForRoot waits until each node has the CA among its roots.
+func (l *load) waitForRoot(ctx context.Context) error {
 	root := base64.StdEncoding.EncodeToString(l.authority.Root.Raw)
 	for _, node := range l.nodes {
 		for {
@@ -204,14 +205,14 @@ func (l *load) ready(ctx context.Context) error {
 	return nil
 }
 
-// all runs so many clients until the context ends or one fails.
-func (l *load) all(ctx context.Context, clients int, tell time.Duration) error {
+// runClients runs clients until the context ends or one fails.
+func (l *load) runClients(ctx context.Context, clients int, interval time.Duration) error {
 	ctx, cancel := context.WithCancel(ctx)
 	defer cancel()
-	began, failed := time.Now(), make(chan error, clients)
+	start, failed := time.Now(), make(chan error, clients)
 	for i := 0; i < clients; i++ {
 		go func(i int) {
-			err := l.one(ctx, i)
+			err := l.runClient(ctx, i)
 			if err != nil {
 				cancel()
 			}
@@ -225,17 +226,17 @@ func (l *load) all(ctx context.Context, clients int, tell time.Duration) error {
 			if left--; first == nil {
 				first = err
 			}
-		case <-time.After(tell):
-			fmt.Println(l.figures(time.Since(began)))
+		case <-time.After(interval):
+			fmt.Println(l.metrics(time.Since(start)))
 		}
 	}
-	fmt.Println(l.figures(time.Since(began)))
+	fmt.Println(l.metrics(time.Since(start)))
 	return first
 }
 
-// one is a client: it submits one after the other.
-func (l *load) one(ctx context.Context, number int) error {
-	chance := rand.New(rand.NewSource(time.Now().UnixNano() + int64(number)))
+// runClient runs one client, which sends one submission after the other.
+func (l *load) runClient(ctx context.Context, number int) error {
+	random := rand.New(rand.NewSource(time.Now().UnixNano() + int64(number)))
 	for ctx.Err() == nil && !l.isDone() {
 		if l.pace != nil {
 			select {
@@ -244,40 +245,40 @@ func (l *load) one(ctx context.Context, number int) error {
 				return nil
 			}
 		}
-		s, err := l.next(chance)
+		s, err := l.next(random)
 		if err != nil {
 			return err
 		}
-		began := time.Now()
+		start := time.Now()
 		answer, err := l.submit(ctx, s, number)
 		if err != nil || answer == nil {
 			return err
 		}
-		if err := l.keep(s, *answer, time.Since(began)); err != nil {
+		if err := l.store(s, *answer, time.Since(start)); err != nil {
 			return err
 		}
 	}
 	return nil
 }
 
-// isDone reports whether all requested submissions were answered.
+// isDone reports whether the requested number of submissions was answered.
 func (l *load) isDone() bool {
 	l.mu.Lock()
 	defer l.mu.Unlock()
-	return l.most > 0 && l.count >= l.most
+	return l.maxAnswers > 0 && l.count >= l.maxAnswers
 }
 
-// prepare makes so many submissions.
-func (l *load) prepare(many int) error {
-	l.made = make(chan submission, many)
+// prepare makes this number of submissions.
+func (l *load) prepare(count int) error {
+	l.prepared = make(chan submission, count)
 	all := errgroup.Group{}
 	all.SetLimit(runtime.GOMAXPROCS(0))
-	for number := 0; number < many; number++ {
-		chance := rand.New(rand.NewSource(int64(number)))
+	for number := 0; number < count; number++ {
+		random := rand.New(rand.NewSource(int64(number)))
 		all.Go(func() error {
-			made, err := l.make(chance)
+			made, err := l.make(random)
 			if err == nil {
-				l.made <- made
+				l.prepared <- made
 			}
 			return err
 		})
@@ -285,42 +286,42 @@ func (l *load) prepare(many int) error {
 	return all.Wait()
 }
 
-// next is a new submission, or one that was answered before.
-func (l *load) next(chance *rand.Rand) (submission, error) {
+// next returns a new submission, or repeats one that was answered before.
+func (l *load) next(random *rand.Rand) (submission, error) {
 	l.mu.Lock()
-	if len(l.past) > 0 && chance.Intn(100) < l.repeats {
+	if len(l.past) > 0 && random.Intn(100) < l.repeats {
 		defer l.mu.Unlock()
-		return l.past[chance.Intn(len(l.past))], nil
+		return l.past[random.Intn(len(l.past))], nil
 	}
 	l.mu.Unlock()
 	select {
-	case made := <-l.made:
+	case made := <-l.prepared:
 		return made, nil
 	default:
-		return l.make(chance)
+		return l.make(random)
 	}
 }
 
-// make makes a new submission, a precertificate's of three.
-func (l *load) make(chance *rand.Rand) (submission, error) {
-	if chance.Intn(3) > 0 {
-		der, err := l.authority.Issue(false, l.ends)
+// make makes a new submission. One in three is a precertificate.
+func (l *load) make(random *rand.Rand) (submission, error) {
+	if random.Intn(3) > 0 {
+		der, err := l.authority.Issue(false, l.notAfter)
 		return submission{"add-chain", fakelog.Submission(der), logcheck.Answer{Certificate: der}}, err
 	}
-	der, tbs, err := l.authority.IssuePair(l.ends)
+	der, tbs, err := l.authority.IssuePair(l.notAfter)
 	issuer := sha256.Sum256(l.authority.Root.RawSubjectPublicKeyInfo)
 	return submission{"add-pre-chain", fakelog.Submission(der),
 		logcheck.Answer{IssuerKeyHash: issuer[:], TBSCertificate: tbs}}, err
 }
 
-// submit asks node after node until one answers; nothing where the context ended before.
+// submit sends a submission to one node after the other until one answers. It returns nil if the context ends before.
 func (l *load) submit(ctx context.Context, s submission, at int) (*logcheck.Answer, error) {
 	for ; ctx.Err() == nil; at++ {
 		status, reply, err := l.post(ctx, l.nodes[at%len(l.nodes)]+"/ct/v1/"+s.call, s.body)
 		why := "no answer"
 		if err == nil {
 			if status == http.StatusOK {
-				return answered(s, reply)
+				return readAnswer(s, reply)
 			}
 			if why = fmt.Sprint(status); status < 500 && status != http.StatusTooManyRequests {
 				return nil, fmt.Errorf("%s: %d: %s", s.call, status, reply)
@@ -328,7 +329,7 @@ func (l *load) submit(ctx context.Context, s submission, at int) (*logcheck.Answ
 		}
 		if ctx.Err() == nil {
 			l.mu.Lock()
-			l.again[why]++
+			l.retries[why]++
 			l.mu.Unlock()
 			time.Sleep(200 * time.Millisecond)
 		}
@@ -351,8 +352,8 @@ func (l *load) post(ctx context.Context, address string, body []byte) (int, []by
 	return reply.StatusCode, text, err
 }
 
-// answered reads a signed certificate timestamp (RFC 6962, section 4.1).
-func answered(s submission, reply []byte) (*logcheck.Answer, error) {
+// readAnswer reads an SCT (RFC 6962, section 4.1).
+func readAnswer(s submission, reply []byte) (*logcheck.Answer, error) {
 	var read struct {
 		Version    int    `json:"sct_version"`
 		ID         []byte `json:"id"`
@@ -368,8 +369,8 @@ func answered(s submission, reply []byte) (*logcheck.Answer, error) {
 	return &of, nil
 }
 
-// keep writes an answer down, with how long it took.
-func (l *load) keep(s submission, answer logcheck.Answer, took time.Duration) error {
+// store writes an answer to the file, and stores its latency.
+func (l *load) store(s submission, answer logcheck.Answer, latency time.Duration) error {
 	l.mu.Lock()
 	defer l.mu.Unlock()
 	if l.count++; len(l.past) < maxPast {
@@ -377,30 +378,30 @@ func (l *load) keep(s submission, answer logcheck.Answer, took time.Duration) er
 	} else {
 		l.past[l.count%maxPast] = s
 	}
-	if len(l.took) < maxDuration {
-		l.took = append(l.took, took)
+	if len(l.latencies) < maxLatencies {
+		l.latencies = append(l.latencies, latency)
 	} else {
-		l.took[l.count%maxDuration] = took
+		l.latencies[l.count%maxLatencies] = latency
 	}
 	return l.answers.Encode(answer)
 }
 
-// figures is a line with what was seen.
-func (l *load) figures(since time.Duration) string {
+// metrics returns a line with the metrics so far.
+func (l *load) metrics(since time.Duration) string {
 	l.mu.Lock()
 	defer l.mu.Unlock()
-	took := append([]time.Duration{}, l.took...)
-	sort.Slice(took, func(i, j int) bool { return took[i] < took[j] })
-	at := func(part float64) float64 {
-		if len(took) == 0 {
+	latencies := append([]time.Duration{}, l.latencies...)
+	sort.Slice(latencies, func(i, j int) bool { return latencies[i] < latencies[j] })
+	percentile := func(part float64) float64 {
+		if len(latencies) == 0 {
 			return 0
 		}
-		return took[int(part*float64(len(took)-1))].Seconds()
+		return latencies[int(part*float64(len(latencies)-1))].Seconds()
 	}
 	line := fmt.Sprintf("%d answered in %.1f s: %.1f a second; median %.3f s, 99th percentile %.3f s, longest %.3f s",
-		l.count, since.Seconds(), float64(l.count)/since.Seconds(), at(0.5), at(0.99), at(1))
-	if len(l.again) > 0 {
-		line += fmt.Sprintf("; sent again: %v", l.again)
+		l.count, since.Seconds(), float64(l.count)/since.Seconds(), percentile(0.5), percentile(0.99), percentile(1))
+	if len(l.retries) > 0 {
+		line += fmt.Sprintf("; sent again: %v", l.retries)
 	}
 	return line
 }

@@ -27,22 +27,22 @@ var must = testutil.Must
 
 func limited(t testing.TB) context.Context { return testutil.Limited(t, testutil.Longest) }
 
-// node is a node of a log that answers as the test says.
+// node is a node of a log whose answers are determined by the test.
 type node struct {
 	*httptest.Server
-	mu    sync.Mutex
-	asked []*http.Request
-	says  func(nth int, w http.ResponseWriter)
+	mu       sync.Mutex
+	requests []*http.Request
+	answer   func(nth int, w http.ResponseWriter)
 }
 
-func newNode(t testing.TB, says func(nth int, w http.ResponseWriter)) *node {
-	n := &node{says: says}
+func newNode(t testing.TB, answer func(nth int, w http.ResponseWriter)) *node {
+	n := &node{answer: answer}
 	n.Server = httptest.NewServer(http.HandlerFunc(func(w http.ResponseWriter, q *http.Request) {
 		n.mu.Lock()
-		n.asked = append(n.asked, q)
-		nth := len(n.asked)
+		n.requests = append(n.requests, q)
+		nth := len(n.requests)
 		n.mu.Unlock()
-		n.says(nth, w)
+		n.answer(nth, w)
 	}))
 	t.Cleanup(n.Close)
 	return n
@@ -51,21 +51,21 @@ func newNode(t testing.TB, says func(nth int, w http.ResponseWriter)) *node {
 func (n *node) count() int {
 	n.mu.Lock()
 	defer n.mu.Unlock()
-	return len(n.asked)
+	return len(n.requests)
 }
 
 const timestamp = `{"sct_version":0,"id":"AQI=","timestamp":7,"extensions":"AwQ=","signature":"BQY="}`
 
-func right(_ int, w http.ResponseWriter) { fmt.Fprint(w, timestamp) }
+func answerRight(_ int, w http.ResponseWriter) { fmt.Fprint(w, timestamp) }
 
-// loadOf is a load on nodes, whose answers are written into a text.
+// loadOf returns a load on nodes, and the text to which its answers are written.
 func loadOf(t testing.TB, nodes ...*node) (*load, *bytes.Buffer) {
 	authority, err := fakelog.NewAuthority("An authority of tests")
 	must(t, err)
 	var answers bytes.Buffer
-	l := &load{settings: settings{authority: authority, ends: time.Now().AddDate(0, 6, 0)},
-		answers: json.NewEncoder(&answers), results: results{again: map[string]int{}},
-		client: &http.Client{Timeout: answersWithin}}
+	l := &load{settings: settings{authority: authority, notAfter: time.Now().AddDate(0, 6, 0)},
+		answers: json.NewEncoder(&answers), results: results{retries: map[string]int{}},
+		client: &http.Client{Timeout: requestTimeout}}
 	for _, n := range nodes {
 		l.nodes = append(l.nodes, n.URL)
 	}
@@ -74,24 +74,24 @@ func loadOf(t testing.TB, nodes ...*node) (*load, *bytes.Buffer) {
 
 var some = submission{"add-chain", []byte(`{"chain":[]}`), logcheck.Answer{Certificate: []byte("a certificate")}}
 
-// TestSubmit: after an answer that a node is busy, late or broken, the next node is asked. A submission that is refused
-// as wrong is not repeated. Answers are stored with their entries.
+// TestSubmit checks that after an answer that a node is busy, late or broken, the next node is asked, that a submission
+// that is refused as wrong is not repeated, and that answers are returned with their entries.
 func TestSubmit(t *testing.T) {
 	busy := newNode(t, func(_ int, w http.ResponseWriter) { w.WriteHeader(http.StatusServiceUnavailable) })
 	many := newNode(t, func(_ int, w http.ResponseWriter) { w.WriteHeader(http.StatusTooManyRequests) })
-	answers := newNode(t, right)
+	answers := newNode(t, answerRight)
 	l, _ := loadOf(t, answers, busy, many)
 	answer, err := l.submit(limited(t), some, 1)
-	want := logcheck.Answer{Certificate: []byte("a certificate"), Timestamp: 7, Extensions: []byte{3, 4},
+	expected := logcheck.Answer{Certificate: []byte("a certificate"), Timestamp: 7, Extensions: []byte{3, 4},
 		Signature: []byte{5, 6}, LogID: []byte{1, 2}}
-	if err != nil || fmt.Sprint(*answer) != fmt.Sprint(want) {
+	if err != nil || fmt.Sprint(*answer) != fmt.Sprint(expected) {
 		t.Fatalf("%+v, %v", answer, err)
 	}
-	if busy.count() != 1 || many.count() != 1 || answers.count() != 1 || fmt.Sprint(l.again) != "map[429:1 503:1]" {
-		t.Errorf("asked %d, %d and %d times; again: %v", busy.count(), many.count(), answers.count(), l.again)
+	if busy.count() != 1 || many.count() != 1 || answers.count() != 1 || fmt.Sprint(l.retries) != "map[429:1 503:1]" {
+		t.Errorf("asked %d, %d and %d times; again: %v", busy.count(), many.count(), answers.count(), l.retries)
 	}
 	for _, n := range []*node{busy, answers} {
-		if q := n.asked[0]; q.Method != "POST" || q.URL.Path != "/ct/v1/add-chain" ||
+		if q := n.requests[0]; q.Method != "POST" || q.URL.Path != "/ct/v1/add-chain" ||
 			q.Header.Get("Content-Type") != "application/json" {
 			t.Errorf("%s %s, %q", q.Method, q.URL.Path, q.Header)
 		}
@@ -108,27 +108,28 @@ func TestSubmit(t *testing.T) {
 			t.Errorf("%d: %+v, %v, asked %d times", status, answer, err, wrong.count())
 		}
 	}
-	gone, cancel := context.WithCancel(context.Background())
+	ended, cancel := context.WithCancel(context.Background())
 	cancel()
-	if answer, err := l.submit(gone, some, 0); answer != nil || err != nil || answers.count() != 1 {
-		t.Errorf("who is gone: %+v, %v", answer, err)
+	if answer, err := l.submit(ended, some, 0); answer != nil || err != nil || answers.count() != 1 {
+		t.Errorf("after the end: %+v, %v", answer, err)
 	}
-	// (what isn't answered since the end came isn't sent again)
+	// A submission that is not answered before the end is not sent again.
 	ending, cancel := context.WithCancel(context.Background())
 	l, _ = loadOf(t, newNode(t, func(_ int, w http.ResponseWriter) {
 		cancel()
 		w.WriteHeader(http.StatusServiceUnavailable)
 	}))
-	if answer, err := l.submit(ending, some, 0); answer != nil || err != nil || len(l.again) != 0 {
-		t.Errorf("at the end: %+v, %v; again: %v", answer, err, l.again)
+	if answer, err := l.submit(ending, some, 0); answer != nil || err != nil || len(l.retries) != 0 {
+		t.Errorf("at the end: %+v, %v; again: %v", answer, err, l.retries)
 	}
 }
 
-// TestAnswered: an answer that is not an SCT of version 1 is an error.
-func TestAnswered(t *testing.T) {
+// TestReadAnswer checks that an answer that is not an SCT of version 1 is an error.
+func TestReadAnswer(t *testing.T) {
 	for _, reply := range []string{"", "x", "[]", strings.Replace(timestamp, `"sct_version":0`, `"sct_version":1`, 1),
 		strings.Replace(timestamp, "7", `"7"`, 1), strings.Replace(timestamp, "AQI=", "AQI", 1)} {
-		if answer, err := answered(some, []byte(reply)); err == nil || !strings.Contains(err.Error(), "no timestamp") ||
+		if answer, err := readAnswer(some, []byte(reply)); err == nil || !strings.Contains(err.Error(),
+			"no timestamp") ||
 			answer != nil {
 			t.Errorf("%q: %+v, %v", reply, answer, err)
 		}
@@ -141,111 +142,111 @@ type zeros struct{}
 func (zeros) Int63() int64 { return 0 }
 func (zeros) Seed(int64)   {}
 
-// TestNext: without repeats nothing is submitted twice, and with nothing but repeats what was answered is.
+// TestNext checks that nothing is submitted twice if repeats is 0, and that a past submission is repeated otherwise.
 func TestNext(t *testing.T) {
 	l, _ := loadOf(t)
-	chance := rand.New(zeros{})
-	must(t, l.keep(some, logcheck.Answer{}, time.Second))
-	s, err := l.next(chance)
+	random := rand.New(zeros{})
+	must(t, l.store(some, logcheck.Answer{}, time.Second))
+	s, err := l.next(random)
 	if must(t, err); s.call != "add-pre-chain" || len(s.of.TBSCertificate) == 0 || len(s.of.IssuerKeyHash) != 32 ||
 		s.of.Certificate != nil {
 		t.Errorf("%s of %+v", s.call, s.of)
 	}
 	l.repeats = 1
-	if s, err = l.next(chance); err != nil || s.call != "add-chain" || string(s.of.Certificate) != "a certificate" {
+	if s, err = l.next(random); err != nil || s.call != "add-chain" || string(s.of.Certificate) != "a certificate" {
 		t.Errorf("%s of %+v, %v", s.call, s.of, err)
 	}
 }
 
-// TestPrepared: prepared certificates are submitted first, each once. New ones are made after them.
+// TestPrepared checks that prepared submissions are sent first, each once, and that new ones are made after them.
 func TestPrepared(t *testing.T) {
 	l, _ := loadOf(t)
 	must(t, l.prepare(20))
-	if len(l.made) != 20 {
-		t.Fatalf("%d were made", len(l.made))
+	if len(l.prepared) != 20 {
+		t.Fatalf("%d are prepared", len(l.prepared))
 	}
 	seen, calls := map[string]bool{}, map[string]int{}
 	for i := 0; i < 25; i++ {
 		s, err := l.next(rand.New(zeros{}))
 		must(t, err)
 		if seen[string(s.body)] {
-			t.Errorf("%d: %s comes again", i, s.call)
+			t.Errorf("%d: %s is repeated", i, s.call)
 		}
 		seen[string(s.body)] = true
 		calls[s.call]++
 	}
-	if len(l.made) != 0 || calls["add-chain"] == 0 || calls["add-pre-chain"] == 0 {
-		t.Errorf("%d are left, of %v", len(l.made), calls)
+	if len(l.prepared) != 0 || calls["add-chain"] == 0 || calls["add-pre-chain"] == 0 {
+		t.Errorf("%d are left, of %v", len(l.prepared), calls)
 	}
 }
 
-// TestKeep: each answer is written down, with its latency and its submission; of these two some are kept, however many
-// there are.
-func TestKeep(t *testing.T) {
+// TestStore checks that each answer is written, and that its latency and its submission are stored up to a maximum
+// number.
+func TestStore(t *testing.T) {
 	l, answers := loadOf(t)
 	for i := 0; i < maxPast+3; i++ {
 		one := some
 		one.call = fmt.Sprint(i)
-		must(t, l.keep(one, logcheck.Answer{Timestamp: uint64(i)}, time.Duration(i)*time.Millisecond))
+		must(t, l.store(one, logcheck.Answer{Timestamp: uint64(i)}, time.Duration(i)*time.Millisecond))
 	}
 	calls := map[string]bool{}
 	for _, one := range l.past {
 		calls[one.call] = true
 	}
 	if l.count != maxPast+3 || len(l.past) != maxPast || len(calls) != maxPast || !calls[fmt.Sprint(maxPast+2)] ||
-		len(l.took) != maxPast+3 {
+		len(l.latencies) != maxPast+3 {
 		t.Errorf("%d answers, %d submissions of which %d differ, %d latencies", l.count, len(l.past),
-			len(calls), len(l.took))
+			len(calls), len(l.latencies))
 	}
 	if lines := strings.Count(answers.String(), "\n"); lines != maxPast+3 ||
 		!strings.Contains(answers.String(), fmt.Sprintf(`"timestamp":%d,`, maxPast+2)) {
 		t.Errorf("%d lines", lines)
 	}
-	// The newest latencies are kept too.
-	l.took, l.answers = make([]time.Duration, maxDuration), json.NewEncoder(io.Discard)
+	// The newest latencies are also stored.
+	l.latencies, l.answers = make([]time.Duration, maxLatencies), json.NewEncoder(io.Discard)
 	for i := 0; i < 3; i++ {
-		must(t, l.keep(some, logcheck.Answer{}, time.Hour))
+		must(t, l.store(some, logcheck.Answer{}, time.Hour))
 	}
 	hours := 0
-	for _, took := range l.took {
-		if took == time.Hour {
+	for _, latency := range l.latencies {
+		if latency == time.Hour {
 			hours++
 		}
 	}
-	if len(l.took) != maxDuration || hours != 3 {
-		t.Errorf("%d latencies are kept, and %d of the last three", len(l.took), hours)
+	if len(l.latencies) != maxLatencies || hours != 3 {
+		t.Errorf("%d latencies are stored, and %d of the last three", len(l.latencies), hours)
 	}
 	full := errors.New("the disk is full")
 	l.answers = json.NewEncoder(failing{full})
-	if err := l.keep(some, logcheck.Answer{}, 0); !errors.Is(err, full) {
+	if err := l.store(some, logcheck.Answer{}, 0); !errors.Is(err, full) {
 		t.Error(err)
 	}
 }
 
-// failing takes nothing.
+// failing is a writer that fails.
 type failing struct{ why error }
 
 func (f failing) Write([]byte) (int, error) { return 0, f.why }
 
-// TestFigures: the median, the 99th percentile and the longest of what was kept.
-func TestFigures(t *testing.T) {
+// TestMetrics checks the median, the 99th percentile and the maximum of the latencies.
+func TestMetrics(t *testing.T) {
 	l, _ := loadOf(t)
-	if line := l.figures(2 * time.Second); line != "0 answered in 2.0 s: 0.0 a second; median 0.000 s, 99th "+
+	if line := l.metrics(2 * time.Second); line != "0 answered in 2.0 s: 0.0 a second; median 0.000 s, 99th "+
 		"percentile 0.000 s, longest 0.000 s" {
 		t.Error(line)
 	}
 	for i := 100; i >= 0; i-- {
-		l.took, l.count = append(l.took, time.Duration(i)*time.Millisecond), l.count+1
+		l.latencies, l.count = append(l.latencies, time.Duration(i)*time.Millisecond), l.count+1
 	}
-	l.again["503"] = 2
-	if line := l.figures(2 * time.Second); line != "101 answered in 2.0 s: 50.5 a second; median 0.050 s, 99th "+
+	l.retries["503"] = 2
+	if line := l.metrics(2 * time.Second); line != "101 answered in 2.0 s: 50.5 a second; median 0.050 s, 99th "+
 		"percentile 0.099 s, longest 0.100 s; sent again: map[503:2]" {
 		t.Error(line)
 	}
 }
 
-// TestReady: each node is asked until its roots have the CA. The wait ends with the program.
-func TestReady(t *testing.T) {
+// TestWaitForRoot checks that each node is asked until its roots have the CA, and that the wait ends with the program.
+func TestWaitForRoot(t *testing.T) {
 	var l *load
 	slow := newNode(t, func(nth int, w http.ResponseWriter) {
 		switch root := base64.StdEncoding.EncodeToString(l.authority.Root.Raw); nth {
@@ -258,35 +259,35 @@ func TestReady(t *testing.T) {
 		}
 	})
 	l, _ = loadOf(t, slow)
-	must(t, l.ready(limited(t)))
-	if slow.count() != 3 || slow.asked[0].URL.Path != "/ct/v1/get-roots" {
+	must(t, l.waitForRoot(limited(t)))
+	if slow.count() != 3 || slow.requests[0].URL.Path != "/ct/v1/get-roots" {
 		t.Errorf("asked %d times", slow.count())
 	}
 	never := newNode(t, func(_ int, w http.ResponseWriter) { fmt.Fprint(w, `{"certificates":[]}`) })
 	l, _ = loadOf(t, never)
-	gone, cancel := context.WithCancel(context.Background())
+	ended, cancel := context.WithCancel(context.Background())
 	cancel()
-	came := make(chan error, 1)
-	go func() { came <- l.ready(gone) }()
+	errs := make(chan error, 1)
+	go func() { errs <- l.waitForRoot(ended) }()
 	select {
-	case err := <-came:
+	case err := <-errs:
 		if !errors.Is(err, context.Canceled) {
 			t.Error(err)
 		}
 	case <-limited(t).Done():
-		t.Error("who is gone waits")
+		t.Error("the wait does not end with its context")
 	}
 }
 
-// TestAll: clients end where as many were answered as were to be, each of which is written down; and all end where one
-// is refused, by why.
-func TestAll(t *testing.T) {
-	answers := newNode(t, right)
+// TestRunClients checks that clients end after the requested number of answers, each of which is written. If one is
+// refused, all end with the reason.
+func TestRunClients(t *testing.T) {
+	answers := newNode(t, answerRight)
 	l, written := loadOf(t, answers)
-	l.most = 5
-	must(t, l.all(limited(t), 1, time.Minute))
+	l.maxAnswers = 5
+	must(t, l.runClients(limited(t), 1, time.Minute))
 	if l.count != 5 || answers.count() != 5 || strings.Count(written.String(), "\n") != 5 {
-		t.Errorf("%d answered of %d asked, %d written down", l.count, answers.count(),
+		t.Errorf("%d answers of %d requests, %d written", l.count, answers.count(),
 			strings.Count(written.String(), "\n"))
 	}
 	refuses := newNode(t, func(nth int, w http.ResponseWriter) {
@@ -294,23 +295,23 @@ func TestAll(t *testing.T) {
 			w.WriteHeader(http.StatusBadRequest)
 			return
 		}
-		right(nth, w)
+		answerRight(nth, w)
 	})
 	l, _ = loadOf(t, refuses)
-	asks := time.AfterFunc(testutil.Longest, func() { l.mu.Lock(); defer l.mu.Unlock(); l.most = 1 })
-	defer asks.Stop()
-	err := l.all(limited(t), 3, time.Minute)
+	timeout := time.AfterFunc(testutil.Longest, func() { l.mu.Lock(); defer l.mu.Unlock(); l.maxAnswers = 1 })
+	defer timeout.Stop()
+	err := l.runClients(limited(t), 3, time.Minute)
 	if err == nil || !strings.Contains(err.Error(), ": 400: ") {
 		t.Errorf("one is refused: %v", err)
 	}
 	l.mu.Lock()
 	defer l.mu.Unlock()
-	if l.most != 0 {
-		t.Error("one is refused, and the others go on")
+	if l.maxAnswers != 0 {
+		t.Error("one is refused, and the others continue")
 	}
 }
 
-// TestAdd: new lines of a file come after the existing ones.
+// TestAdd checks that add appends to a file.
 func TestAdd(t *testing.T) {
 	path := filepath.Join(t.TempDir(), "roots.pem")
 	for _, text := range []string{"one\n", "two\n"} {
@@ -321,7 +322,7 @@ func TestAdd(t *testing.T) {
 	}
 	for _, wrong := range []string{filepath.Join(path, "x"), "/dev/full"} {
 		if err := add(wrong, []byte("x")); err == nil {
-			t.Errorf("something is added to %s", wrong)
+			t.Errorf("text is appended to %s", wrong)
 		}
 	}
 }

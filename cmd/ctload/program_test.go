@@ -22,22 +22,22 @@ import (
 
 func TestMain(m *testing.M) { testutil.Main(m, main) }
 
-// TestProgram: its root is added to the file before the command that has nodes read it, its certificates end on the day
-// that is given, and what is answered is added to the answers.
+// TestProgram checks that the program adds its root to the file before it runs the command that makes the nodes reload
+// it, that its certificates expire on the given day, and that it appends the answers to the file.
 func TestProgram(t *testing.T) {
 	folder := t.TempDir()
 	roots, answers, reloaded := filepath.Join(folder, "roots.pem"), filepath.Join(folder, "answers"),
 		filepath.Join(folder, "reloaded")
 	must(t, os.WriteFile(answers, []byte("{}\n"), 0o600))
-	var submitted, asked atomic.Int32
+	var submitted, rootRequests atomic.Int32
 	server := httptest.NewServer(http.HandlerFunc(func(w http.ResponseWriter, q *http.Request) {
 		if q.URL.Path == "/ct/v1/get-roots" {
 			// The nodes reload their roots a little after the command.
-			if asked.Add(1) == 1 {
+			if rootRequests.Add(1) == 1 {
 				return
 			}
 			if submitted.Load() > 0 {
-				t.Error("something is submitted before its root is there")
+				t.Error("something is submitted before a node has the root")
 			}
 			text, _ := os.ReadFile(reloaded)
 			for block, rest := pem.Decode(text); block != nil; block, rest = pem.Decode(rest) {
@@ -47,14 +47,15 @@ func TestProgram(t *testing.T) {
 		}
 		submitted.Add(1)
 		_, _ = io.Copy(io.Discard, q.Body)
-		right(0, w)
+		answerRight(0, w)
 	}))
 	defer server.Close()
-	words := []string{"--nodes", server.URL, "--roots", roots, "--answers", answers, "--clients", "1", "--most", "6",
+	arguments := []string{"--nodes", server.URL, "--roots", roots, "--answers", answers, "--clients", "1", "--most",
+		"6",
 		"--repeats", "0", "--not-after", "2027-03-01", "--reload", "cp " + roots + " " + reloaded}
-	status, out, problem := testutil.Runs(t, words...)
-	if asked.Load() < 2 {
-		t.Error("its root isn't waited for")
+	status, out, problem := testutil.Runs(t, arguments...)
+	if rootRequests.Load() < 2 {
+		t.Error("the program does not wait for its root")
 	}
 	if status != 0 || problem != "" || !strings.HasPrefix(out, "6 answered in ") || submitted.Load() != 6 {
 		t.Fatalf("status %d, %q and %q, %d submitted", status, out, problem, submitted.Load())
@@ -74,25 +75,25 @@ func TestProgram(t *testing.T) {
 		if len(answer.Certificate) > 0 {
 			certificate, err := x509.ParseCertificate(answer.Certificate)
 			if must(t, err); !certificate.NotAfter.Equal(time.Date(2027, 3, 1, 0, 0, 0, 0, time.UTC)) {
-				t.Errorf("a certificate ends %v", certificate.NotAfter)
+				t.Errorf("a certificate expires at %v", certificate.NotAfter)
 			}
 		}
 	}
 	// An impossible setting is an error with status 1, and nothing is submitted.
 	for _, of := range []struct {
-		words []string
-		says  string
+		arguments []string
+		expected  string
 	}{
-		{append(words, "--not-after", "tomorrow"), "tomorrow"},
-		{append(words, "--reload", "exit 3"), "exit status 3"},
-		{append(words, "--roots", filepath.Join(folder, "nowhere", "roots.pem")), "no such file"},
-		{append(words, "--answers", filepath.Join(folder, "nowhere", "answers")), "no such file"},
-		{append(words, "word"), `unexpected argument "word"`},
-		{append(words, "--ready", "-1"), "--ready is a number from 0"},
+		{append(arguments, "--not-after", "tomorrow"), "tomorrow"},
+		{append(arguments, "--reload", "exit 3"), "exit status 3"},
+		{append(arguments, "--roots", filepath.Join(folder, "nowhere", "roots.pem")), "no such file"},
+		{append(arguments, "--answers", filepath.Join(folder, "nowhere", "answers")), "no such file"},
+		{append(arguments, "word"), `unexpected argument "word"`},
+		{append(arguments, "--ready", "-1"), "--ready must be 0 or more"},
 	} {
-		if status, out, problem := testutil.Runs(t, of.words...); status != 1 || out != "" ||
-			!strings.Contains(problem, of.says) || submitted.Load() != 6 {
-			t.Errorf("%q: status %d, %q and %q", of.says, status, out, problem)
+		if status, out, problem := testutil.Runs(t, of.arguments...); status != 1 || out != "" ||
+			!strings.Contains(problem, of.expected) || submitted.Load() != 6 {
+			t.Errorf("%q: status %d, %q and %q", of.expected, status, out, problem)
 		}
 	}
 	if status, out, _ := testutil.Runs(t, "--version"); status != 0 || !strings.HasPrefix(out, "ctload ") {
@@ -100,13 +101,13 @@ func TestProgram(t *testing.T) {
 	}
 }
 
-// TestTimed: the program ends after its duration, even if no node answers. A submission that is refused as wrong has
-// status 1.
+// TestTimed checks that the program ends after its duration, even if no node answers, and that the status is 1 if a
+// submission is refused as wrong.
 func TestTimed(t *testing.T) {
 	folder := t.TempDir()
 	roots := filepath.Join(folder, "roots.pem")
-	// (what a process asked that has ended may be answered still)
-	var refuses atomic.Bool
+	// The server may still answer requests of a process that has ended.
+	var refusesAll atomic.Bool
 	server := httptest.NewServer(http.HandlerFunc(func(w http.ResponseWriter, q *http.Request) {
 		switch {
 		case q.URL.Path == "/ct/v1/get-roots":
@@ -114,21 +115,21 @@ func TestTimed(t *testing.T) {
 			for block, rest := pem.Decode(text); block != nil; block, rest = pem.Decode(rest) {
 				fmt.Fprintf(w, "%s\n", base64.StdEncoding.EncodeToString(block.Bytes))
 			}
-		case refuses.Load():
+		case refusesAll.Load():
 			w.WriteHeader(http.StatusBadRequest)
 		default:
 			w.WriteHeader(http.StatusServiceUnavailable)
 		}
 	}))
 	defer server.Close()
-	words := []string{"--nodes", server.URL, "--roots", roots, "--answers", filepath.Join(folder, "answers"),
+	arguments := []string{"--nodes", server.URL, "--roots", roots, "--answers", filepath.Join(folder, "answers"),
 		"--rate", "1000"}
-	if status, out, problem := testutil.Runs(t, append(words, "--for", "100ms")...); status != 0 || problem != "" ||
+	if status, out, problem := testutil.Runs(t, append(arguments, "--for", "100ms")...); status != 0 || problem != "" ||
 		!strings.HasPrefix(out, "0 answered in ") {
 		t.Errorf("status %d, %q and %q", status, out, problem)
 	}
-	refuses.Store(true)
-	if status, _, problem := testutil.Runs(t, append(words, "--for", "1h")...); status != 1 ||
+	refusesAll.Store(true)
+	if status, _, problem := testutil.Runs(t, append(arguments, "--for", "1h")...); status != 1 ||
 		!strings.Contains(problem, ": 400: ") {
 		t.Errorf("status %d, %q", status, problem)
 	}

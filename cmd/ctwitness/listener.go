@@ -9,26 +9,26 @@ import (
 	"wagtenib/internal/httpserver"
 )
 
-// maxOfAddress is how many connections one address has at once, an eighth of all: one host must not keep a witness from
-// the others. A /64 of IPv6 counts as one.
-const maxOfAddress = maxConnections / 8
+// maxPerAddress is the maximum number of connections from one address, an eighth of all, so that one host cannot keep
+// the others from the witness. All addresses of an IPv6 /64 network count as one.
+const maxPerAddress = maxConnections / 8
 
-// bounded is a listener with a maximum number of connections. Further ones wait. A connection above the bound of its
-// address is closed.
-type bounded struct {
+// limitedListener is a listener with a maximum number of connections. Further ones wait. A connection above the limit
+// of its address is closed.
+type limitedListener struct {
 	net.Listener
-	room      chan struct{}
+	slots     chan struct{}
 	byAddress *addresses
 }
 
-// addresses counts connections by their address.
+// addresses counts connections by their network.
 type addresses struct {
-	mu sync.Mutex
-	of map[netip.Prefix]int
+	mu          sync.Mutex
+	connections map[netip.Prefix]int
 }
 
-// groupOf returns what counts as one with an address, or nothing for one without a bound: a proxy on this machine has
-// all connections.
+// groupOf returns the network with which an address is counted. It returns the zero value for the addresses of this
+// machine, which have no limit, because a proxy on it makes all connections.
 func groupOf(address net.Addr) netip.Prefix {
 	pair, err := netip.ParseAddrPort(address.String())
 	if err != nil {
@@ -45,64 +45,65 @@ func groupOf(address net.Addr) netip.Prefix {
 	}
 }
 
-// take counts one more of a group, or reports that it has as many as it may.
-func (a *addresses) take(group netip.Prefix) bool {
+// add counts one more connection of a group. It returns false if the group already has the maximum number.
+func (a *addresses) add(group netip.Prefix) bool {
 	a.mu.Lock()
 	defer a.mu.Unlock()
-	if group.IsValid() && a.of[group] >= maxOfAddress {
+	if group.IsValid() && a.connections[group] >= maxPerAddress {
 		return false
 	}
-	a.of[group]++
+	a.connections[group]++
 	return true
 }
 
-func (a *addresses) give(group netip.Prefix) {
+func (a *addresses) remove(group netip.Prefix) {
 	a.mu.Lock()
 	defer a.mu.Unlock()
-	if a.of[group]--; a.of[group] == 0 {
-		delete(a.of, group)
+	if a.connections[group]--; a.connections[group] == 0 {
+		delete(a.connections, group)
 	}
 }
 
-// clientsAt listens for logs, with so many connections as a witness has at once.
+// clientsAt returns a listener for logs with at most maxConnections connections.
 func clientsAt(address string) (net.Listener, error) {
 	clients, err := net.Listen("tcp", address)
 	if err != nil {
 		return nil, err
 	}
-	return bounded{clients, make(chan struct{}, maxConnections), &addresses{of: map[netip.Prefix]int{}}}, nil
+	return limitedListener{clients, make(chan struct{}, maxConnections),
+		&addresses{connections: map[netip.Prefix]int{}}}, nil
 }
 
-func (b bounded) Accept() (net.Conn, error) {
+func (b limitedListener) Accept() (net.Conn, error) {
 	for {
-		b.room <- struct{}{}
+		b.slots <- struct{}{}
 		connection, err := b.Listener.Accept()
 		if err != nil {
-			<-b.room
+			<-b.slots
 			return nil, err
 		}
 		group := groupOf(connection.RemoteAddr())
-		if b.byAddress.take(group) {
-			leave := func() {
-				b.byAddress.give(group)
-				<-b.room
+		if b.byAddress.add(group) {
+			release := func() {
+				b.byAddress.remove(group)
+				<-b.slots
 			}
-			return &counted{Conn: connection, leave: leave}, nil
+			return &countedConnection{Conn: connection, release: release}, nil
 		}
 		connection.Close()
-		<-b.room
+		<-b.slots
 	}
 }
 
-type counted struct {
+type countedConnection struct {
 	net.Conn
-	once  sync.Once
-	leave func()
+	once    sync.Once
+	release func()
 }
 
-func (c *counted) Close() error {
+func (c *countedConnection) Close() error {
 	err := c.Conn.Close()
-	c.once.Do(c.leave)
+	c.once.Do(c.release)
 	return err
 }
 

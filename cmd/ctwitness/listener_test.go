@@ -22,86 +22,89 @@ import (
 	"wagtenib/internal/testutil"
 )
 
-// listening returns a connection each time that it is asked, or fails.
-type listening struct {
+// fakeListener returns a connection, or an error if it has one, each time that it is asked.
+type fakeListener struct {
 	net.Listener
-	asked, closed atomic.Int32
-	fails         error
+	calls, closed atomic.Int32
+	err           error
 }
 
-func (l *listening) Accept() (net.Conn, error) {
-	if l.asked.Add(1); l.fails != nil {
-		return nil, l.fails
+func (l *fakeListener) Accept() (net.Conn, error) {
+	if l.calls.Add(1); l.err != nil {
+		return nil, l.err
 	}
-	return &connected{of: l, behind: l.closed.Load()}, nil
+	return &fakeConnection{of: l, closedBefore: l.closed.Load()}, nil
 }
 
-// connected is one of its connections, after so many that were closed.
-type connected struct {
+// fakeConnection is a connection of a fakeListener. It knows how many connections had been closed before.
+type fakeConnection struct {
 	net.Conn
-	of     *listening
-	behind int32
+	of           *fakeListener
+	closedBefore int32
 }
 
-func (c *connected) Close() error {
+func (c *fakeConnection) Close() error {
 	c.of.closed.Add(1)
 	return nil
 }
 
-func (c *connected) RemoteAddr() net.Addr { return &net.TCPAddr{IP: net.IPv4(192, 0, 2, 1), Port: 1} }
+func (c *fakeConnection) RemoteAddr() net.Addr {
+	return &net.TCPAddr{IP: net.IPv4(192, 0, 2, 1), Port: 1}
+}
 
-// TestBounded: a connection above the bound waits until another one has ended, once for each. If there is none, the
-// slot is free again.
-func TestBounded(t *testing.T) {
+// TestLimitedListener checks that a connection above the limit waits until another one is closed, and that closing
+// twice counts once. If Accept fails, the slot is free again.
+func TestLimitedListener(t *testing.T) {
 	ctx := testutil.Limited(t, testutil.Longest)
-	of := &listening{}
-	b := bounded{of, make(chan struct{}, 2), &addresses{of: map[netip.Prefix]int{}}}
+	of := &fakeListener{}
+	b := limitedListener{of, make(chan struct{}, 2), &addresses{connections: map[netip.Prefix]int{}}}
 	var first []net.Conn
 	for i := 0; i < 2; i++ {
 		one, err := b.Accept()
 		must(t, err)
 		first = append(first, one)
 	}
-	came := make(chan int32, 1)
+	closedBefore := make(chan int32, 1)
 	go func() {
 		one, _ := b.Accept()
-		came <- one.(*counted).Conn.(*connected).behind
+		closedBefore <- one.(*countedConnection).Conn.(*fakeConnection).closedBefore
 	}()
-	// (one that doesn't wait comes meanwhile)
-	for i := 0; i < 1000 && of.asked.Load() < 3; i++ {
+	// Give a connection that does not wait the time to arrive.
+	for i := 0; i < 1000 && of.calls.Load() < 3; i++ {
 		runtime.Gosched()
 	}
 	must(t, first[0].Close())
 	select {
-	case closed := <-came:
+	case closed := <-closedBefore:
 		if closed == 0 {
-			t.Error("a third one comes while two are connected")
+			t.Error("a third connection is accepted while two are connected")
 		}
 	case <-ctx.Done():
-		t.Fatal("behind one that went none comes")
+		t.Fatal("after one is closed, no further one is accepted")
 	}
 	must(t, first[0].Close())
-	if len(b.room) != 2 {
-		t.Errorf("one that is closed twice leaves room for %d", 2-len(b.room))
+	if len(b.slots) != 2 {
+		t.Errorf("closing one twice frees %d slots", 2-len(b.slots))
 	}
 	must(t, first[1].Close())
-	if len(b.room) != 1 || of.asked.Load() != 3 {
-		t.Errorf("%d are connected, of %d", len(b.room), of.asked.Load())
+	if len(b.slots) != 1 || of.calls.Load() != 3 {
+		t.Errorf("%d are connected after %d calls", len(b.slots), of.calls.Load())
 	}
 	broken := errors.New("too many open files")
-	b = bounded{&listening{fails: broken}, make(chan struct{}, 2), &addresses{of: map[netip.Prefix]int{}}}
+	b = limitedListener{&fakeListener{err: broken}, make(chan struct{}, 2),
+		&addresses{connections: map[netip.Prefix]int{}}}
 	for i := 0; i < 5; i++ {
 		if _, err := b.Accept(); !errors.Is(err, broken) {
 			t.Fatal(err)
 		}
 	}
-	if len(b.room) != 0 {
-		t.Errorf("%d hold room, and none is connected", len(b.room))
+	if len(b.slots) != 0 {
+		t.Errorf("%d slots are in use, and none is connected", len(b.slots))
 	}
 }
 
-// TestOneHost has one host open as many connections as it is let, and ask nothing on them: others are answered, it gets
-// no more, and has room again once it closes.
+// TestOneHost opens as many connections as one host may have, and sends nothing on them. Other hosts are answered. The
+// first host gets no further connection until it closes one.
 func TestOneHost(t *testing.T) {
 	clients, err := clientsAt("127.0.0.1:0")
 	must(t, err)
@@ -119,11 +122,11 @@ func TestOneHost(t *testing.T) {
 	}
 	answers := func(connection net.Conn) bool {
 		_, err := io.WriteString(connection, "GET / HTTP/1.1\r\nHost: x\r\n\r\n")
-		said, unread := bufio.NewReader(connection).ReadString('\n')
-		return err == nil && unread == nil && strings.Contains(said, "200")
+		line, unread := bufio.NewReader(connection).ReadString('\n')
+		return err == nil && unread == nil && strings.Contains(line, "200")
 	}
 	var idle []net.Conn
-	for i := 0; i < maxOfAddress; i++ {
+	for i := 0; i < maxPerAddress; i++ {
 		idle = append(idle, from(2))
 	}
 	for i := 0; i < 3; i++ {
@@ -131,48 +134,48 @@ func TestOneHost(t *testing.T) {
 			t.Error("one host has more connections than its bound")
 		}
 		if !answers(from(3)) || !answers(from(1)) {
-			t.Error("another host isn't answered")
+			t.Error("another host is not answered")
 		}
 	}
 	idle[0].Close()
-	testutil.Eventually(t, "room for one more", func() bool { return answers(from(2)) })
+	testutil.Eventually(t, "a free slot", func() bool { return answers(from(2)) })
 }
 
-// TestGroups: an address of IPv6 counts with its /64, and a proxy on this machine has no bound of its own.
+// TestGroups checks that an IPv6 address counts with its /64 network, and that a proxy on this machine has no limit.
 func TestGroups(t *testing.T) {
 	of := func(text string) netip.Prefix { return groupOf(net.TCPAddrFromAddrPort(netip.MustParseAddrPort(text))) }
 	if of("[2001:db8::1]:1") != of("[2001:db8::2:3]:4") || of("[2001:db8::1]:1") == of("[2001:db8:0:1::1]:1") ||
 		of("192.0.2.1:1") == of("192.0.2.2:1") || of("192.0.2.1:1") != of("[::ffff:192.0.2.1]:9") {
-		t.Error("addresses count as one that are others', or the other way round")
+		t.Error("addresses are counted with others, or are not counted with their own network")
 	}
-	a := &addresses{of: map[netip.Prefix]int{}}
+	a := &addresses{connections: map[netip.Prefix]int{}}
 	for _, proxy := range []string{"127.0.0.1:1", "[::1]:1"} {
-		for i := 0; i < 2*maxOfAddress; i++ {
-			if !a.take(of(proxy)) {
+		for i := 0; i < 2*maxPerAddress; i++ {
+			if !a.add(of(proxy)) {
 				t.Fatalf("%s has a bound", proxy)
 			}
 		}
 	}
 }
 
-// TestClientsAt: the listener for logs has a bound.
+// TestClientsAt checks that the listener for logs has a limit, and that an address is in use only once.
 func TestClientsAt(t *testing.T) {
 	listener, err := clientsAt("127.0.0.1:0")
 	must(t, err)
 	defer listener.Close()
-	if of, is := listener.(bounded); !is || cap(of.room) != maxConnections {
+	if of, is := listener.(limitedListener); !is || cap(of.slots) != maxConnections {
 		t.Errorf("%T", listener)
 	}
 	if _, err := clientsAt(listener.Addr().String()); err == nil {
-		t.Error("an address is listened at twice")
+		t.Error("an address can be used twice")
 	}
 }
 
-// TestListenerThatFails: a listener that fails ends it, with why.
+// TestListenerThatFails checks that the error of a listener ends the witness.
 func TestListenerThatFails(t *testing.T) {
-	fails, failed := errors.New("no connection comes any more"), make(chan error, 1)
-	failed <- fails
-	if err := (&running{}).wait(&settings{}, httpserver.NewLines(io.Discard), nil, failed); !errors.Is(err, fails) {
+	broken, failed := errors.New("the listener is broken"), make(chan error, 1)
+	failed <- broken
+	if err := (&running{}).wait(&settings{}, httpserver.NewLines(io.Discard), nil, failed); !errors.Is(err, broken) {
 		t.Error(err)
 	}
 }
@@ -188,91 +191,92 @@ func (c *closing) Close() error {
 	return c.Lock.Close()
 }
 
-// TestOpenedOnce: a log's state is opened once, however often the logs are reloaded, and closed at the end.
+// TestOpenedOnce checks that a log's state is opened once, however often the logs are reloaded, and closed at the end.
 func TestOpenedOnce(t *testing.T) {
 	ctx := testutil.Limited(t, testutil.Longest)
 	p, _ := ofOneLog(t)
-	s, err := parse(p.words(), io.Discard)
+	s, err := parse(p.arguments(), io.Discard)
 	must(t, err)
 	w, err := open(s, httpserver.NewLines(io.Discard))
 	must(t, err)
-	must(t, w.takeUp(s))
+	must(t, w.useLogs(s))
 	of, found := s.log("a.example")
 	if w.locks["a.example"] == nil || !found {
-		t.Fatal("it isn't open")
+		t.Fatal("it is not open")
 	}
 	only := &closing{Lock: w.locks["a.example"]}
 	w.locks["a.example"] = only
-	must(t, w.takeUp(s))
+	must(t, w.useLogs(s))
 	log, err := w.log(ctx, s, of)
 	must(t, err)
 	if log.State != only || w.locks["a.example"] != only {
-		t.Errorf("%T is opened beside it", log.State)
+		t.Errorf("%T is opened, too", log.State)
 	}
 	if w.close(); only.closed != 1 {
 		t.Errorf("closed %d times", only.closed)
 	}
 }
 
-// TestRemovedLogIsClosed takes a log out of the settings, as before SIGHUP: its state is closed then, and not opened
-// again.
+// TestRemovedLogIsClosed removes a log from the settings, as at SIGHUP, and checks that its state is closed and not
+// closed again at the end.
 func TestRemovedLogIsClosed(t *testing.T) {
 	p, _ := ofOneLog(t)
-	s, err := parse(p.words(), io.Discard)
+	s, err := parse(p.arguments(), io.Discard)
 	must(t, err)
 	w, err := open(s, httpserver.NewLines(io.Discard))
 	must(t, err)
-	must(t, w.takeUp(s))
+	must(t, w.useLogs(s))
 	removed := &closing{Lock: w.locks["a.example"]}
 	w.locks["a.example"] = removed
 	without := *s
 	without.logs = nil
-	must(t, w.takeUp(&without))
+	must(t, w.useLogs(&without))
 	if removed.closed != 1 || len(w.locks) != 0 {
 		t.Errorf("closed %d times, and %d are open", removed.closed, len(w.locks))
 	}
-	must(t, w.takeUp(s))
+	must(t, w.useLogs(s))
 	if w.close(); removed.closed != 1 {
 		t.Errorf("closed %d times", removed.closed)
 	}
 }
 
-// standing is a lock that gives no answer.
-type standing struct{ stores.Lock }
+// hangingLock is a lock that never answers.
+type hangingLock struct{ stores.Lock }
 
-func (standing) Read(ctx context.Context) (string, error) {
+func (hangingLock) Read(ctx context.Context) (string, error) {
 	<-ctx.Done()
 	return "", ctx.Err()
 }
 
-func (standing) Create(ctx context.Context, _ string) error {
+func (hangingLock) Create(ctx context.Context, _ string) error {
 	<-ctx.Done()
 	return ctx.Err()
 }
 
-// TestOpenWithin: a lock that does not answer is waited for until the timeout, when states are created and when
-// they are opened.
-func TestOpenWithin(t *testing.T) {
+// TestOpenTimeout checks that a lock that does not answer is waited for only until the timeout, both when states are
+// created and when they are opened.
+func TestOpenTimeout(t *testing.T) {
 	p, _ := ofOneLog(t)
-	s, err := parse(p.words("--open-timeout", "10ms", "--create", "a.example"), io.Discard)
+	s, err := parse(p.arguments("--open-timeout", "10ms", "--create", "a.example"), io.Discard)
 	must(t, err)
 	w, err := open(s, httpserver.NewLines(io.Discard))
 	must(t, err)
-	w.locks["a.example"] = standing{}
-	for what, opens := range map[string]func() error{"takes up": func() error { return w.takeUp(s) },
-		"makes": func() error { return w.create(s, httpserver.NewLines(io.Discard)) }} {
+	w.locks["a.example"] = hangingLock{}
+	for what, opens := range map[string]func() error{"opens": func() error { return w.useLogs(s) },
+		"creates": func() error { return w.create(s, httpserver.NewLines(io.Discard)) }} {
 		if err := opens(); !errors.Is(err, context.DeadlineExceeded) {
 			t.Errorf("it %s: %v", what, err)
 		}
 	}
 }
 
-// TestServerOf: each part of a request has a timeout, and its headers have a bound. What net/http logs is a log line.
+// TestServerOf checks that each part of a request has a timeout, that its headers have a limit, and that what net/http
+// logs becomes a log line.
 func TestServerOf(t *testing.T) {
-	var told strings.Builder
-	s := serverOf(http.NotFoundHandler(), httpserver.NewLines(&told))
-	if s.ErrorLog.Print("a handler that fails"); !strings.Contains(told.String(), "a handler that fails") {
-		t.Errorf("%q is told", told.String())
+	var lines strings.Builder
+	s := serverOf(http.NotFoundHandler(), httpserver.NewLines(&lines))
+	if s.ErrorLog.Print("a handler that fails"); !strings.Contains(lines.String(), "a handler that fails") {
+		t.Errorf("the log has %q", lines.String())
 	}
 	for what, time := range map[string]time.Duration{"headers": s.ReadHeaderTimeout, "a request": s.ReadTimeout,
 		"an answer": s.WriteTimeout, "the next request": s.IdleTimeout} {
@@ -288,39 +292,39 @@ func TestServerOf(t *testing.T) {
 		q, err := http.NewRequest("POST", server.URL+"/add-checkpoint", nil)
 		must(t, err)
 		q.Header.Set("X-Long", strings.Repeat("x", length))
-		came, err := http.DefaultClient.Do(q)
+		response, err := http.DefaultClient.Do(q)
 		must(t, err)
-		came.Body.Close()
-		if came.StatusCode != status {
-			t.Errorf("a header of %d bytes: %d, and not %d", length, came.StatusCode, status)
+		response.Body.Close()
+		if response.StatusCode != status {
+			t.Errorf("a header of %d bytes: status %d, expected %d", length, response.StatusCode, status)
 		}
 	}
 }
 
-// ofOneLog is where a witness has the state of a log, and gives its checkpoints.
+// ofOneLog returns a place with the state of one log, and a function that returns the log's signed checkpoints.
 func ofOneLog(t *testing.T) (p place, signed func(size int) []byte) {
 	t.Helper()
 	p = newPlace(t)
 	line, signed := p.log("a.example")
 	p.settings(line)
-	if status := run(p.words("--create", "a.example"), io.Discard, io.Discard, nil); status != 0 {
+	if status := run(p.arguments("--create", "a.example"), io.Discard, io.Discard, nil); status != 0 {
 		t.Fatalf("--create: status %d", status)
 	}
 	return p, signed
 }
 
-// held is a lock that can be made to wait in Read.
-type held struct {
+// heldLock is a lock whose next Read can be made to wait.
+type heldLock struct {
 	stores.Lock
-	waits      atomic.Bool
-	asked, may chan struct{}
+	waitsNext     atomic.Bool
+	asked, answer chan struct{}
 }
 
-func (h *held) Read(ctx context.Context) (string, error) {
-	if h.waits.Swap(false) {
+func (h *heldLock) Read(ctx context.Context) (string, error) {
+	if h.waitsNext.Swap(false) {
 		close(h.asked)
 		select {
-		case <-h.may:
+		case <-h.answer:
 		case <-ctx.Done():
 			return "", ctx.Err()
 		}
@@ -328,13 +332,14 @@ func (h *held) Read(ctx context.Context) (string, error) {
 	return h.Lock.Read(ctx)
 }
 
-// startedOver runs a witness of one log, whose state's lock answers the next request only once it may.
-func (p place) startedOver(more ...string) (*process, *held) {
+// startOver runs a witness of one log. The lock of the log's state answers the next Read only after the test permits
+// it.
+func (p place) startOver(more ...string) (*process, *heldLock) {
 	p.t.Helper()
-	s, err := parse(p.words(more...), io.Discard)
+	s, err := parse(p.arguments(more...), io.Discard)
 	must(p.t, err)
-	of := &held{asked: make(chan struct{}), may: make(chan struct{})}
-	one := p.runs(func(to io.Writer, signals chan os.Signal) int {
+	of := &heldLock{asked: make(chan struct{}), answer: make(chan struct{})}
+	one := p.startBy(func(to io.Writer, signals chan os.Signal) int {
 		lines := httpserver.NewLines(to)
 		w, err := open(s, lines)
 		must(p.t, err)
@@ -344,14 +349,14 @@ func (p place) startedOver(more ...string) (*process, *held) {
 		w.locks["a.example"] = of
 		return statusOf(w.serve(s, lines, signals), lines)
 	})
-	of.waits.Store(true)
+	of.waitsNext.Store(true)
 	return one, of
 }
 
-// TestEndAnswers: SIGINT, as SIGTERM, ends it once who waits was answered.
+// TestEndAnswers checks that SIGINT, like SIGTERM, ends the witness only after it answered the waiting request.
 func TestEndAnswers(t *testing.T) {
 	p, ofA := ofOneLog(t)
-	one, state := p.startedOver()
+	one, state := p.startOver()
 	answered := make(chan int, 1)
 	go func() {
 		status, _ := one.post(ofA(3))
@@ -364,37 +369,37 @@ func TestEndAnswers(t *testing.T) {
 			break
 		}
 	}
-	close(state.may)
+	close(state.answer)
 	if status := <-answered; status != 200 {
-		t.Errorf("who waited is answered %d", status)
+		t.Errorf("the waiting request is answered %d", status)
 	}
-	for range one.told {
+	for range one.lines {
 	}
 	if status := <-one.status; status != 0 {
 		t.Errorf("the end: status %d", status)
 	}
 }
 
-// TestEndIsLate: an end takes at most its timeout, even if a state's lock does not answer. Requests that still wait
-// then are not answered, which is logged, with status 1.
+// TestEndIsLate checks that an end takes at most its timeout, even if a state's lock does not answer. Requests that
+// still wait then are not answered, which is logged, and the status is 1.
 func TestEndIsLate(t *testing.T) {
 	p, ofA := ofOneLog(t)
-	one, state := p.startedOver("--shutdown-timeout", "20ms")
-	gone := make(chan struct{})
+	one, state := p.startOver("--shutdown-timeout", "20ms")
+	unanswered := make(chan struct{})
 	go func() {
-		defer close(gone)
-		came, err := http.Post(one.at["clients"]+"/add-checkpoint", "text/plain",
+		defer close(unanswered)
+		response, err := http.Post(one.addresses["clients"]+"/add-checkpoint", "text/plain",
 			strings.NewReader("old 0\n\n"+string(ofA(3))))
 		if err == nil {
-			came.Body.Close()
-			t.Errorf("who waits is answered %s", came.Status)
+			response.Body.Close()
+			t.Errorf("the waiting request is answered %s", response.Status)
 		}
 	}()
 	<-state.asked
-	began := time.Now()
+	start := time.Now()
 	one.signals <- syscall.SIGTERM
 	var end string
-	for text := range one.told {
+	for text := range one.lines {
 		if strings.Contains(text, `"event":"end"`) {
 			end = text
 		}
@@ -402,24 +407,24 @@ func TestEndIsLate(t *testing.T) {
 	if status := <-one.status; status != 1 || !strings.Contains(end, "waiting requests were not answered") {
 		t.Errorf("status %d: %s", status, end)
 	}
-	if took := time.Since(began); took > testutil.Longest/2 {
-		t.Errorf("the end took %v", took)
+	if duration := time.Since(start); duration > testutil.Longest/2 {
+		t.Errorf("the end took %v", duration)
 	}
-	<-gone
+	<-unanswered
 }
 
-// TestKeyWithoutState: --verifier-key needs no state, and serving does.
+// TestKeyWithoutState checks that --verifier-key needs no state, and that serving does.
 func TestKeyWithoutState(t *testing.T) {
 	p := newPlace(t)
-	words := []string{"--name", "w.example", "--key", p.path("key.pem")}
+	arguments := []string{"--name", "w.example", "--key", p.path("key.pem")}
 	var out strings.Builder
-	if status := run(append(words, "--verifier-key"), &out, io.Discard, nil); status != 0 ||
+	if status := run(append(arguments, "--verifier-key"), &out, io.Discard, nil); status != 0 ||
 		!strings.HasPrefix(out.String(), "w.example+") {
 		t.Errorf("status %d, %q", status, out.String())
 	}
-	var told strings.Builder
-	if status := run(words, io.Discard, &told, nil); status != 2 ||
-		!strings.Contains(told.String(), "--state is missing") {
-		t.Errorf("status %d, %q", status, told.String())
+	var lines strings.Builder
+	if status := run(arguments, io.Discard, &lines, nil); status != 2 ||
+		!strings.Contains(lines.String(), "--state is missing") {
+		t.Errorf("status %d, %q", status, lines.String())
 	}
 }

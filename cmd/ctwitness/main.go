@@ -1,8 +1,8 @@
-// Command ctwitness is a witness over HTTP. It cosigns the heads of several logs (C2SP tlog-witness, tlog-cosignature),
-// each if proved code decides that it follows the one that it cosigned last (docs/WITNESS.md).
+// Command ctwitness is a witness over HTTP. It cosigns the heads of several logs (C2SP tlog-witness, tlog-cosignature).
+// It cosigns a head only if proved code decides that the head follows the one that it cosigned last (docs/WITNESS.md).
 //
-// At SIGHUP it reads the logs of its settings again. At SIGTERM or SIGINT it ends: it accepts no more requests, answers
-// the waiting ones, and exits with status 0.
+// At SIGHUP it reads the logs of its settings again. At SIGTERM or SIGINT it stops: it accepts no more requests,
+// answers the waiting ones, and exits with status 0.
 package main
 
 import (
@@ -24,11 +24,12 @@ import (
 	"wagtenib/internal/witness"
 )
 
-// statusNoState is the status of a start that is refused since a log's state is missing or another's, and will be until
-// an operator has looked.
+// statusNoState is the exit status if a log's state is missing or belongs to another log. Each start fails until an
+// operator has corrected that.
 const statusNoState = 3
 
-// maxConnections is how many clients are connected at once, and maxHeader how many bytes a request's headers have.
+// maxConnections is the maximum number of connections at once, and maxHeader the maximum number of bytes of a request's
+// headers.
 const (
 	maxConnections = 512
 	maxHeader      = 16 << 10
@@ -37,20 +38,20 @@ const (
 func main() {
 	signals := make(chan os.Signal, 4)
 	signal.Notify(signals, syscall.SIGHUP, syscall.SIGTERM, syscall.SIGINT)
-	// If nobody reads standard error any more, a write to it must fail and not end the witness. (What is caught, and
-	// not ignored, is as it was in its program.)
+	// If standard error is closed, a write to it must fail and not end the witness. The signal is caught and not
+	// ignored, because child processes would inherit an ignored signal.
 	signal.Notify(make(chan os.Signal, 1), syscall.SIGPIPE)
 	os.Exit(run(os.Args[1:], os.Stdout, os.Stderr, signals))
 }
 
-// run serves until a signal ends it, and gives the status: 0 at an end in order, 1 at another, 2 where the words aren't
-// ones, statusNoState where a log has no state.
-func run(words []string, out, to io.Writer, signals <-chan os.Signal) int {
-	if version.Asked(words) {
+// run serves until a signal ends it, and returns the exit status: 0 after a regular end, 1 after an error, 2 if the
+// arguments or the settings are wrong, and statusNoState if a log has no state.
+func run(arguments []string, out, to io.Writer, signals <-chan os.Signal) int {
+	if version.Asked(arguments) {
 		fmt.Fprint(out, version.Line("ctwitness"))
 		return 0
 	}
-	s, err := parse(words, to)
+	s, err := parse(arguments, to)
 	if status, ends := settingsfile.Ends(err, to); ends {
 		return status
 	}
@@ -71,7 +72,7 @@ func run(words []string, out, to io.Writer, signals <-chan os.Signal) int {
 	return statusOf(err, lines)
 }
 
-// statusOf reports the end, and returns its status.
+// statusOf logs the end, and returns the exit status.
 func statusOf(err error, lines *httpserver.Lines) int {
 	if err != nil {
 		lines.Error("end", "fault", err)
@@ -95,7 +96,7 @@ func open(s *settings, lines *httpserver.Lines) (*running, error) {
 	if err != nil {
 		return nil, err
 	}
-	server, err := witness.New(witness.Options{Name: s.name, Key: key, Tell: lines.Error})
+	server, err := witness.New(witness.Options{Name: s.name, Key: key, Log: lines.Error})
 	if err != nil {
 		return nil, err
 	}
@@ -109,7 +110,7 @@ func (w *running) close() {
 	}
 }
 
-// log opens a log's state. One that was opened before stays as it is.
+// log returns a log with its lock. It opens the lock only if it is not open yet.
 func (w *running) log(ctx context.Context, s *settings, of logSetting) (witness.Log, error) {
 	log := witness.Log{Origin: of.origin, Keys: of.keys, State: w.locks[of.origin]}
 	if path := s.accepted[of.origin]; path != "" {
@@ -126,7 +127,7 @@ func (w *running) log(ctx context.Context, s *settings, of logSetting) (witness.
 	return log, nil
 }
 
-// create makes the states of the logs that were named: of logs of which this witness never cosigned anything.
+// create stores the first states of the logs that --create names, of which this witness never cosigned anything.
 func (w *running) create(s *settings, lines *httpserver.Lines) error {
 	ctx, cancel := context.WithTimeout(context.Background(), s.openWithin)
 	defer cancel()
@@ -147,8 +148,8 @@ func (w *running) create(s *settings, lines *httpserver.Lines) error {
 	return nil
 }
 
-// takeUp opens the logs of the settings, sees that each has its state, and witnesses them and no others.
-func (w *running) takeUp(s *settings) error {
+// useLogs opens the logs of the settings, checks that each has its state, and witnesses these logs and no others.
+func (w *running) useLogs(s *settings) error {
 	ctx, cancel := context.WithTimeout(context.Background(), s.openWithin)
 	defer cancel()
 	var logs []witness.Log
@@ -167,8 +168,8 @@ func (w *running) takeUp(s *settings) error {
 	return nil
 }
 
-// closeOthers closes the locks of logs that the settings don't have any more. A request of such a log that is under
-// way may fail.
+// closeOthers closes the locks of logs that the settings no longer contain. A request of such a log that is in progress
+// may fail.
 func (w *running) closeOthers(s *settings) {
 	for origin, lock := range w.locks {
 		if _, stays := s.log(origin); !stays {
@@ -179,7 +180,7 @@ func (w *running) closeOthers(s *settings) {
 }
 
 func (w *running) serve(s *settings, lines *httpserver.Lines, signals <-chan os.Signal) error {
-	if err := w.takeUp(s); err != nil {
+	if err := w.useLogs(s); err != nil {
 		return err
 	}
 	clients, err := clientsAt(s.listen)
@@ -211,7 +212,7 @@ func (w *running) serve(s *settings, lines *httpserver.Lines, signals <-chan os.
 		if late == nil {
 			continue
 		}
-		// (so that what is asked for them ends, too, which the locks' end waits for)
+		// This ends the requests that still wait, so that the locks can be closed.
 		_ = server.Close()
 		if err == nil {
 			err = fmt.Errorf("ctwitness: waiting requests were not answered in time: %w", late)
@@ -226,21 +227,21 @@ func (w *running) wait(s *settings, lines *httpserver.Lines, signals <-chan os.S
 		select {
 		case err := <-failed:
 			return err
-		case came := <-signals:
-			if came != syscall.SIGHUP {
-				lines.Info("ending", "signal", came)
+		case received := <-signals:
+			if received != syscall.SIGHUP {
+				lines.Info("ending", "signal", received)
 				return nil
 			}
-			anew, err := parse(s.words, io.Discard)
+			reloaded, err := parse(s.arguments, io.Discard)
 			if err == nil {
-				err = w.takeUp(anew)
+				err = w.useLogs(reloaded)
 			}
 			w.server.Reloaded(err)
 			if err != nil {
 				lines.Error("reload", "fault", err)
 				continue
 			}
-			lines.Info("reload", "logs", len(anew.logs))
+			lines.Info("reload", "logs", len(reloaded.logs))
 		}
 	}
 }

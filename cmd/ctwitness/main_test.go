@@ -28,7 +28,7 @@ import (
 
 var must = testutil.Must
 
-// place is a folder with a witness's key and its file of settings.
+// place is a folder with a witness's key and its settings file.
 type place struct {
 	t      testing.TB
 	folder string
@@ -48,18 +48,19 @@ func (p place) path(name string) string { return filepath.Join(p.folder, name) }
 
 func (p place) write(name, text string) { must(p.t, os.WriteFile(p.path(name), []byte(text), 0o600)) }
 
-// settings writes the file of settings, with these logs.
+// settings writes the settings file, with these logs.
 func (p place) settings(logs ...string) {
 	text := fmt.Sprintf("name w.example # the witness\nkey %s\nstate file:%s\nlisten 127.0.0.1:0\noperator-listen "+
 		"127.0.0.1:0\n", p.path("key.pem"), p.path("states"))
 	p.write("settings", text+strings.Join(logs, "\n")+"\n")
 }
 
-func (p place) words(more ...string) []string {
+func (p place) arguments(more ...string) []string {
 	return append([]string{"--config", p.path("settings")}, more...)
 }
 
-// log makes a log's key, and gives the line of settings and the signed note of an origin and a size.
+// log creates a log's key. It returns the line of settings with it, and a function that returns the signed checkpoint
+// of a size.
 func (p place) log(origin string) (line string, signed func(size int) []byte) {
 	private, public, err := note.GenerateKey(rand.Reader, origin)
 	must(p.t, err)
@@ -68,46 +69,46 @@ func (p place) log(origin string) (line string, signed func(size int) []byte) {
 	return "log " + origin + " " + public, func(size int) []byte {
 		root := sha256.Sum256([]byte(origin))
 		text := fmt.Sprintf("%s\n%d\n%s\n", origin, size, base64.StdEncoding.EncodeToString(root[:]))
-		made, err := note.Sign(&note.Note{Text: text}, by)
+		signedNote, err := note.Sign(&note.Note{Text: text}, by)
 		must(p.t, err)
-		return made
+		return signedNote
 	}
 }
 
-// process is a running witness, with its log lines and a function that ends it.
+// process is a running witness, with its log lines and a channel for signals.
 type process struct {
-	t       testing.TB
-	signals chan os.Signal
-	told    chan string
-	status  chan int
-	at      map[string]string
+	t         testing.TB
+	signals   chan os.Signal
+	lines     chan string
+	status    chan int
+	addresses map[string]string
 }
 
-// started runs a witness with these arguments.
-func (p place) started(more ...string) *process {
-	var words []string
+// start runs a witness with these arguments, and returns when it serves.
+func (p place) start(more ...string) *process {
+	var arguments []string
 	for _, name := range []string{"open-timeout", "shutdown-timeout"} {
-		// The last one of a setting counts.
-		words = append(words, "--"+name, testutil.Longest.String())
+		// If a setting occurs several times, the last value counts.
+		arguments = append(arguments, "--"+name, testutil.Longest.String())
 	}
-	words = append(words, more...)
-	return p.runs(func(to io.Writer, signals chan os.Signal) int { return run(words, io.Discard, to, signals) })
+	arguments = append(arguments, more...)
+	return p.startBy(func(to io.Writer, signals chan os.Signal) int { return run(arguments, io.Discard, to, signals) })
 }
 
-// runs has a witness run, until it serves.
-func (p place) runs(does func(to io.Writer, signals chan os.Signal) int) *process {
+// startBy calls a function that runs a witness, and returns when the witness serves.
+func (p place) startBy(run func(to io.Writer, signals chan os.Signal) int) *process {
 	from, to := io.Pipe()
 	one := &process{p.t, make(chan os.Signal, 4), make(chan string), make(chan int, 1), map[string]string{}}
 	go func() {
-		one.status <- does(to, one.signals)
+		one.status <- run(to, one.signals)
 		to.Close()
 	}()
-	come := make(chan string)
-	go testutil.PassOn(come, one.told)
+	read := make(chan string)
+	go testutil.PassOn(read, one.lines)
 	go func() {
-		defer close(come)
-		for lines := bufio.NewScanner(from); lines.Scan(); {
-			come <- lines.Text()
+		defer close(read)
+		for scanner := bufio.NewScanner(from); scanner.Scan(); {
+			read <- scanner.Text()
 		}
 	}()
 	for {
@@ -116,7 +117,7 @@ func (p place) runs(does func(to io.Writer, signals chan os.Signal) int) *proces
 			return one
 		}
 		if line["event"] == "listening" {
-			one.at[line["for"].(string)] = "http://" + line["address"].(string)
+			one.addresses[line["for"].(string)] = "http://" + line["address"].(string)
 		}
 	}
 }
@@ -124,7 +125,7 @@ func (p place) runs(does func(to io.Writer, signals chan os.Signal) int) *proces
 // next returns the next log line.
 func (p *process) next() (line map[string]any) {
 	p.t.Helper()
-	text, more := <-p.told
+	text, more := <-p.lines
 	if !more {
 		p.t.Fatalf("it ended: status %d", <-p.status)
 	}
@@ -132,7 +133,7 @@ func (p *process) next() (line map[string]any) {
 	return line
 }
 
-func (p *process) reloaded() map[string]any {
+func (p *process) reload() map[string]any {
 	p.signals <- syscall.SIGHUP
 	for {
 		if line := p.next(); line["event"] == "reload" {
@@ -141,134 +142,134 @@ func (p *process) reloaded() map[string]any {
 	}
 }
 
-func (p *process) ends() int {
+func (p *process) end() int {
 	p.signals <- syscall.SIGTERM
-	for range p.told {
+	for range p.lines {
 	}
 	return <-p.status
 }
 
 func (p *process) post(signed []byte) (int, string) {
 	p.t.Helper()
-	came, err := http.Post(p.at["clients"]+"/add-checkpoint", "text/plain",
+	response, err := http.Post(p.addresses["clients"]+"/add-checkpoint", "text/plain",
 		bytes.NewReader(append([]byte("old 0\n\n"), signed...)))
 	must(p.t, err)
-	defer came.Body.Close()
-	text, err := io.ReadAll(came.Body)
+	defer response.Body.Close()
+	text, err := io.ReadAll(response.Body)
 	must(p.t, err)
-	return came.StatusCode, string(text)
+	return response.StatusCode, string(text)
 }
 
-func (p *process) wants(status int, signed []byte) {
+func (p *process) expect(expected int, signed []byte) {
 	p.t.Helper()
-	if came, text := p.post(signed); came != status {
-		p.t.Errorf("%d, and not %d: %s", came, status, text)
+	if status, text := p.post(signed); status != expected {
+		p.t.Errorf("status %d, expected %d: %s", status, expected, text)
 	}
 }
 
-// TestServes: a witness is made a state for each log, serves, takes further logs up and lets others go, and ends.
+// TestServes checks that a witness creates a state for each log, serves, adds and removes logs at SIGHUP, and ends.
 func TestServes(t *testing.T) {
 	p := newPlace(t)
 	a, ofA := p.log("a.example")
 	b, ofB := p.log("b.example/2")
 	p.settings(a)
-	if status := run(p.words(), io.Discard, io.Discard, nil); status != statusNoState {
+	if status := run(p.arguments(), io.Discard, io.Discard, nil); status != statusNoState {
 		t.Errorf("a log without a state: status %d", status)
 	}
-	for i, status := range []int{0, 1} {
-		if came := run(p.words("--create", "a.example"), io.Discard, io.Discard, nil); came != status {
-			t.Errorf("--create, time %d: status %d", i+1, came)
+	for i, expected := range []int{0, 1} {
+		if status := run(p.arguments("--create", "a.example"), io.Discard, io.Discard, nil); status != expected {
+			t.Errorf("--create, time %d: status %d", i+1, status)
 		}
 	}
-	if came := run(p.words("--create", "c.example"), io.Discard, io.Discard, nil); came != 1 {
-		t.Errorf("--create of a log that isn't one: status %d", came)
+	if status := run(p.arguments("--create", "c.example"), io.Discard, io.Discard, nil); status != 1 {
+		t.Errorf("--create of an unknown log: status %d", status)
 	}
-	one := p.started(p.words()...)
-	one.wants(200, ofA(3))
-	one.wants(404, ofB(3))
+	one := p.start(p.arguments()...)
+	one.expect(200, ofA(3))
+	one.expect(404, ofB(3))
 
 	p.settings(a, b)
-	if line := one.reloaded(); line["level"] != "error" {
-		t.Errorf("a log without a state is taken up: %v", line)
+	if line := one.reload(); line["level"] != "error" {
+		t.Errorf("a log without a state is accepted: %v", line)
 	}
-	one.wants(409, ofA(3))
-	one.wants(404, ofB(3))
-	if came := run(p.words("--create", "b.example/2"), io.Discard, io.Discard, nil); came != 0 {
-		t.Errorf("--create: status %d", came)
+	one.expect(409, ofA(3))
+	one.expect(404, ofB(3))
+	if status := run(p.arguments("--create", "b.example/2"), io.Discard, io.Discard, nil); status != 0 {
+		t.Errorf("--create: status %d", status)
 	}
-	if line := one.reloaded(); line["level"] != "info" || line["logs"] != 2.0 {
+	if line := one.reload(); line["level"] != "info" || line["logs"] != 2.0 {
 		t.Errorf("%v", line)
 	}
-	one.wants(200, ofB(3))
+	one.expect(200, ofB(3))
 	p.write("settings", "nothing 7\n")
-	if line := one.reloaded(); line["level"] != "error" {
-		t.Errorf("no settings are taken up: %v", line)
+	if line := one.reload(); line["level"] != "error" {
+		t.Errorf("wrong settings are accepted: %v", line)
 	}
-	one.wants(409, ofB(3))
+	one.expect(409, ofB(3))
 	p.settings(b)
-	if line := one.reloaded(); line["level"] != "info" || line["logs"] != 1.0 {
+	if line := one.reload(); line["level"] != "info" || line["logs"] != 1.0 {
 		t.Errorf("%v", line)
 	}
-	one.wants(404, ofA(3))
-	came, err := http.Get(one.at["operator"] + "/metrics")
+	one.expect(404, ofA(3))
+	response, err := http.Get(one.addresses["operator"] + "/metrics")
 	must(t, err)
-	text, err := io.ReadAll(came.Body)
-	came.Body.Close()
+	text, err := io.ReadAll(response.Body)
+	response.Body.Close()
 	must(t, err)
 	for _, line := range []string{`ctwitness_reloads_total{outcome="done"} 2`,
 		`ctwitness_reloads_total{outcome="failed"} 2`, `ctwitness_entries{origin="b.example/2"} 3`} {
 		if !strings.Contains(string(text), line+"\n") {
-			t.Errorf("no %s", line)
+			t.Errorf("the metrics lack %s", line)
 		}
 	}
-	if status := one.ends(); status != 0 {
+	if status := one.end(); status != 0 {
 		t.Errorf("the end: status %d", status)
 	}
 	// The next process must follow what was cosigned.
 	p.settings(a, b)
-	again := p.started(p.words()...)
-	again.wants(409, ofA(3))
-	again.wants(409, ofB(4))
-	if status := again.ends(); status != 0 {
+	again := p.start(p.arguments()...)
+	again.expect(409, ofA(3))
+	again.expect(409, ofB(4))
+	if status := again.end(); status != 0 {
 		t.Errorf("the end: status %d", status)
 	}
 }
 
-// TestAcceptedBy checks that only the head that a monitor accepted is cosigned of a log with accepted-by, and that
-// other logs are as before.
+// TestAcceptedBy checks that the witness cosigns only the head that a monitor accepted if the log has an accepted-by
+// setting, and that other logs are not affected.
 func TestAcceptedBy(t *testing.T) {
 	p := newPlace(t)
 	a, ofA := p.log("a.example")
 	b, ofB := p.log("b.example")
 	p.settings(a, b, "accepted-by a.example   "+p.path("monitor"))
-	if status := run(p.words("--create", "a.example", "--create", "b.example"), io.Discard, io.Discard,
+	if status := run(p.arguments("--create", "a.example", "--create", "b.example"), io.Discard, io.Discard,
 		nil); status != 0 {
 		t.Fatalf("--create: status %d", status)
 	}
 	accept := func(size int) { p.write("monitor", string(ofA(size))) }
 	accept(2)
-	one := p.started(p.words()...)
-	one.wants(503, ofA(3))
-	one.wants(200, ofB(3))
+	one := p.start(p.arguments()...)
+	one.expect(503, ofA(3))
+	one.expect(200, ofB(3))
 	accept(3)
-	one.wants(503, ofA(4))
-	one.wants(200, ofA(3))
+	one.expect(503, ofA(4))
+	one.expect(200, ofA(3))
 	p.settings(a, b)
-	if line := one.reloaded(); line["level"] != "info" {
+	if line := one.reload(); line["level"] != "info" {
 		t.Errorf("%v", line)
 	}
-	one.wants(409, ofA(4))
-	if status := one.ends(); status != 0 {
+	one.expect(409, ofA(4))
+	if status := one.end(); status != 0 {
 		t.Errorf("the end: status %d", status)
 	}
 }
 
-// TestVerifierKey: it is what logs read, and --version says the version.
+// TestVerifierKey checks that --verifier-key prints what logs read, and that --version prints the version.
 func TestVerifierKey(t *testing.T) {
 	p := newPlace(t)
 	p.settings()
 	var out bytes.Buffer
-	if status := run(p.words("--verifier-key"), &out, io.Discard, nil); status != 0 {
+	if status := run(p.arguments("--verifier-key"), &out, io.Discard, nil); status != 0 {
 		t.Errorf("status %d", status)
 	}
 	if name, _, err := witness.ReadVerifierKey(strings.TrimSpace(out.String())); err != nil || name != "w.example" {
@@ -281,8 +282,9 @@ func TestVerifierKey(t *testing.T) {
 	}
 }
 
-// TestWords: settings that aren't ones end it with status 2 and why, and what can't be opened with 1.
-func TestWords(t *testing.T) {
+// TestArguments checks that wrong settings end the witness with status 2 and the reason, and that what cannot be opened
+// ends it with status 1.
+func TestArguments(t *testing.T) {
 	p := newPlace(t)
 	a, _ := p.log("a.example")
 	_, key, _ := strings.Cut(strings.TrimPrefix(a, "log "), " ")
@@ -291,10 +293,10 @@ func TestWords(t *testing.T) {
 	must(t, err)
 	p.write("no-key", "x")
 	for _, test := range []struct {
-		settings string
-		words    []string
-		status   int
-		why      string
+		settings  string
+		arguments []string
+		status    int
+		why       string
 	}{
 		{"", []string{"word"}, 2, `"word" isn't expected`},
 		{"", []string{"--nothing"}, 2, "not defined"},
@@ -321,27 +323,28 @@ func TestWords(t *testing.T) {
 		{a, []string{"--state", "s3://x/y"}, 1, "a lock is at"},
 	} {
 		p.write("settings", string(base)+test.settings+"\n")
-		words := p.words(test.words...)
-		var told bytes.Buffer
-		if status := run(words, io.Discard, &told, nil); status != test.status ||
-			!strings.Contains(told.String(), test.why) {
-			t.Errorf("%q, %q: status %d: %s", test.settings, test.words, status, &told)
+		arguments := p.arguments(test.arguments...)
+		var lines bytes.Buffer
+		if status := run(arguments, io.Discard, &lines, nil); status != test.status ||
+			!strings.Contains(lines.String(), test.why) {
+			t.Errorf("%q, %q: status %d: %s", test.settings, test.arguments, status, &lines)
 		}
 	}
-	for _, words := range [][]string{{"--key", "k"}, {"--name", "n"}, {"--name", "n", "--key", "k"}} {
-		var told bytes.Buffer
-		if status := run(words, io.Discard, &told, nil); status != 2 || !strings.Contains(told.String(), "is missing") {
-			t.Errorf("%q: status %d: %s", words, status, &told)
+	for _, arguments := range [][]string{{"--key", "k"}, {"--name", "n"}, {"--name", "n", "--key", "k"}} {
+		var lines bytes.Buffer
+		if status := run(arguments, io.Discard, &lines, nil); status != 2 ||
+			!strings.Contains(lines.String(), "is missing") {
+			t.Errorf("%q: status %d: %s", arguments, status, &lines)
 		}
 	}
 	p.write("settings", string(base))
 	for _, mode := range []fs.FileMode{0o640, 0o604, 0o620} {
 		must(t, os.Chmod(p.path("key.pem"), mode))
-		var told bytes.Buffer
-		// (with --verifier-key it ends if it takes the key)
-		if status := run(p.words("--verifier-key"), io.Discard, &told, nil); status != 1 ||
-			!strings.Contains(told.String(), "not only its owner") {
-			t.Errorf("a key of the mode %v: status %d: %s", mode, status, &told)
+		var lines bytes.Buffer
+		// With --verifier-key it exits after it read the key.
+		if status := run(p.arguments("--verifier-key"), io.Discard, &lines, nil); status != 1 ||
+			!strings.Contains(lines.String(), "not only its owner") {
+			t.Errorf("a key of the mode %v: status %d: %s", mode, status, &lines)
 		}
 	}
 }

@@ -16,13 +16,13 @@ import (
 	"wagtenib/internal/witness"
 )
 
-// fileRules are those of the file of settings.
+// fileRules are the rules of the settings file.
 var fileRules = settingsfile.Rules{Only: []string{"config", "create", "verifier-key"},
 	Several: []string{"log", "accepted-by"}}
 
-// settings are the values of the command line and of the file of settings.
+// settings are the values of the command line and of the settings file.
 type settings struct {
-	words                 []string
+	arguments             []string
 	name, key, state      string
 	listen, operator      string
 	openWithin, endWithin time.Duration
@@ -32,22 +32,22 @@ type settings struct {
 	verifierKey           bool
 }
 
-// logSetting is a log: its origin, and the keys with which it signs its notes.
+// logSetting is a log's origin and the keys that sign its notes.
 type logSetting struct {
 	origin string
 	keys   []note.Verifier
 }
 
-// errUsage reports a command line or a file of settings that is refused.
+// errUsage is the error of a wrong command line or settings file.
 var errUsage = errors.New("ctwitness")
 
-// maxKey is the number of bytes of a key file that are read.
+// maxKey is the maximum number of bytes that are read from a key file.
 const maxKey = 64 << 10
 
-// parse reads the command line, and the file that it names. If both have a setting, the command line counts; logs of
-// both are used.
-func parse(words []string, help io.Writer) (*settings, error) {
-	s := &settings{words: words, accepted: map[string]string{}}
+// parse reads the command line and the settings file that it names. If both have a setting, the command line counts.
+// The logs of both are used.
+func parse(arguments []string, help io.Writer) (*settings, error) {
+	s := &settings{arguments: arguments, accepted: map[string]string{}}
 	flags := settingsfile.Flags("ctwitness",
 		"ctwitness is a witness of Certificate Transparency logs. It cosigns a head of a log only if the proved code "+
 			"in it decides that the head follows the last one.\nEach setting except --create and --verifier-key is a "+
@@ -79,17 +79,17 @@ func parse(words []string, help io.Writer) (*settings, error) {
 	})
 	flags.BoolVar(&s.verifierKey, "verifier-key", false,
 		"print the key by which logs and clients know this witness, and exit")
-	if err := fileRules.ParseAndValidate(flags, words, s.validate, errUsage); err != nil {
+	if err := fileRules.ParseAndValidate(flags, arguments, s.validate, errUsage); err != nil {
 		return nil, err
 	}
 	return s, nil
 }
 
-// validate checks which settings are missing or do not fit.
+// validate returns an error if a setting is missing or wrong.
 func (s *settings) validate() error {
-	for _, needed := range []struct{ name, value string }{{"name", s.name}, {"key", s.key}} {
-		if needed.value == "" {
-			return fmt.Errorf("--%s is missing", needed.name)
+	for _, required := range []struct{ name, value string }{{"name", s.name}, {"key", s.key}} {
+		if required.value == "" {
+			return fmt.Errorf("--%s is missing", required.name)
 		}
 	}
 	if s.state == "" && !s.verifierKey {
@@ -106,7 +106,7 @@ func (s *settings) validate() error {
 	return settingsfile.Positive("shutdown-timeout", s.endWithin)
 }
 
-// addAccepted reads a log's origin and the file of the checkpoint that a monitor accepted.
+// addAccepted reads an --accepted-by setting: a log's origin and the file of the checkpoint that a monitor accepted.
 func (s *settings) addAccepted(text string) error {
 	origin, path, _ := strings.Cut(strings.TrimSpace(text), " ")
 	if path = strings.TrimSpace(path); path == "" {
@@ -119,20 +119,20 @@ func (s *settings) addAccepted(text string) error {
 	return nil
 }
 
-// addLog reads a log's origin and its keys.
+// addLog reads a --log setting: a log's origin and its keys.
 func (s *settings) addLog(text string) error {
-	words := strings.Fields(text)
-	if len(words) < 2 {
+	fields := strings.Fields(text)
+	if len(fields) < 2 {
 		return errors.New("log needs an origin and at least one key, separated by spaces")
 	}
-	if _, twice := s.log(words[0]); twice {
-		return fmt.Errorf("%s is given twice", words[0])
+	if _, twice := s.log(fields[0]); twice {
+		return fmt.Errorf("%s is given twice", fields[0])
 	}
-	log, seen := logSetting{origin: words[0]}, map[uint32]bool{}
-	for _, word := range words[1:] {
-		written := word
-		if !strings.Contains(word, "+") {
-			content, err := os.ReadFile(word)
+	log, seen := logSetting{origin: fields[0]}, map[uint32]bool{}
+	for _, field := range fields[1:] {
+		written := field
+		if !strings.Contains(field, "+") {
+			content, err := os.ReadFile(field)
 			if err != nil {
 				return err
 			}
@@ -140,7 +140,7 @@ func (s *settings) addLog(text string) error {
 		}
 		key, err := witness.LogKey(log.origin, written)
 		if err != nil {
-			return fmt.Errorf("%s: %w", word, err)
+			return fmt.Errorf("%s: %w", field, err)
 		}
 		if seen[key.KeyHash()] {
 			return fmt.Errorf("%s: two keys have the same key hash", log.origin)
@@ -173,7 +173,7 @@ func readKey(path string) (ed25519.PrivateKey, error) {
 		return nil, err
 	}
 	if info.Mode().Perm()&0o077 != 0 {
-		return nil, fmt.Errorf("%w: not only its owner may read or write %s (chmod 600)", witness.ErrKey,
+		return nil, fmt.Errorf("%w: not only its owner may read or write %s (run chmod 600)", witness.ErrKey,
 			filepath.Clean(path))
 	}
 	content, err := io.ReadAll(io.LimitReader(opened, maxKey))

@@ -12,7 +12,8 @@ import (
 	"wagtenib/internal/tile"
 )
 
-// The bounds of what is in memory before it is proved and written: so many data tiles, and no more after so many bytes.
+// The limits of what is in memory before it is proved and written. A chunk ends at this number of data tiles, or after
+// the tile with which it has this number of bytes.
 const (
 	maxChunkTiles = 16
 	maxChunkBytes = 32 << 20
@@ -45,9 +46,12 @@ func (c *chunk) end() uint64 {
 	return end
 }
 
-func (c *chunk) isFull(most int) bool { return len(c.tiles) >= most || c.bytes >= maxChunkBytes }
+func (c *chunk) isFull(maxTiles int) bool {
+	return len(c.tiles) >= maxTiles || c.bytes >= maxChunkBytes
+}
 
-// add adds the entries of a data tile. The hashes are those of the leaves that the proved library reads out of it.
+// add adds the entries of a data tile. The proved library reads the leaves out of the tile, and their hashes are
+// computed from these.
 func (c *chunk) add(page logclient.Page) error {
 	var content []byte
 	for i, raw := range page.Entries {
@@ -80,7 +84,7 @@ func (c *chunk) add(page logclient.Page) error {
 	return nil
 }
 
-// root returns the root of the entries before the chunk, by their perfect subtrees, and those of the chunk.
+// root returns the root of the entries before the chunk, whose perfect subtrees are given, and those of the chunk.
 func (c *chunk) root(subtrees []wagtenib.Hash) wagtenib.Hash {
 	size := c.start
 	for _, of := range c.tiles {
@@ -92,7 +96,8 @@ func (c *chunk) root(subtrees []wagtenib.Hash) wagtenib.Hash {
 	return wagtenib.SubtreesRoot(subtrees)
 }
 
-// write writes what was proved: issuers before the data tiles that name them, and hash tiles and the index after these.
+// write writes what was proved. Issuers are written before the data tiles that name them, and hash tiles and the index
+// after the data tiles.
 func (c *chunk) write(ctx context.Context, f *folder, edge *tile.Edge) error {
 	for fingerprint, certificate := range c.issuers {
 		if err := f.put(ctx, issuerName(fingerprint), certificate); err != nil {
@@ -121,20 +126,20 @@ func (c *chunk) write(ctx context.Context, f *folder, edge *tile.Edge) error {
 	return nil
 }
 
-// write puts a data tile. No hash covers its precertificates and fingerprints. If the log answers others than those
-// that a run which was stopped has written, those stay.
+// write writes a data tile. No hash covers its precertificates and fingerprints. If an interrupted run wrote a tile
+// with the same leaves and others of these, that tile stays.
 func (d dataTile) write(ctx context.Context, f *folder, name string) error {
 	err := f.put(ctx, name, d.content)
 	if !errors.Is(err, ErrDamaged) {
 		return err
 	}
-	content, other := f.get(ctx, name)
-	if other != nil {
-		return errors.Join(err, other)
+	content, readErr := f.get(ctx, name)
+	if readErr != nil {
+		return errors.Join(err, readErr)
 	}
-	entries, other := wagtenib.DataTileLeaves(content)
-	if other != nil || len(entries) != len(d.hashes) {
-		return errors.Join(err, other)
+	entries, readErr := wagtenib.DataTileLeaves(content)
+	if readErr != nil || len(entries) != len(d.hashes) {
+		return errors.Join(err, readErr)
 	}
 	for i := range entries {
 		if wagtenib.LeafHash(entries[i].Leaf) != d.hashes[i] {

@@ -11,14 +11,14 @@ import (
 	"wagtenib/internal/logclient"
 )
 
-// entry is an entry of an answer to get-entries, as a data tile has it.
+// entry is an entry of an answer to get-entries, in the form of a data tile.
 type entry struct {
 	leaf     []byte // MerkleTreeLeaf (RFC 6962, section 3.4)
 	tileLeaf []byte // TileLeaf (C2SP static-ct-api, "Log Entries"), with the extensions of the leaf, whatever they are
 	issuers  [][]byte
 }
 
-// readEntry reads an entry (RFC 6962, sections 3.4 and 4.6). The error says what of it is not one.
+// readEntry reads an entry (RFC 6962, sections 3.4 and 4.6). The error says which part is wrong.
 func readEntry(raw logclient.RawEntry) (entry, error) {
 	leaf, err := wagtenib.DecodeLeaf(raw.LeafInput)
 	if err != nil {
@@ -43,13 +43,13 @@ func readEntry(raw logclient.RawEntry) (entry, error) {
 	}
 	// A TimestampedEntry comes after the version and the type of the leaf.
 	const beforeEntry = 2
-	var made cryptobyte.Builder
-	made.AddBytes(raw.LeafInput[beforeEntry:])
+	var builder cryptobyte.Builder
+	builder.AddBytes(raw.LeafInput[beforeEntry:])
 	if leaf.EntryType == wagtenib.PrecertEntry {
-		made.AddUint24LengthPrefixed(func(b *cryptobyte.Builder) { b.AddBytes(precertificate) })
+		builder.AddUint24LengthPrefixed(func(b *cryptobyte.Builder) { b.AddBytes(precertificate) })
 	}
-	made.AddUint16LengthPrefixed(func(b *cryptobyte.Builder) { b.AddBytes(fingerprints) })
-	if of.tileLeaf, err = made.Bytes(); err != nil {
+	builder.AddUint16LengthPrefixed(func(b *cryptobyte.Builder) { b.AddBytes(fingerprints) })
+	if of.tileLeaf, err = builder.Bytes(); err != nil {
 		return entry{}, fmt.Errorf("extra_data: a chain of %d certificates: %w", len(of.issuers), err)
 	}
 	return of, nil

@@ -17,51 +17,52 @@ import (
 	"wagtenib/internal/stores"
 )
 
-// maxVariables is how many values go into one statement, and maxConnections how many connections one process has.
+// maxVariables is the maximum number of values in one statement, and maxConnections the maximum number of connections
+// of one process.
 const maxVariables, maxConnections = 500, 4
 
-// leafIndex finds the index of a leaf by its hash. It keeps a row for each leaf in a file of SQLite. A process that
-// serves the archive may use it beside the one that writes it.
+// leafIndex finds the index of a leaf by its hash. It stores a row for each leaf in a SQLite file. A process that
+// serves the archive may use the file at the same time as the process that writes it.
 //
-// It asks of the file system what SQLite does (locks that exclude, fsync that keeps). The write-ahead log is synced at
-// each commit (synchronous=FULL): in that mode NORMAL would lose the last commits when power fails.
+// Like SQLite, it needs a file system whose locks exclude others and whose fsync is durable. The write-ahead log is
+// synced at each commit (synchronous=FULL), because NORMAL could lose the last commits at a power failure.
 type leafIndex struct {
 	*database
-	// writes is held by the one that adds: SQLite has one at a time, and others look again after a while.
+	// writes is held while a call writes. SQLite permits one writer at a time, and others would have to try again.
 	writes chan struct{}
 }
 
-// database is a file that is open.
+// database is an open SQLite file.
 type database struct {
 	source string
 	mu     sync.RWMutex
 	db     *sql.DB
 
 	preparing sync.Mutex
-	// prepared are the statements of db by their texts. To prepare one takes longer than a look-up.
+	// prepared has the prepared statements of db by their texts, because preparing one takes longer than a look-up.
 	prepared map[string]*sql.Stmt
 }
 
-// ofIndex is the driver of SQLite with the pragmas of an index.
-const ofIndex = "sqlite3 of an index"
+// driverName is the name of the SQLite driver that sets the pragmas of an index.
+const driverName = "sqlite3 of an index"
 
-// pragmas are made on each connection, in this order. Identities are hashes, so each new row is in a page of its own,
-// and a commit writes all these pages. So pages are small: only a new file gets this size. The write-ahead log gets as
-// many bytes as with SQLite's own pages until it is copied. Temporary files have what a statement of several rows
-// changed so far, which is only needed until the statement ends, so they are kept in memory.
+// pragmas are set on each connection, in this order. The keys are hashes, so each new row is in a page of its own, and
+// a commit writes all these pages. Therefore pages are small. Only a new file gets this page size. The write-ahead log
+// may have as many bytes as with SQLite's own page size before it is copied. Temporary files only have what a statement
+// of several rows changed, until the statement ends, so they are kept in memory.
 const pragmas = `pragma page_size = 1024; pragma journal_mode = wal; pragma wal_autocheckpoint = 4000;
 	pragma temp_store = memory`
 
 func init() {
-	sql.Register(ofIndex, &sqlite3.SQLiteDriver{ConnectHook: func(c *sqlite3.SQLiteConn) error {
+	sql.Register(driverName, &sqlite3.SQLiteDriver{ConnectHook: func(c *sqlite3.SQLiteConn) error {
 		_, err := c.Exec(pragmas, nil)
 		return err
 	}})
 }
 
-// open opens the file; the first statement uses it.
+// open opens the database. SQLite opens the file at the first statement.
 func (d *database) open() (err error) {
-	if d.db, err = sql.Open(ofIndex, d.source); err != nil {
+	if d.db, err = sql.Open(driverName, d.source); err != nil {
 		return fmt.Errorf("archive: SQLite: %w", err)
 	}
 	d.db.SetMaxOpenConns(maxConnections)
@@ -69,21 +70,21 @@ func (d *database) open() (err error) {
 	return nil
 }
 
-// statement returns a prepared statement of the file that with has open.
+// statement returns a prepared statement of the database.
 func (d *database) statement(ctx context.Context, db *sql.DB, text string) (*sql.Stmt, error) {
 	d.preparing.Lock()
 	defer d.preparing.Unlock()
 	if known := d.prepared[text]; known != nil {
 		return known, nil
 	}
-	made, err := db.PrepareContext(ctx, text)
+	prepared, err := db.PrepareContext(ctx, text)
 	if err == nil {
-		d.prepared[text] = made
+		d.prepared[text] = prepared
 	}
-	return made, err
+	return prepared, err
 }
 
-// reopen closes the file, unless another call has, and opens it again.
+// reopen closes the database and opens it again, unless another call already has.
 func (d *database) reopen(broken *sql.DB) error {
 	d.mu.Lock()
 	defer d.mu.Unlock()
@@ -94,8 +95,8 @@ func (d *database) reopen(broken *sql.DB) error {
 	return d.open()
 }
 
-// with does something with the file.
-func (d *database) with(do func(*sql.DB) error) (used *sql.DB, err error) {
+// use calls a function with the database, and returns the database that it used.
+func (d *database) use(do func(*sql.DB) error) (used *sql.DB, err error) {
 	d.mu.RLock()
 	defer d.mu.RUnlock()
 	return d.db, do(d.db)
@@ -107,18 +108,18 @@ func (d *database) close() error {
 	return d.db.Close()
 }
 
-// isBroken reports whether SQLite may be left with a lock that it believes it has, or doesn't have: a file system that
-// fails a lock or an unlock leaves it so for as long as this process has the file open.
+// isBroken reports whether SQLite may be wrong about the locks that it holds. If a file system fails a lock or an
+// unlock, SQLite remains wrong as long as this process has the file open.
 func isBroken(err error) bool {
-	var said sqlite3.Error
-	return errors.As(err, &said) && (said.Code == sqlite3.ErrProtocol || said.Code == sqlite3.ErrIoErr)
+	var failure sqlite3.Error
+	return errors.As(err, &failure) && (failure.Code == sqlite3.ErrProtocol || failure.Code == sqlite3.ErrIoErr)
 }
 
-// maxCached is how many KiB of the file each connection remembers: the upper pages of a log of 10^8 entries. (By itself
-// it remembers 2 MB.)
+// maxCached is the number of KiB of the file that each connection caches, enough for the upper pages of a log of 10^8
+// entries. SQLite's default is 2 MB.
 const maxCached = 16 << 10
 
-// openLeafIndex opens the index in a file, and makes it where it isn't there.
+// openLeafIndex opens the index in a file, and creates the file if it does not exist.
 func openLeafIndex(ctx context.Context, path string) (*leafIndex, error) {
 	path, err := filepath.Abs(path)
 	if err != nil {
@@ -131,7 +132,7 @@ func openLeafIndex(ctx context.Context, path string) (*leafIndex, error) {
 	if err := of.open(); err != nil {
 		return nil, err
 	}
-	err = of.unlessBusy(ctx, "table", func(db *sql.DB) error {
+	err = of.retryWhileBusy(ctx, "table", func(db *sql.DB) error {
 		_, err := db.ExecContext(ctx, `create table if not exists leaves `+
 			`(identity blob primary key, "index" integer not null, timestamp integer not null) without rowid`)
 		return err
@@ -147,12 +148,12 @@ func openLeafIndex(ctx context.Context, path string) (*leafIndex, error) {
 	return &leafIndex{of, make(chan struct{}, 1)}, nil
 }
 
-// unlessBusy does what others may keep from being done, again and again until the context ends. (SQLite's own waiting
-// doesn't end with it.) After a failure of the file's locks or of the disk, the file is opened again, and the statement
-// is tried once more.
-func (d *database) unlessBusy(ctx context.Context, what string, do func(*sql.DB) error) error {
+// retryWhileBusy calls a function, again and again while another connection blocks it, until the context ends.
+// (SQLite's own waiting does not end with the context.) After a failure of the file's locks or of the disk, it opens
+// the file again, and tries once more.
+func (d *database) retryWhileBusy(ctx context.Context, what string, do func(*sql.DB) error) error {
 	for again := false; ; {
-		used, err := d.with(do)
+		used, err := d.use(do)
 		if isBroken(err) && !again && ctx.Err() == nil {
 			if failed := d.reopen(used); failed != nil {
 				return failed
@@ -160,8 +161,8 @@ func (d *database) unlessBusy(ctx context.Context, what string, do func(*sql.DB)
 			again = true
 			continue
 		}
-		var said sqlite3.Error
-		busy := errors.As(err, &said) && (said.Code == sqlite3.ErrBusy || said.Code == sqlite3.ErrLocked)
+		var failure sqlite3.Error
+		busy := errors.As(err, &failure) && (failure.Code == sqlite3.ErrBusy || failure.Code == sqlite3.ErrLocked)
 		if busy {
 			select {
 			case <-time.After(5 * time.Millisecond):
@@ -177,9 +178,9 @@ func (d *database) unlessBusy(ctx context.Context, what string, do func(*sql.DB)
 	}
 }
 
-// find returns the index of a leaf, and false if there is none of this hash.
+// find returns the index of the leaf with a hash, and false if there is none.
 func (l *leafIndex) find(ctx context.Context, hash wagtenib.Hash) (index uint64, ok bool, err error) {
-	err = l.unlessBusy(ctx, "find", func(db *sql.DB) error {
+	err = l.retryWhileBusy(ctx, "find", func(db *sql.DB) error {
 		find, err := l.statement(ctx, db, `select "index" from leaves where identity = ?`)
 		if err != nil {
 			return err
@@ -194,13 +195,13 @@ func (l *leafIndex) find(ctx context.Context, hash wagtenib.Hash) (index uint64,
 	return index, ok, err
 }
 
-// add adds the hashes of leaves from an index on, in one transaction. A hash that is there, or occurs earlier in the
-// list, keeps its index.
+// add adds the hashes of leaves from an index on, in one transaction. A hash that the index has, or that occurs earlier
+// in the list, keeps its index.
 func (l *leafIndex) add(ctx context.Context, from uint64, hashes []wagtenib.Hash) error {
 	if len(hashes) == 0 {
 		return nil
 	}
-	return l.unlessBusy(ctx, "add", func(db *sql.DB) error { return l.insert(ctx, db, from, hashes) })
+	return l.retryWhileBusy(ctx, "add", func(db *sql.DB) error { return l.insert(ctx, db, from, hashes) })
 }
 
 func (l *leafIndex) insert(ctx context.Context, db *sql.DB, from uint64, hashes []wagtenib.Hash) error {

@@ -16,7 +16,7 @@ import (
 	"wagtenib/internal/testutil"
 )
 
-// hashOf returns the hash that the tests take for a leaf's.
+// hashOf returns the hash that the tests use as that of a leaf.
 func hashOf(i int) wagtenib.Hash { return sha256.Sum256([]byte(fmt.Sprint(i))) }
 
 func hashesOf(from, to int) (hashes []wagtenib.Hash) {
@@ -26,7 +26,7 @@ func hashesOf(from, to int) (hashes []wagtenib.Hash) {
 	return hashes
 }
 
-func opened(t *testing.T, path string) *leafIndex {
+func openIndex(t *testing.T, path string) *leafIndex {
 	t.Helper()
 	index, err := openLeafIndex(testutil.Limited(t, testutil.Longest), path)
 	testutil.Must(t, err)
@@ -34,46 +34,48 @@ func opened(t *testing.T, path string) *leafIndex {
 	return index
 }
 
-// has looks leaves up. Each must have its index, or none below the first or from the last one on.
-func has(t *testing.T, index *leafIndex, first, last int, asked ...int) {
+// checkFound looks leaves up. Each leaf must have its index if it is in the range from first to before last, and
+// otherwise must not be found.
+func checkFound(t *testing.T, index *leafIndex, first, last int, leaves ...int) {
 	t.Helper()
-	for _, i := range asked {
-		at, ok, err := index.find(testutil.Limited(t, testutil.Longest), hashOf(i))
-		if is := first <= i && i < last; err != nil || ok != is || is && at != uint64(i) {
-			t.Errorf("leaf %d of %d to %d: %d, %v, %v", i, first, last, at, ok, err)
+	for _, i := range leaves {
+		found, ok, err := index.find(testutil.Limited(t, testutil.Longest), hashOf(i))
+		if isInRange := first <= i && i < last; err != nil || ok != isInRange || isInRange && found != uint64(i) {
+			t.Errorf("leaf %d of %d to %d: %d, %v, %v", i, first, last, found, ok, err)
 		}
 	}
 }
 
-// TestLeafIndex: leaves are found by the process that added them and by another one, keep their first index, and no
-// others are found.
+// TestLeafIndex checks that leaves are found by the process that added them and by another one, that they keep their
+// first index, and that no others are found.
 func TestLeafIndex(t *testing.T) {
 	t.Parallel()
 	ctx, path := testutil.Limited(t, testutil.Longest), filepath.Join(t.TempDir(), "index")
-	one, other := opened(t, path), opened(t, path)
+	one, other := openIndex(t, path), openIndex(t, path)
 	testutil.Must(t, one.add(ctx, 0, nil))
 	testutil.Must(t, one.add(ctx, 5, hashesOf(5, 5+2*maxVariables+1)))
 	testutil.Must(t, one.add(ctx, 7000, append(hashesOf(5, 9), hashesOf(6, 7)...)))
-	for _, index := range []*leafIndex{one, other, opened(t, path)} {
-		has(t, index, 5, 5+2*maxVariables+1, 0, 4, 5, 6, 8, 5+maxVariables, 5+2*maxVariables, 6+2*maxVariables)
+	for _, index := range []*leafIndex{one, other, openIndex(t, path)} {
+		checkFound(t, index, 5, 5+2*maxVariables+1, 0, 4, 5, 6, 8, 5+maxVariables, 5+2*maxVariables, 6+2*maxVariables)
 	}
 }
 
-// TestLeafIndexEndsWithItsContext: also where another process doesn't let it write.
+// TestLeafIndexEndsWithItsContext checks that a call ends with its context while another process or another call
+// writes.
 func TestLeafIndexEndsWithItsContext(t *testing.T) {
 	path, ctx := filepath.Join(t.TempDir(), "index"), testutil.Limited(t, testutil.Longest)
-	one, other := opened(t, path), opened(t, path)
+	one, other := openIndex(t, path), openIndex(t, path)
 	holding, err := one.db.BeginTx(ctx, nil)
 	testutil.Must(t, err)
 	short, cancel := context.WithTimeout(ctx, 300*time.Millisecond)
 	defer cancel()
 	testutil.Wants(t, other.add(short, 1, hashesOf(1, 2)), context.DeadlineExceeded)
 	// The database can still be read.
-	has(t, other, 0, 0, 1)
+	checkFound(t, other, 0, 0, 1)
 	testutil.Must(t, holding.Rollback())
 	testutil.Must(t, other.add(ctx, 1, hashesOf(1, 2)))
-	has(t, one, 1, 2, 0, 1, 2)
-	// Another call of the same process writes.
+	checkFound(t, one, 1, 2, 0, 1, 2)
+	// Here another call of the same process writes.
 	other.writes <- struct{}{}
 	ended, end := context.WithCancel(ctx)
 	end()
@@ -81,25 +83,25 @@ func TestLeafIndexEndsWithItsContext(t *testing.T) {
 	<-other.writes
 }
 
-// TestLeafIndexSyncs: each commit goes to the disk, in the mode in which it has to be asked for (PRAGMA synchronous is
-// 2, FULL).
+// TestLeafIndexSyncs checks that each commit is synced to the disk, in write-ahead mode, where that is not the default
+// (PRAGMA synchronous is 2, FULL).
 func TestLeafIndexSyncs(t *testing.T) {
 	ctx := testutil.Limited(t, testutil.Longest)
 	var synchronous, cache, page int
 	var journal string
-	db := opened(t, filepath.Join(t.TempDir(), "index")).db
+	db := openIndex(t, filepath.Join(t.TempDir(), "index")).db
 	testutil.Must(t, errors.Join(db.QueryRowContext(ctx, "pragma synchronous").Scan(&synchronous),
 		db.QueryRowContext(ctx, "pragma journal_mode").Scan(&journal),
 		db.QueryRowContext(ctx, "pragma cache_size").Scan(&cache),
 		db.QueryRowContext(ctx, "pragma page_size").Scan(&page)))
-	// (below 0 it is in KiB)
+	// A negative cache size is in KiB.
 	if synchronous != 2 || journal != "wal" || cache != -16384 || page != 1024 {
 		t.Errorf("synchronous is %d, the journal's mode %s, the cache %d, and a page %d", synchronous, journal, cache, page)
 	}
 }
 
-// TestLeafIndexThatIsBent: the error of a file that is not a database names it.
-func TestLeafIndexThatIsBent(t *testing.T) {
+// TestLeafIndexThatIsDamaged checks that the error about a file that is not a database names the file.
+func TestLeafIndexThatIsDamaged(t *testing.T) {
 	path := filepath.Join(t.TempDir(), "index")
 	testutil.Must(t, os.WriteFile(path, []byte(strings.Repeat("no database ", 1000)), 0o644))
 	if _, err := openLeafIndex(testutil.Limited(t, testutil.Longest), path); err == nil || !strings.Contains(err.Error(), path) {
@@ -107,14 +109,15 @@ func TestLeafIndexThatIsBent(t *testing.T) {
 	}
 }
 
-// TestLeafIndexOnAFullDisk: a full disk is an error by name, look-ups go on, and once there is room, so does the index.
+// TestLeafIndexOnAFullDisk checks that a full disk is an error that says so, that look-ups continue, and that the index
+// works again after there is space.
 func TestLeafIndexOnAFullDisk(t *testing.T) {
 	disk, ctx := t.TempDir(), testutil.Limited(t, testutil.Longest)
 	if err := syscall.Mount("tmpfs", disk, "tmpfs", 0, "size=4194304"); err != nil {
-		t.Skipf("no small file system can be mounted here, which wants root: %v", err)
+		t.Skipf("a small file system cannot be mounted here (run the tests as root): %v", err)
 	}
 	t.Cleanup(func() { testutil.Must(t, syscall.Unmount(disk, 0)) })
-	index := opened(t, filepath.Join(disk, "index"))
+	index := openIndex(t, filepath.Join(disk, "index"))
 	testutil.Must(t, index.add(ctx, 0, hashesOf(0, 500)))
 	ballast, err := os.Create(filepath.Join(disk, "ballast"))
 	testutil.Must(t, err)
@@ -129,10 +132,10 @@ func TestLeafIndexOnAFullDisk(t *testing.T) {
 		err = index.add(ctx, uint64(last), hashesOf(last, last+500))
 	}
 	if err == nil || !strings.Contains(err.Error(), "full") {
-		t.Fatalf("behind %d leaves: %v", last, err)
+		t.Fatalf("after %d leaves: %v", last, err)
 	}
-	has(t, index, 0, 500, 0, 250, 499)
+	checkFound(t, index, 0, 500, 0, 250, 499)
 	testutil.Must(t, os.Remove(ballast.Name()))
 	testutil.Must(t, index.add(ctx, uint64(last-500), hashesOf(last-500, last)))
-	has(t, index, last-500, last, last-500, last-1)
+	checkFound(t, index, last-500, last, last-500, last-1)
 }

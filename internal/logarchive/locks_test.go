@@ -10,8 +10,8 @@ import (
 	"wagtenib/internal/testutil"
 )
 
-// failingLocks is a library in C whose fcntl fails to unlock while a file is there: a file system of a network does,
-// whose server is gone for a second.
+// failingLocks is a library in C whose fcntl fails to unlock while a file exists. A network file system does so while
+// its server is unreachable.
 const failingLocks = `
 #define _GNU_SOURCE
 #include <dlfcn.h>
@@ -41,56 +41,56 @@ WRAPPED(fcntl)
 WRAPPED(fcntl64)
 `
 
-// The child's words: the file of the database, and the one while which locks fail.
+// The environment variables of the child process: the database file, and the file while which exists locks fail.
 const (
-	lockedKey = "LOCKED_DATABASE"
-	failKey   = "LOCKS_FAIL"
+	databaseVariable = "LOCKED_DATABASE"
+	failVariable     = "LOCKS_FAIL"
 )
 
-// TestLocksThatFailForAWhile has the file system's locks fail for a while, and then work again: the index of an archive
-// must work again, too, without a new process.
+// TestLocksThatFailForAWhile makes the file system's locks fail for a while, and then work again. Then the index of an
+// archive must also work again, without a new process.
 func TestLocksThatFailForAWhile(t *testing.T) {
-	if os.Getenv(lockedKey) != "" {
-		beLocked(t)
+	if os.Getenv(databaseVariable) != "" {
+		useIndex(t)
 		return
 	}
 	compiler, err := exec.LookPath("gcc")
 	if err != nil {
-		t.Skip("for want of gcc")
+		t.Skip("gcc is missing")
 	}
 	folder := t.TempDir()
 	source, library := filepath.Join(folder, "locks.c"), filepath.Join(folder, "locks.so")
 	testutil.Must(t, os.WriteFile(source, []byte(failingLocks), 0o600))
-	if said, err := exec.Command(compiler, "-shared", "-fPIC", "-o", library, source,
+	if output, err := exec.Command(compiler, "-shared", "-fPIC", "-o", library, source,
 		"-ldl").CombinedOutput(); err != nil {
-		t.Fatalf("%v: %s", err, said)
+		t.Fatalf("%v: %s", err, output)
 	}
 	child := exec.Command(os.Args[0], "-test.run=^TestLocksThatFailForAWhile$", "-test.v", "-test.timeout=10m")
-	child.Env = append(os.Environ(), "LD_PRELOAD="+library, lockedKey+"="+filepath.Join(folder, "places.db"), failKey+
-		"="+filepath.Join(folder, "fails"))
-	said, err := child.CombinedOutput()
-	if err != nil || !strings.Contains(string(said), "a lock failed") {
-		t.Errorf("%v: %s", err, said)
+	child.Env = append(os.Environ(), "LD_PRELOAD="+library, databaseVariable+"="+
+		filepath.Join(folder, "places.db"), failVariable+"="+filepath.Join(folder, "fails"))
+	output, err := child.CombinedOutput()
+	if err != nil || !strings.Contains(string(output), "a lock failed") {
+		t.Errorf("%v: %s", err, output)
 	}
 }
 
-// beLocked is the child.
-func beLocked(t *testing.T) {
-	ctx, index := testutil.Limited(t, testutil.Longest), opened(t, os.Getenv(lockedKey))
+// useIndex runs in the child process: it uses the index while locks fail, and afterwards.
+func useIndex(t *testing.T) {
+	ctx, index := testutil.Limited(t, testutil.Longest), openIndex(t, os.Getenv(databaseVariable))
 	testutil.Must(t, index.add(ctx, 1, hashesOf(1, 2)))
-	testutil.Must(t, os.WriteFile(os.Getenv(failKey), nil, 0o600))
+	testutil.Must(t, os.WriteFile(os.Getenv(failVariable), nil, 0o600))
 	failed := false
 	for i := 2; i < 20; i++ {
 		err := index.add(ctx, uint64(i), hashesOf(i, i+1))
-		_, _, unread := index.find(ctx, hashOf(1))
-		failed = failed || err != nil || unread != nil
+		_, _, findErr := index.find(ctx, hashOf(1))
+		failed = failed || err != nil || findErr != nil
 	}
 	if failed {
 		t.Log("a lock failed")
 	}
-	testutil.Must(t, os.Remove(os.Getenv(failKey)))
+	testutil.Must(t, os.Remove(os.Getenv(failVariable)))
 	for i := 20; i < 40; i++ {
 		testutil.Must(t, index.add(ctx, uint64(i), hashesOf(i, i+1)))
-		has(t, index, 1, i+1, 1, i)
+		checkFound(t, index, 1, i+1, 1, i)
 	}
 }

@@ -1,10 +1,10 @@
-// Package logarchive keeps a log of RFC 6962 that ends as tiles in a folder (C2SP tlog-tiles, static-ct-api), with the
-// last head that the log signed, and serves them.
+// Package logarchive stores a log of RFC 6962 that is closing as tiles in a folder (C2SP tlog-tiles, static-ct-api),
+// with the last head that the log signed, and serves them.
 //
-// The entries are those of the log, byte by byte: their leaves are not made again, so the tree has the root that the
+// The entries are those of the log, byte by byte. Their leaves are not built again, so the tree has the root that the
 // log signed. The proved library reads each leaf and each data tile, computes the roots, and checks the consistency
-// proofs. Entries are only written after the log has proved that they are the beginning of the signed tree. So the
-// folder has nothing that would have to be taken back, and whatever stops a run, the next one goes on.
+// proofs. Entries are only written after the log has proved that they are the beginning of the signed tree. So nothing
+// in the folder must ever be removed, and after any interruption, the next run continues.
 package logarchive
 
 import (
@@ -24,7 +24,7 @@ import (
 	"wagtenib/internal/stores"
 )
 
-// The reasons for which nothing more is archived, or served. Each is found by errors.Is.
+// These errors are the reasons why nothing more is archived or served. Use errors.Is.
 var (
 	// ErrFolder means that a folder is the archive of another log, or of none.
 	ErrFolder = errors.New("archive: the folder is not an archive of this log")
@@ -41,14 +41,14 @@ var (
 	ErrBehind = errors.New("archive: the log answers an older head than the one that is archived")
 	// ErrEmpty means that the log has no entries.
 	ErrEmpty = errors.New("archive: the log has no entries")
-	// ErrEntry means that an answer to get-entries has something that is no entry of a log.
+	// ErrEntry means that an answer to get-entries contains something that is not an entry of a log.
 	ErrEntry = errors.New("archive: not an entry of a log")
-	// ErrOther means that the entries that the log answers are not those that it signed.
+	// ErrOther means that the log answers other entries than those whose root it signed.
 	ErrOther = errors.New("archive: the log's entries do not have the root that it signed")
-	// ErrUnproved means that the log does not prove that its entries are the beginning of the tree that it signed: the
-	// entries are others, or the proof is wrong or missing.
+	// ErrUnproved means that the log does not prove that its entries are the beginning of the tree that it signed.
+	// Either the entries differ, or the proof is wrong or missing.
 	ErrUnproved = errors.New("archive: the log does not prove that its entries are those that it signed")
-	// ErrDamaged means that the folder does not have what was written to it.
+	// ErrDamaged means that the folder does not contain what was written to it.
 	ErrDamaged = errors.New("archive: the folder is damaged (put it back from a backup, or make it again)")
 )
 
@@ -56,7 +56,7 @@ var (
 type Log struct {
 	// Origin is the name in the checkpoint. A log of RFC 6962 has none, so the operator of the archive chooses it.
 	Origin string `json:"origin"`
-	// URL is where the log answers its calls: the base of ct/v1/.
+	// URL is the base of the log's calls, before ct/v1/.
 	URL string `json:"url"`
 	// PublicKey is the log's key, a SubjectPublicKeyInfo in DER.
 	PublicKey []byte `json:"key"`
@@ -64,20 +64,20 @@ type Log struct {
 
 // The files of an archive. Its tiles and issuers, and its checkpoint, are in the folder objects.
 const (
-	logName       = "log.json"
-	wantedName    = "wanted-head.json" // the answer to get-sth that is being archived
-	signedName    = "signed-head.json" // the answer to get-sth of which the archive has all entries
-	otherName     = "other-head.json"  // an answer to get-sth that contradicts one of these
-	progressName  = "progress"         // how many entries are there
-	obsoleteName  = "obsolete"         // partial tiles to delete, a name on each line
-	indexName     = "index"
-	objectsName   = "objects"
-	checkpointAt  = objectsName + "/checkpoint"
-	maxObject     = 64 << 20 // bytes
-	maxCheckpoint = 1 << 20  // bytes
+	logName        = "log.json"
+	wantedName     = "wanted-head.json" // the answer to get-sth that is being archived
+	signedName     = "signed-head.json" // the answer to get-sth of which the archive has all entries
+	otherName      = "other-head.json"  // an answer to get-sth that contradicts one of these
+	progressName   = "progress"         // the number of entries in the folder
+	obsoleteName   = "obsolete"         // partial tiles to delete, a name on each line
+	indexName      = "index"
+	objectsName    = "objects"
+	checkpointName = objectsName + "/checkpoint"
+	maxObject      = 64 << 20 // bytes
+	maxCheckpoint  = 1 << 20  // bytes
 )
 
-// folder is the folder of an archive, for one process that writes.
+// folder is the folder of an archive, opened by the only process that writes to it.
 type folder struct {
 	path    string
 	objects stores.Objects
@@ -86,7 +86,7 @@ type folder struct {
 	writing func(name string)
 }
 
-// openFolder opens the folder of an archive to write. It makes the folder if there is none.
+// openFolder opens the folder of an archive for writing. It creates the folder if it does not exist.
 func openFolder(ctx context.Context, path string, of Log, writing func(string)) (*folder, error) {
 	if writing == nil {
 		writing = func(string) {}
@@ -99,7 +99,7 @@ func openFolder(ctx context.Context, path string, of Log, writing func(string)) 
 	return f, nil
 }
 
-// open opens what the folder has. After an error some of it is open.
+// open opens the files of the folder. After an error some of them are open.
 func (f *folder) open(ctx context.Context, of Log) (err error) {
 	if err := stores.MakeFolder(f.path); err != nil {
 		return err
@@ -111,12 +111,12 @@ func (f *folder) open(ctx context.Context, of Log) (err error) {
 		return fmt.Errorf("%w: %s", ErrInUse, f.path)
 	}
 	for _, name := range []string{logName, wantedName, signedName, otherName, progressName, obsoleteName,
-		checkpointAt} {
+		checkpointName} {
 		if err := stores.DropHalfKept(filepath.Join(f.path, filepath.FromSlash(name))); err != nil {
 			return fmt.Errorf("archive: %w", err)
 		}
 	}
-	if err := f.belongsTo(of); err != nil {
+	if err := f.checkLog(of); err != nil {
 		return err
 	}
 	if f.objects, err = stores.OpenFolder(filepath.Join(f.path, objectsName)); err != nil {
@@ -126,7 +126,7 @@ func (f *folder) open(ctx context.Context, of Log) (err error) {
 	return err
 }
 
-// close closes what is open. Everything that was written is on the disk by then.
+// close closes the files. All that was written is on the disk by then.
 func (f *folder) close() {
 	if f.index != nil {
 		_ = f.index.close()
@@ -139,10 +139,10 @@ func (f *folder) close() {
 	}
 }
 
-// belongsTo compares the log of the folder with this one, or keeps it in an empty folder. The log may have moved to
-// another URL.
-func (f *folder) belongsTo(of Log) error {
-	kept, err := readLog(f.path)
+// checkLog returns an error if the folder belongs to another log. In an empty folder it stores this log. The log may
+// have moved to another URL.
+func (f *folder) checkLog(of Log) error {
+	stored, err := readLog(f.path)
 	if errors.Is(err, stores.ErrAbsent) {
 		others, err := os.ReadDir(f.path)
 		if err != nil {
@@ -155,14 +155,14 @@ func (f *folder) belongsTo(of Log) error {
 		if err != nil {
 			return fmt.Errorf("archive: %w", err)
 		}
-		return f.keep(logName, append(content, '\n'))
+		return f.replaceFile(logName, append(content, '\n'))
 	}
 	if err != nil {
 		return err
 	}
-	if kept.Origin != of.Origin || !bytes.Equal(kept.PublicKey, of.PublicKey) {
+	if stored.Origin != of.Origin || !bytes.Equal(stored.PublicKey, of.PublicKey) {
 		return fmt.Errorf("%w: %s is of %s, with another key or origin (name another folder)", ErrFolder, f.path,
-			kept.Origin)
+			stored.Origin)
 	}
 	return nil
 }
@@ -183,8 +183,8 @@ func readLog(path string) (of Log, err error) {
 	return of, nil
 }
 
-// keep replaces a file of the folder.
-func (f *folder) keep(name string, content []byte) error {
+// replaceFile replaces a file of the folder.
+func (f *folder) replaceFile(name string, content []byte) error {
 	f.writing(name)
 	if err := stores.ShowFile(filepath.Join(f.path, filepath.FromSlash(name)), content); err != nil {
 		return fmt.Errorf("archive: %w", err)
@@ -192,7 +192,7 @@ func (f *folder) keep(name string, content []byte) error {
 	return nil
 }
 
-// put puts an object, whose name follows from the log's entries alone.
+// put stores an object, whose name is determined by the log's entries.
 func (f *folder) put(ctx context.Context, name string, content []byte) error {
 	f.writing(objectsName + "/" + name)
 	err := f.objects.Put(ctx, name, content)
@@ -205,7 +205,7 @@ func (f *folder) put(ctx context.Context, name string, content []byte) error {
 	return nil
 }
 
-// get reads an object that was put.
+// get reads an object that put stored.
 func (f *folder) get(ctx context.Context, name string) ([]byte, error) {
 	content, err := f.objects.Get(ctx, name, maxObject)
 	if errors.Is(err, stores.ErrAbsent) {
@@ -217,7 +217,7 @@ func (f *folder) get(ctx context.Context, name string) ([]byte, error) {
 	return content, nil
 }
 
-// progress returns how many entries are there.
+// progress returns the number of entries in the folder.
 func (f *folder) progress() (uint64, error) {
 	content, err := stores.KeptFile(filepath.Join(f.path, progressName))
 	if errors.Is(err, stores.ErrAbsent) {
@@ -233,21 +233,21 @@ func (f *folder) progress() (uint64, error) {
 	return entries, nil
 }
 
-// head is a head of the log, and the answer to get-sth that has it.
+// head is a tree head of the log, with the answer to get-sth that contains it.
 type head struct {
 	wagtenib.TreeHead
 	answer []byte
 }
 
-// keptHead returns a head of a file in an archive's folder. The error wraps stores.ErrAbsent or ErrDamaged.
-func keptHead(path, name string, of Log) (head, error) {
+// readHead reads the head in a file of an archive's folder. The error wraps stores.ErrAbsent or ErrDamaged.
+func readHead(path, name string, of Log) (head, error) {
 	answer, err := stores.KeptFile(filepath.Join(path, name))
 	if err != nil {
 		return head{}, err
 	}
-	kept, err := signature.OpenSTH(answer, of.PublicKey)
+	stored, err := signature.OpenSTH(answer, of.PublicKey)
 	if err != nil {
 		return head{}, fmt.Errorf("%w: %s: %v", ErrDamaged, filepath.Join(path, name), err)
 	}
-	return head{kept, answer}, nil
+	return head{stored, answer}, nil
 }

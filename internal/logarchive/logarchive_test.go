@@ -60,8 +60,8 @@ func plain(e testlog.Entry) []byte {
 	return append(append(append(leaf, length...), e.Certificate...), 0, 0)
 }
 
-// grow adds certificates and precertificates with several issuers, whose timestamps go back and forth as those of logs
-// of RFC 6962 do, and signs a head. Every fifth leaf has the extension leaf_index, as those of logs on tiles have.
+// grow adds certificates and precertificates with several issuers, and signs a head. The timestamps go back and forth,
+// as those of logs of RFC 6962 do. Every fifth leaf has the extension leaf_index, as those of logs on tiles have.
 func (w *world) grow(count uint64) {
 	for i := w.log.Size(); count > 0; i, count = i+1, count-1 {
 		e := testlog.Entry{Timestamp: 1_000_000 + i ^ 5, Certificate: fmt.Appendf(nil, "certificate %d", i),
@@ -78,7 +78,7 @@ func (w *world) grow(count uint64) {
 	w.log.Publish(w.log.Size(), 2_000_000+w.log.Size())
 }
 
-func (w *world) of() logarchive.Log {
+func (w *world) archivedLog() logarchive.Log {
 	return logarchive.Log{Origin: origin, URL: w.server.URL, PublicKey: w.log.PublicKey()}
 }
 
@@ -88,11 +88,12 @@ func options() logarchive.Options {
 
 // make archives the log.
 func (w *world) make() error {
-	_, err := logarchive.Make(testutil.Limited(w.t, testutil.Longest), w.folder, w.of(), options())
+	_, err := logarchive.Make(testutil.Limited(w.t, testutil.Longest), w.folder, w.archivedLog(), options())
 	return err
 }
 
-// filesIn returns the files of a folder by their names, except the index, whose bytes are SQLite's.
+// filesIn returns the contents of the files of a folder by their names, except the index, whose bytes SQLite
+// determines.
 func filesIn(t *testing.T, folder string) map[string]string {
 	t.Helper()
 	files := map[string]string{}
@@ -116,15 +117,15 @@ func filesIn(t *testing.T, folder string) map[string]string {
 	return files
 }
 
-// wantsArchived compares the archive with the log: each file, the head with its signature, and the index.
-func (w *world) wantsArchived() {
+// checkArchived compares the archive with the log: each file, the head with its signature, and the index.
+func (w *world) checkArchived() {
 	w.t.Helper()
 	size := w.log.Size()
 	files := filesIn(w.t, w.folder)
 	for name, content := range files {
 		at, isObject := strings.CutPrefix(name, "objects/")
 		if status, answer := get(w.t, w.log, "/"+at); isObject && at != "checkpoint" && (status != 200 || answer != content) {
-			w.t.Errorf("%s is not the log's: status %d", name, status)
+			w.t.Errorf("%s differs from the log: status %d", name, status)
 		}
 	}
 	for level, hashes := -1, size; hashes > 0; level++ {
@@ -139,17 +140,17 @@ func (w *world) wantsArchived() {
 		}
 	}
 	if _, answer := get(w.t, w.log, "/ct/v1/get-sth"); files["signed-head.json"] != answer {
-		w.t.Errorf("the head is kept as %q, and the log answers %q", files["signed-head.json"], answer)
+		w.t.Errorf("the stored head is %q, and the log answers %q", files["signed-head.json"], answer)
 	}
 	head, err := signature.OpenCheckpoint([]byte(files["objects/checkpoint"]), origin, w.log.PublicKey())
 	if err != nil || head.TreeSize != size || head.Root != w.log.Root(size) {
-		w.t.Errorf("the checkpoint is of %d entries with the root %x: %v", head.TreeSize, head.Root, err)
+		w.t.Errorf("the checkpoint has %d entries and the root %x: %v", head.TreeSize, head.Root, err)
 	}
-	w.wantsServed(size)
+	w.checkServed(size)
 }
 
-// wantsServed opens the archive, and asks for the index of some leaves.
-func (w *world) wantsServed(size uint64) {
+// checkServed opens the archive, and compares the indexes that it returns for some leaves.
+func (w *world) checkServed(size uint64) {
 	w.t.Helper()
 	ctx := testutil.Limited(w.t, testutil.Longest)
 	served, err := logarchive.Open(ctx, w.folder)
@@ -158,12 +159,12 @@ func (w *world) wantsServed(size uint64) {
 	for index := uint64(0); index < size; index += 1 + size/20 {
 		_, answer := get(w.t, w.log, fmt.Sprintf("/ct/v1/get-entries?start=%d&end=%d", index, index))
 		if found, err := served.IndexOf(ctx, leafHashIn(w.t, answer)); err != nil || found != index {
-			w.t.Errorf("the leaf %d is at %d by the index: %v", index, found, err)
+			w.t.Errorf("leaf %d has the index %d: %v", index, found, err)
 		}
 	}
 }
 
-// get asks a log.
+// get returns the status and the body of a response.
 func get(t *testing.T, of http.Handler, path string) (int, string) {
 	t.Helper()
 	recorded := httptest.NewRecorder()
@@ -171,14 +172,14 @@ func get(t *testing.T, of http.Handler, path string) (int, string) {
 	return recorded.Code, recorded.Body.String()
 }
 
-// record returns what a log answers.
+// record returns the body of a response.
 func record(of http.Handler, path string) []byte {
 	recorded := httptest.NewRecorder()
 	of.ServeHTTP(recorded, httptest.NewRequest(http.MethodGet, path, nil))
 	return recorded.Body.Bytes()
 }
 
-// base64Of returns so many bytes in base64.
+// base64Of returns this number of zero bytes in base64.
 func base64Of(length int) string { return base64.StdEncoding.EncodeToString(make([]byte, length)) }
 
 // leafHashIn returns the hash of the leaf in an answer to get-entries.
@@ -193,35 +194,35 @@ func leafHashIn(t *testing.T, answer string) [32]byte {
 	return sha256.Sum256(append([]byte{0}, leaf...))
 }
 
-// A log of any size becomes the tiles of its tree, with its last signed head.
+// TestArchivesALog checks that a log of any size becomes the tiles of its tree, with its last signed head.
 func TestArchivesALog(t *testing.T) {
 	for _, size := range []uint64{1, 255, 256, 257, 512, 1300} {
 		t.Run(fmt.Sprint(size), func(t *testing.T) {
 			w := newWorld(t, size)
 			testutil.Must(t, w.make())
-			w.wantsArchived()
+			w.checkArchived()
 			before := filesIn(t, w.folder)
 			testutil.Must(t, w.make())
-			wantsSame(t, before, filesIn(t, w.folder))
+			checkSame(t, before, filesIn(t, w.folder))
 		})
 	}
 }
 
-func wantsSame(t *testing.T, due, files map[string]string) {
+func checkSame(t *testing.T, expected, files map[string]string) {
 	t.Helper()
-	for name, content := range due {
+	for name, content := range expected {
 		if files[name] != content {
 			t.Errorf("%s has other bytes, or is missing", name)
 		}
 	}
 	for name := range files {
-		if _, ok := due[name]; !ok {
+		if _, ok := expected[name]; !ok {
 			t.Errorf("%s is left over", name)
 		}
 	}
 }
 
-// What a process that was killed in a write left of a file goes.
+// TestDropsHalfWrittenFiles checks that what a killed process left of a file is deleted.
 func TestDropsHalfWrittenFiles(t *testing.T) {
 	w := newWorld(t, 300)
 	testutil.Must(t, os.Mkdir(w.folder, 0o755))
@@ -232,24 +233,24 @@ func TestDropsHalfWrittenFiles(t *testing.T) {
 		testutil.Must(t, os.WriteFile(filepath.Join(w.folder, filepath.FromSlash(name)+".writing-2"), nil, 0o600))
 	}
 	testutil.Must(t, w.make())
-	wantsSame(t, before, filesIn(t, w.folder))
+	checkSame(t, before, filesIn(t, w.folder))
 }
 
-// An archive grows with its log, and ends with the same bytes as one that was made at once.
+// TestGrows checks that an archive grows with its log, and ends with the same bytes as one that was made at once.
 func TestGrows(t *testing.T) {
 	w := newWorld(t, 1)
 	for _, count := range []uint64{0, 43, 212, 1, 500, 256, 1000} {
 		w.grow(count)
 		testutil.Must(t, w.make())
-		w.wantsArchived()
+		w.checkArchived()
 	}
-	grown := w.folder
+	folderThatGrew := w.folder
 	w.folder = filepath.Join(t.TempDir(), "at once")
 	testutil.Must(t, w.make())
-	wantsSame(t, filesIn(t, w.folder), filesIn(t, grown))
+	checkSame(t, filesIn(t, w.folder), filesIn(t, folderThatGrew))
 }
 
-// The environment of a child process that archives a log and is killed before a write.
+// The environment variables of a child process that archives a log and is killed before a write.
 const (
 	childFolder = "ARCHIVE_CHILD_FOLDER"
 	childURL    = "ARCHIVE_CHILD_URL"
@@ -283,34 +284,34 @@ func TestMain(m *testing.M) {
 	os.Exit(0)
 }
 
-// killed archives the log in a process that is killed (-9) before the write with this number.
-func (w *world) killed(write int) {
+// makeKilled archives the log in a process that is killed (-9) before the write with this number.
+func (w *world) makeKilled(write int) {
 	w.t.Helper()
 	program, err := os.Executable()
 	testutil.Must(w.t, err)
 	child := exec.Command(program)
 	child.Env = append(os.Environ(), childFolder+"="+w.folder, childURL+"="+w.server.URL,
 		childKey+"="+base64.StdEncoding.EncodeToString(w.log.PublicKey()), fmt.Sprintf("%s=%d", childWrites, write))
-	said, err := child.CombinedOutput()
+	output, err := child.CombinedOutput()
 	var exit *exec.ExitError
 	if !errors.As(err, &exit) || exit.Sys().(syscall.WaitStatus).Signal() != syscall.SIGKILL {
-		w.t.Fatalf("it was not killed before write %d: %v %s", write, err, said)
+		w.t.Fatalf("it was not killed before write %d: %v %s", write, err, output)
 	}
 }
 
-// writes archives the log in a new folder that begins as another one, and returns how many writes that takes.
-func (w *world) writes(begin string) (count int) {
+// countWrites archives the log in a new folder that begins as another one, and returns the number of writes.
+func (w *world) countWrites(from string) (count int) {
 	w.t.Helper()
-	w.begin(begin)
+	w.newFolder(from)
 	settings := options()
 	settings.Writing = func(string) { count++ }
-	_, err := logarchive.Make(testutil.Limited(w.t, testutil.Longest), w.folder, w.of(), settings)
+	_, err := logarchive.Make(testutil.Limited(w.t, testutil.Longest), w.folder, w.archivedLog(), settings)
 	testutil.Must(w.t, err)
 	return count
 }
 
-// begin makes a new folder with the files of another one, if that is named.
-func (w *world) begin(from string) {
+// newFolder sets the folder to a new one, with the files of another one if that is named.
+func (w *world) newFolder(from string) {
 	w.t.Helper()
 	w.folder = filepath.Join(w.t.TempDir(), "archive")
 	if from != "" {
@@ -318,8 +319,9 @@ func (w *world) begin(from string) {
 	}
 }
 
-// A process that is killed before any of its writes leaves a folder with which the next one goes on, and which ends
-// with the same bytes. A head is served as soon as all of it is there, and from then on there is always one.
+// TestContinuesAfterAKillAtEachWrite kills a process before each of its writes. The next process must continue in the
+// folder that is left, and end with the same bytes. A head is served as soon as all of it is stored, and from then on
+// there is always one.
 func TestContinuesAfterAKillAtEachWrite(t *testing.T) {
 	w := newWorld(t, 300)
 	testutil.Must(t, w.make())
@@ -328,8 +330,8 @@ func TestContinuesAfterAKillAtEachWrite(t *testing.T) {
 	w.grow(300)
 	testutil.Must(t, w.make())
 	second := filesIn(t, w.folder)
-	for what, begin := range map[string]string{"from nothing": "", "from 300 entries": first} {
-		writes := w.writes(begin)
+	for what, from := range map[string]string{"from nothing": "", "from 300 entries": first} {
+		writes := w.countWrites(from)
 		if writes < 15 {
 			t.Errorf("%s: there are only %d writes", what, writes)
 		}
@@ -337,27 +339,28 @@ func TestContinuesAfterAKillAtEachWrite(t *testing.T) {
 			t.Run(fmt.Sprintf("%s %d", what, write), func(t *testing.T) {
 				t.Parallel()
 				own := &world{t: t, log: w.log, server: w.server}
-				own.begin(begin)
-				own.killed(write)
+				own.newFolder(from)
+				own.makeKilled(write)
 				served, err := logarchive.Open(testutil.Limited(t, testutil.Longest), own.folder)
 				switch {
 				case err == nil:
-					if size := served.Metrics().Entries; size != 600 && (begin == "" || size != 300) {
+					if size := served.Metrics().Entries; size != 600 && (from == "" || size != 300) {
 						t.Errorf("an archive of %d entries is served", size)
 					}
 					served.Close()
-				case begin != "" || !errors.Is(err, logarchive.ErrIncomplete) && !errors.Is(err, logarchive.ErrFolder):
+				case from != "" || !errors.Is(err, logarchive.ErrIncomplete) && !errors.Is(err, logarchive.ErrFolder):
 					t.Error(err)
 				}
 				testutil.Must(t, own.make())
-				wantsSame(t, second, filesIn(t, own.folder))
-				own.wantsServed(600)
+				checkSame(t, second, filesIn(t, own.folder))
+				own.checkServed(600)
 			})
 		}
 	}
 }
 
-// What is served stays whole while another process adds entries to the archive, although it deletes partial tiles.
+// TestServesWhileTheArchiveGrows checks that what is served remains complete while another process adds entries to the
+// archive and deletes partial tiles.
 func TestServesWhileTheArchiveGrows(t *testing.T) {
 	w := newWorld(t, 300)
 	testutil.Must(t, w.make())
@@ -382,6 +385,6 @@ func TestServesWhileTheArchiveGrows(t *testing.T) {
 		if root, err := tile.NewProver(served.Object, 1).Root(ctx, 300, 300); err != nil || root != w.log.Root(300) {
 			t.Errorf("the root is %x: %v", root, err)
 		}
-		w.wantsArchived()
+		w.checkArchived()
 	}
 }

@@ -17,25 +17,25 @@ import (
 	"wagtenib/internal/tile"
 )
 
-// Options say how a log is read.
+// Options are the options for reading a log.
 type Options struct {
 	Client logclient.Options
-	// MaxTiles is how many data tiles are in memory at most before they are proved and written; 16 if it is 0.
+	// MaxTiles is the maximum number of data tiles in memory before they are proved and written. 0 means 16.
 	MaxTiles int
-	// Progress is called after each part that was written, with the number of entries in the folder and in the head. It
-	// may be nil.
+	// Progress is called after each part was written, with the number of entries in the folder and in the head. It may
+	// be nil.
 	Progress func(entries, size uint64)
-	// Writing is called before each write, with the name of what is written. It is for tests, and may be nil.
+	// Writing is called before each write, with the name of the file. It is for tests, and may be nil.
 	Writing func(name string)
 }
 
-// maker makes an archive.
+// maker archives a log in a folder.
 type maker struct {
 	*folder
 	of      Log
 	client  *logclient.Client
 	options Options
-	entries uint64 // that are in the folder
+	entries uint64 // the number of entries in the folder
 	edge    *tile.Edge
 }
 
@@ -55,7 +55,7 @@ func Make(ctx context.Context, path string, of Log, options Options) (wagtenib.T
 	if m.entries, err = f.progress(); err != nil {
 		return wagtenib.TreeHead{}, err
 	}
-	wanted, err := m.agree(ctx)
+	wanted, err := m.chooseHead(ctx)
 	if err != nil {
 		return wagtenib.TreeHead{}, err
 	}
@@ -70,8 +70,9 @@ func Make(ctx context.Context, path string, of Log, options Options) (wagtenib.T
 	return wanted.TreeHead, m.finish(ctx, wanted)
 }
 
-// agree returns the head to archive: the newest one of the log, if it continues the one that is being archived.
-func (m *maker) agree(ctx context.Context) (head, error) {
+// chooseHead returns the head to archive, which is the newest one of the log. It must continue the head that is being
+// archived.
+func (m *maker) chooseHead(ctx context.Context) (head, error) {
 	answer, err := m.client.STH(ctx)
 	if err != nil {
 		return head{}, err
@@ -80,74 +81,74 @@ func (m *maker) agree(ctx context.Context) (head, error) {
 	if err != nil {
 		return head{}, fmt.Errorf("archive: get-sth: %w", err)
 	}
-	now := head{opened, answer}
-	if now.TreeSize == 0 {
+	answered := head{opened, answer}
+	if answered.TreeSize == 0 {
 		return head{}, ErrEmpty
 	}
-	kept, err := m.wanted()
+	wanted, err := m.wanted()
 	switch {
 	case errors.Is(err, stores.ErrAbsent):
-		return now, m.keep(wantedName, answer)
+		return answered, m.replaceFile(wantedName, answer)
 	case err != nil:
 		return head{}, err
-	case now.TreeSize == kept.TreeSize && now.Root != kept.Root:
-		return head{}, m.accuse(ErrFork, now, kept, nil)
-	case now.TreeSize < kept.TreeSize:
-		return head{}, m.older(ctx, now, kept)
-	case now.TreeSize > kept.TreeSize:
-		if err := m.prove(ctx, kept.TreeSize, kept.Root, now.TreeHead); err != nil {
+	case answered.TreeSize == wanted.TreeSize && answered.Root != wanted.Root:
+		return head{}, m.accuse(ErrFork, answered, wanted, nil)
+	case answered.TreeSize < wanted.TreeSize:
+		return head{}, m.olderError(ctx, answered, wanted)
+	case answered.TreeSize > wanted.TreeSize:
+		if err := m.prove(ctx, wanted.TreeSize, wanted.Root, answered.TreeHead); err != nil {
 			if errors.Is(err, ErrUnproved) {
-				err = m.accuse(ErrInconsistent, now, kept, err)
+				err = m.accuse(ErrInconsistent, answered, wanted, err)
 			}
 			return head{}, err
 		}
-	case now.Timestamp <= kept.Timestamp:
-		return kept, nil
+	case answered.Timestamp <= wanted.Timestamp:
+		return wanted, nil
 	}
-	return now, m.keep(wantedName, answer)
+	return answered, m.replaceFile(wantedName, answer)
 }
 
-// wanted returns the head that is being archived. If an operator gave that up, it is the head of which the archive has
-// all entries. The error wraps stores.ErrAbsent if there is neither.
+// wanted returns the head that is being archived. If an operator deleted that, it returns the head of which the archive
+// has all entries. The error wraps stores.ErrAbsent if there is neither.
 func (m *maker) wanted() (head, error) {
-	kept, err := keptHead(m.path, wantedName, m.of)
+	wanted, err := readHead(m.path, wantedName, m.of)
 	if !errors.Is(err, stores.ErrAbsent) {
-		return kept, err
+		return wanted, err
 	}
-	if kept, err = keptHead(m.path, signedName, m.of); err != nil {
+	if wanted, err = readHead(m.path, signedName, m.of); err != nil {
 		return head{}, err
 	}
-	return kept, m.keep(wantedName, kept.answer)
+	return wanted, m.replaceFile(wantedName, wanted.answer)
 }
 
-// accuse keeps a head that contradicts the one that is being archived, and returns the error.
-func (m *maker) accuse(kind error, now, kept head, why error) error {
+// accuse stores a head that contradicts the one that is being archived, and returns the error.
+func (m *maker) accuse(kind error, answered, wanted head, why error) error {
 	err := fmt.Errorf("%w: %s has its head of %d entries, and %s the one of %d", kind,
-		filepath.Join(m.path, wantedName), kept.TreeSize, filepath.Join(m.path, otherName), now.TreeSize)
+		filepath.Join(m.path, wantedName), wanted.TreeSize, filepath.Join(m.path, otherName), answered.TreeSize)
 	if why != nil {
 		err = fmt.Errorf("%w: %v", err, why)
 	}
-	return errors.Join(err, m.keep(otherName, now.answer))
+	return errors.Join(err, m.replaceFile(otherName, answered.answer))
 }
 
-// older returns the error of a head that has fewer entries than the one that is being archived. It is a fork if the
+// olderError returns the error of a head with fewer entries than the one that is being archived. It is a fork if the
 // folder has the tree of that size, with another root.
-func (m *maker) older(ctx context.Context, now, kept head) error {
-	signed, err := keptHead(m.path, signedName, m.of)
-	if err == nil && now.TreeSize <= signed.TreeSize {
+func (m *maker) olderError(ctx context.Context, answered, wanted head) error {
+	signed, err := readHead(m.path, signedName, m.of)
+	if err == nil && answered.TreeSize <= signed.TreeSize {
 		prover := tile.NewProver(m.objects.Get, 1)
-		root, err := prover.Root(ctx, now.TreeSize, signed.TreeSize)
+		root, err := prover.Root(ctx, answered.TreeSize, signed.TreeSize)
 		if err != nil {
 			return fmt.Errorf("archive: %w", err)
 		}
-		if root != now.Root {
-			return m.accuse(ErrFork, now, kept, nil)
+		if root != answered.Root {
+			return m.accuse(ErrFork, answered, wanted, nil)
 		}
 	}
-	return fmt.Errorf("%w: %d entries, and %d", ErrBehind, now.TreeSize, kept.TreeSize)
+	return fmt.Errorf("%w: %d entries, and %d", ErrBehind, answered.TreeSize, wanted.TreeSize)
 }
 
-// prove has the log prove that its first entries, which have this root, are the beginning of a head's tree.
+// prove checks the log's proof that its first entries, which have this root, are the beginning of a head's tree.
 func (m *maker) prove(ctx context.Context, size uint64, root wagtenib.Hash, of wagtenib.TreeHead) error {
 	proof, err := m.client.Consistency(ctx, size, of.TreeSize)
 	if errors.Is(err, logclient.ErrStatus) || errors.Is(err, logclient.ErrNotFound) ||
@@ -163,27 +164,27 @@ func (m *maker) prove(ctx context.Context, size uint64, root wagtenib.Hash, of w
 	return nil
 }
 
-// read reads the entries that are missing, and writes each part after it was proved.
+// read reads the missing entries, and writes each part after it was proved.
 func (m *maker) read(ctx context.Context, wanted wagtenib.TreeHead) error {
 	start := m.entries - m.entries%tile.Width
 	put := func(name string, content []byte) error { return m.put(ctx, name, content) }
 	edge, err := tile.EdgeAt(start/tile.Width, func(of tlog.Tile) ([]wagtenib.Hash, error) {
-		return m.above(ctx, of)
+		return m.partialTile(ctx, of)
 	}, put)
 	if err != nil {
 		return err
 	}
 	m.edge = edge
-	most := m.options.MaxTiles
-	if most == 0 {
-		most = maxChunkTiles
+	maxTiles := m.options.MaxTiles
+	if maxTiles == 0 {
+		maxTiles = maxChunkTiles
 	}
 	part := newChunk(start)
 	return m.client.Entries(ctx, start, wanted.TreeSize, func(page logclient.Page, _ bool) error {
 		if err := part.add(page); err != nil {
 			return err
 		}
-		if !part.isFull(most) && part.end() < wanted.TreeSize {
+		if !part.isFull(maxTiles) && part.end() < wanted.TreeSize {
 			return nil
 		}
 		err := m.write(ctx, part, wanted)
@@ -192,8 +193,8 @@ func (m *maker) read(ctx context.Context, wanted wagtenib.TreeHead) error {
 	})
 }
 
-// above returns the hashes of a partial hash tile, out of the full tiles below it.
-func (m *maker) above(ctx context.Context, of tlog.Tile) ([]wagtenib.Hash, error) {
+// partialTile computes the hashes of a partial hash tile from the full tiles below it.
+func (m *maker) partialTile(ctx context.Context, of tlog.Tile) ([]wagtenib.Hash, error) {
 	hashes := make([]wagtenib.Hash, of.W)
 	for i := range hashes {
 		below := tile.Full(of.L-1, uint64(of.N)*tile.Width+uint64(i))
@@ -210,7 +211,7 @@ func (m *maker) above(ctx context.Context, of tlog.Tile) ([]wagtenib.Hash, error
 	return hashes, nil
 }
 
-// write writes a part of the entries, if they are the signed tree's.
+// write writes a part of the entries if the entries belong to the signed tree.
 func (m *maker) write(ctx context.Context, part *chunk, wanted wagtenib.TreeHead) error {
 	root, end := part.root(m.edge.Subtrees()), part.end()
 	if end < wanted.TreeSize {
@@ -232,7 +233,7 @@ func (m *maker) write(ctx context.Context, part *chunk, wanted wagtenib.TreeHead
 		}
 	}
 	m.entries = end
-	if err := m.keep(progressName, fmt.Appendf(nil, "%d\n", end)); err != nil {
+	if err := m.replaceFile(progressName, fmt.Appendf(nil, "%d\n", end)); err != nil {
 		return err
 	}
 	if m.options.Progress != nil {
@@ -241,7 +242,7 @@ func (m *maker) write(ctx context.Context, part *chunk, wanted wagtenib.TreeHead
 	return nil
 }
 
-// checkRoot compares the root of the hash tiles in the folder with the head's.
+// checkRoot compares the root of the hash tiles in the folder with the root of a head.
 func (m *maker) checkRoot(ctx context.Context, of wagtenib.TreeHead) error {
 	root, err := tile.NewProver(m.objects.Get, 1).Root(ctx, of.TreeSize, of.TreeSize)
 	if err != nil {
@@ -253,13 +254,13 @@ func (m *maker) checkRoot(ctx context.Context, of wagtenib.TreeHead) error {
 	return nil
 }
 
-// finish publishes the head, after all its tiles are there. The partial tiles that only the head before has go after
-// that: until then, a server that opens the archive has to find them.
+// finish publishes the head, after all its tiles are stored. It deletes the partial tiles that only the previous head
+// needs after that, because until then a server that opens the archive needs them.
 func (m *maker) finish(ctx context.Context, of head) error {
 	if err := m.checkRoot(ctx, of.TreeHead); err != nil {
 		return err
 	}
-	signed, err := keptHead(m.path, signedName, m.of)
+	signed, err := readHead(m.path, signedName, m.of)
 	if err != nil && !errors.Is(err, stores.ErrAbsent) {
 		return err
 	}
@@ -267,25 +268,25 @@ func (m *maker) finish(ctx context.Context, of head) error {
 	if err != nil {
 		return fmt.Errorf("archive: %w", err)
 	}
-	// (a run that was stopped may have left some)
+	// An interrupted run may have left obsolete tiles.
 	if err := m.dropObsolete(ctx, signed.TreeSize); err != nil {
 		return err
 	}
 	if names := tile.PartialOnly(signed.TreeSize, of.TreeSize); len(names) > 0 {
-		if err := m.keep(obsoleteName, []byte(strings.Join(names, "\n")+"\n")); err != nil {
+		if err := m.replaceFile(obsoleteName, []byte(strings.Join(names, "\n")+"\n")); err != nil {
 			return err
 		}
 	}
-	if err := m.keep(checkpointAt, checkpoint); err != nil {
+	if err := m.replaceFile(checkpointName, checkpoint); err != nil {
 		return err
 	}
-	if err := m.keep(signedName, of.answer); err != nil {
+	if err := m.replaceFile(signedName, of.answer); err != nil {
 		return err
 	}
 	return m.dropObsolete(ctx, of.TreeSize)
 }
 
-// dropObsolete deletes the partial tiles that the folder names as obsolete, unless a tree of this size has them.
+// dropObsolete deletes the partial tiles that the folder lists as obsolete, unless a tree of this size has them.
 func (m *maker) dropObsolete(ctx context.Context, size uint64) error {
 	path := filepath.Join(m.path, obsoleteName)
 	content, err := stores.KeptFile(path)
@@ -311,7 +312,7 @@ func (m *maker) dropObsolete(ctx context.Context, size uint64) error {
 	return nil
 }
 
-// restoreIndex builds the index again from the hash tiles, unless it has the last entry of the folder.
+// restoreIndex builds the index again from the hash tiles, unless the index has the last entry of the folder.
 func (m *maker) restoreIndex(ctx context.Context) error {
 	if m.entries == 0 {
 		return nil
@@ -336,7 +337,7 @@ func (m *maker) restoreIndex(ctx context.Context) error {
 	return nil
 }
 
-// leafHashes returns the hashes of the leaves of a data tile, out of the lowest hash tile.
+// leafHashes returns the hashes of the leaves of a data tile, from the lowest hash tile.
 func (m *maker) leafHashes(ctx context.Context, of tlog.Tile) ([]wagtenib.Hash, error) {
 	of.L = 0
 	content, err := m.get(ctx, tile.Name(of))

@@ -12,8 +12,8 @@ import (
 	"wagtenib/internal/testutil"
 )
 
-// TestLargeIssuersEndAPart: the bytes of issuers count among those that are in memory before a part is proved and
-// written, so a tile with large ones is written alone.
+// TestLargeIssuersEndAPart checks that the bytes of issuers count among those in memory before a part is proved and
+// written, so that a tile with large issuers is written by itself.
 func TestLargeIssuersEndAPart(t *testing.T) {
 	w := newWorld(t, 0)
 	for i := range 512 {
@@ -28,20 +28,20 @@ func TestLargeIssuersEndAPart(t *testing.T) {
 	of := options()
 	of.MaxTiles = 0
 	of.Progress = func(entries, _ uint64) { parts = append(parts, entries) }
-	_, err := logarchive.Make(testutil.Limited(t, testutil.Longest), w.folder, w.of(), of)
+	_, err := logarchive.Make(testutil.Limited(t, testutil.Longest), w.folder, w.archivedLog(), of)
 	testutil.Must(t, err)
 	if !slices.Equal(parts, []uint64{256, 512}) {
 		t.Errorf("the parts end at %d", parts)
 	}
 }
 
-// TestForkOfTheSizeThatIsArchived: while a larger head is being archived, a head of the size that the archive has, with
-// another root, is a fork.
-func TestForkOfTheSizeThatIsArchived(t *testing.T) {
+// TestForkOfTheArchivedSize checks that a head of the size that the archive has, with another root, is a fork, also
+// while a larger head is being archived.
+func TestForkOfTheArchivedSize(t *testing.T) {
 	w := newWorld(t, 300)
 	testutil.Must(t, w.make())
 	w.grow(300)
-	answers(w.log, "get-entries", func(rw http.ResponseWriter, _ *http.Request) bool {
+	intercept(w.log, "get-entries", func(rw http.ResponseWriter, _ *http.Request) bool {
 		rw.WriteHeader(http.StatusInternalServerError)
 		return true
 	})

@@ -20,16 +20,16 @@ import (
 	"wagtenib/internal/testutil"
 )
 
-// answers has a log answer one call by a function, which may answer nothing.
-func answers(of *testlog.Log, call string, how func(w http.ResponseWriter, r *http.Request) bool) {
+// intercept replaces the answers to one call by those of a function. If the function returns false, the log answers.
+func intercept(of *testlog.Log, call string, respond func(w http.ResponseWriter, r *http.Request) bool) {
 	of.Intercept(func(w http.ResponseWriter, r *http.Request) bool {
-		return r.URL.Path == "/ct/v1/"+call && how(w, r)
+		return r.URL.Path == "/ct/v1/"+call && respond(w, r)
 	})
 }
 
-// asEntries has a log answer an entry as a function changes it.
-func asEntries(of *testlog.Log, index uint64, change func(leaf, extra []byte) (any, bool)) {
-	answers(of, "get-entries", func(w http.ResponseWriter, r *http.Request) bool {
+// changeEntry makes a log answer one entry as a function changes it.
+func changeEntry(of *testlog.Log, index uint64, change func(leaf, extra []byte) (any, bool)) {
+	intercept(of, "get-entries", func(w http.ResponseWriter, r *http.Request) bool {
 		start, err := strconv.ParseUint(r.URL.Query().Get("start"), 10, 64)
 		end, failed := strconv.ParseUint(r.URL.Query().Get("end"), 10, 64)
 		if err != nil || failed != nil || index < start || index > end {
@@ -54,7 +54,7 @@ func asEntries(of *testlog.Log, index uint64, change func(leaf, extra []byte) (a
 			leaf, extra := one.Entries[0].Leaf, one.Entries[0].Extra
 			if at != index {
 				answer.Entries = append(answer.Entries, map[string][]byte{"leaf_input": leaf, "extra_data": extra})
-			} else if changed, there := change(leaf, extra); there {
+			} else if changed, isPresent := change(leaf, extra); isPresent {
 				answer.Entries = append(answer.Entries, changed)
 			}
 		}
@@ -62,15 +62,15 @@ func asEntries(of *testlog.Log, index uint64, change func(leaf, extra []byte) (a
 	})
 }
 
-// entry is an entry of get-entries.
+// entry returns an entry of get-entries.
 func entry(leaf, extra []byte) map[string][]byte {
 	return map[string][]byte{"leaf_input": leaf, "extra_data": extra}
 }
 
-// The lies of a log of 600 entries about which 300 were archived before, and what they are refused by.
+// lies has the lies of a log of 600 entries, 300 of which were archived before, and the errors that they must cause.
 var lies = map[string]struct {
-	tell func(t *testing.T, w *world)
-	due  error
+	apply    func(t *testing.T, w *world)
+	expected error
 }{
 	"another root": {func(_ *testing.T, w *world) {
 		w.log.PublishRoot(600, 2_000_700, [32]byte{1})
@@ -90,55 +90,55 @@ var lies = map[string]struct {
 		other, err := testlog.New(origin)
 		testutil.Must(t, err)
 		other.PublishRoot(600, 2_000_700, w.log.Root(600))
-		answers(w.log, "get-sth", func(rw http.ResponseWriter, _ *http.Request) bool {
+		intercept(w.log, "get-sth", func(rw http.ResponseWriter, _ *http.Request) bool {
 			_, err := rw.Write(record(other, "/ct/v1/get-sth"))
 			return err == nil
 		})
 	}, signature.ErrSigner},
 	"a head that is none": {func(_ *testing.T, w *world) {
-		answers(w.log, "get-sth", func(rw http.ResponseWriter, _ *http.Request) bool {
+		intercept(w.log, "get-sth", func(rw http.ResponseWriter, _ *http.Request) bool {
 			_, err := rw.Write([]byte(`{"tree_size":600}`))
 			return err == nil
 		})
 	}, signature.ErrForm},
 	"another certificate": {func(_ *testing.T, w *world) {
-		asEntries(w.log, 400, func(leaf, extra []byte) (any, bool) {
+		changeEntry(w.log, 400, func(leaf, extra []byte) (any, bool) {
 			leaf[len(leaf)-4] ^= 1
 			return entry(leaf, extra), true
 		})
 	}, logarchive.ErrUnproved},
 	"another last certificate": {func(_ *testing.T, w *world) {
-		asEntries(w.log, 599, func(leaf, extra []byte) (any, bool) {
+		changeEntry(w.log, 599, func(leaf, extra []byte) (any, bool) {
 			leaf[len(leaf)-4] ^= 1
 			return entry(leaf, extra), true
 		})
 	}, logarchive.ErrOther},
 	"an entry is left out": {func(_ *testing.T, w *world) {
-		asEntries(w.log, 400, func([]byte, []byte) (any, bool) { return nil, false })
+		changeEntry(w.log, 400, func([]byte, []byte) (any, bool) { return nil, false })
 	}, logarchive.ErrUnproved},
 	"no entries any more": {func(_ *testing.T, w *world) {
-		answers(w.log, "get-entries", func(rw http.ResponseWriter, _ *http.Request) bool {
+		intercept(w.log, "get-entries", func(rw http.ResponseWriter, _ *http.Request) bool {
 			_, err := rw.Write([]byte(`{"entries":[]}`))
 			return err == nil
 		})
 	}, logclient.ErrNonsense},
 	"a leaf that is none": {func(_ *testing.T, w *world) {
-		asEntries(w.log, 400, func(leaf, extra []byte) (any, bool) { return entry(leaf[:12], extra), true })
+		changeEntry(w.log, 400, func(leaf, extra []byte) (any, bool) { return entry(leaf[:12], extra), true })
 	}, logarchive.ErrEntry},
 	"a chain that is cut off": {func(_ *testing.T, w *world) {
-		asEntries(w.log, 400, func(leaf, extra []byte) (any, bool) { return entry(leaf, extra[:len(extra)-1]), true })
+		changeEntry(w.log, 400, func(leaf, extra []byte) (any, bool) { return entry(leaf, extra[:len(extra)-1]), true })
 	}, logarchive.ErrEntry},
 	"bytes after a chain": {func(_ *testing.T, w *world) {
-		asEntries(w.log, 400, func(leaf, extra []byte) (any, bool) { return entry(leaf, append(extra, 0)), true })
+		changeEntry(w.log, 400, func(leaf, extra []byte) (any, bool) { return entry(leaf, append(extra, 0)), true })
 	}, logarchive.ErrEntry},
 	"no proof": {func(_ *testing.T, w *world) {
-		answers(w.log, "get-sth-consistency", func(rw http.ResponseWriter, r *http.Request) bool {
+		intercept(w.log, "get-sth-consistency", func(rw http.ResponseWriter, r *http.Request) bool {
 			rw.WriteHeader(http.StatusBadRequest)
 			return true
 		})
 	}, logarchive.ErrInconsistent},
 	"a wrong proof between heads and entries": {func(_ *testing.T, w *world) {
-		answers(w.log, "get-sth-consistency", func(rw http.ResponseWriter, r *http.Request) bool {
+		intercept(w.log, "get-sth-consistency", func(rw http.ResponseWriter, r *http.Request) bool {
 			if r.URL.Query().Get("first") == "300" {
 				return false
 			}
@@ -148,8 +148,8 @@ var lies = map[string]struct {
 	}, logarchive.ErrUnproved},
 }
 
-// A log that lies is refused by name. What was archived before stays as it was, and as soon as the log is honest again,
-// the archive goes on.
+// TestRefusesALogThatLies checks the error for each lie. What was archived before must not change, and as soon as the
+// log is honest again, the archive continues.
 func TestRefusesALogThatLies(t *testing.T) {
 	for what, of := range lies {
 		t.Run(what, func(t *testing.T) {
@@ -157,38 +157,39 @@ func TestRefusesALogThatLies(t *testing.T) {
 			testutil.Must(t, w.make())
 			before := filesIn(t, w.folder)
 			w.grow(300)
-			of.tell(t, w)
-			if err := w.make(); !errors.Is(err, of.due) || strings.Contains(err.Error(), "nil") {
-				t.Errorf("%v, and %v is due", err, of.due)
+			of.apply(t, w)
+			if err := w.make(); !errors.Is(err, of.expected) || strings.Contains(err.Error(), "nil") {
+				t.Errorf("%v, expected %v", err, of.expected)
 			}
 			after := filesIn(t, w.folder)
 			for name, content := range before {
-				isGrown := name == "progress" && after[name] == "512\n" && errors.Is(of.due, logarchive.ErrOther)
+				isGrown := name == "progress" && after[name] == "512\n" && errors.Is(of.expected, logarchive.ErrOther)
 				if after[name] != content && name != "wanted-head.json" && !isGrown {
-					t.Errorf("%s is not as it was", name)
+					t.Errorf("%s has changed", name)
 				}
 			}
-			if _, isKept := after["other-head.json"]; isKept != (errors.Is(of.due, logarchive.ErrFork) ||
-				errors.Is(of.due, logarchive.ErrInconsistent)) {
-				t.Errorf("a head that contradicts the archive is kept: %v", isKept)
+			if _, isStored := after["other-head.json"]; isStored != (errors.Is(of.expected, logarchive.ErrFork) ||
+				errors.Is(of.expected, logarchive.ErrInconsistent)) {
+				t.Errorf("a head that contradicts the archive is stored: %v", isStored)
 			}
 			for name := range after {
-				// (what was proved before the lie may stay)
-				if _, ok := before[name]; !ok && name != "other-head.json" && !errors.Is(of.due, logarchive.ErrOther) {
+				// What was proved before the lie may remain.
+				if _, ok := before[name]; !ok && name != "other-head.json" && !errors.Is(of.expected, logarchive.ErrOther) {
 					t.Errorf("%s was written", name)
 				}
 			}
 			w.log.Intercept(nil)
 			w.log.Publish(600, 2_000_800)
-			w.wantsServed(300)
+			w.checkServed(300)
 			testutil.Must(t, w.make())
-			w.wantsArchived()
+			w.checkArchived()
 		})
 	}
 }
 
-// A head that the log signed and cannot keep is refused until the operator gives it up by deleting it.
-func TestRootThatIsNoTrees(t *testing.T) {
+// TestRefusesAWrongRootUntilDeleted checks that a signed head with a wrong root blocks the archive until the operator
+// deletes that head.
+func TestRefusesAWrongRootUntilDeleted(t *testing.T) {
 	w := newWorld(t, 300)
 	w.log.PublishRoot(300, 2_000_300, [32]byte{1})
 	if err := w.make(); !errors.Is(err, logarchive.ErrUnproved) {
@@ -201,8 +202,8 @@ func TestRootThatIsNoTrees(t *testing.T) {
 	testutil.Must(t, os.Remove(filepath.Join(w.folder, "wanted-head.json")))
 	testutil.Must(t, os.Remove(filepath.Join(w.folder, "other-head.json")))
 	testutil.Must(t, w.make())
-	w.wantsArchived()
-	// The head of which the archive has all entries is not given up so.
+	w.checkArchived()
+	// Deleting wanted-head.json does not discard the head of which the archive has all entries.
 	testutil.Must(t, os.Remove(filepath.Join(w.folder, "wanted-head.json")))
 	w.log.Publish(200, 2_000_302)
 	if err := w.make(); !errors.Is(err, logarchive.ErrBehind) {
@@ -210,10 +211,11 @@ func TestRootThatIsNoTrees(t *testing.T) {
 	}
 	w.log.Publish(300, 2_000_303)
 	testutil.Must(t, w.make())
-	w.wantsArchived()
+	w.checkArchived()
 }
 
-// A folder of another log, of another origin, with other files, or in use is refused.
+// TestRefusesAnotherFolder checks that a folder of another log, of another origin, with other files, or in use is
+// refused.
 func TestRefusesAnotherFolder(t *testing.T) {
 	w, other := newWorld(t, 20), newWorld(t, 20)
 	testutil.Must(t, w.make())
@@ -222,13 +224,13 @@ func TestRefusesAnotherFolder(t *testing.T) {
 	if err := other.make(); !errors.Is(err, logarchive.ErrFolder) {
 		t.Errorf("another log: %v", err)
 	}
-	of := w.of()
+	of := w.archivedLog()
 	of.Origin = "elsewhere.example"
 	if _, err := logarchive.Make(testutil.Limited(t, testutil.Longest), w.folder, of,
 		options()); !errors.Is(err, logarchive.ErrFolder) {
 		t.Errorf("another origin: %v", err)
 	}
-	wantsSame(t, before, filesIn(t, w.folder))
+	checkSame(t, before, filesIn(t, w.folder))
 	w.folder = t.TempDir()
 	testutil.Must(t, os.WriteFile(filepath.Join(w.folder, "letter"), []byte("Dear"), 0o600))
 	if err := w.make(); !errors.Is(err, logarchive.ErrFolder) || !strings.HasSuffix(err.Error(), "(name an empty folder)") {
@@ -247,11 +249,11 @@ func TestRefusesAnotherFolder(t *testing.T) {
 			t.Errorf("a folder in use: %v", err)
 		}
 	}
-	_, err := logarchive.Make(testutil.Limited(t, testutil.Longest), w.folder, w.of(), settings)
+	_, err := logarchive.Make(testutil.Limited(t, testutil.Longest), w.folder, w.archivedLog(), settings)
 	testutil.Must(t, err)
 }
 
-// An index that is lost is refused, and is built again by the next run.
+// TestIndexIsBuiltAgain checks that a lost index is an error, and that the next run builds it again.
 func TestIndexIsBuiltAgain(t *testing.T) {
 	w := newWorld(t, 600)
 	testutil.Must(t, w.make())
@@ -264,10 +266,10 @@ func TestIndexIsBuiltAgain(t *testing.T) {
 		t.Errorf("%v", err)
 	}
 	testutil.Must(t, w.make())
-	w.wantsArchived()
+	w.checkArchived()
 }
 
-// Objects that are not those of the tree are not served, and others are.
+// TestServesNoDamage checks that objects that do not belong to the tree are not served, and that others are.
 func TestServesNoDamage(t *testing.T) {
 	w := newWorld(t, 600)
 	testutil.Must(t, w.make())
@@ -275,24 +277,25 @@ func TestServesNoDamage(t *testing.T) {
 	served, err := logarchive.Open(ctx, w.folder)
 	testutil.Must(t, err)
 	defer served.Close()
-	for name, due := range map[string]error{"tile/data/000": loginterface.ErrStore, "tile/0/001": loginterface.ErrStore,
+	for name, expected := range map[string]error{
+		"tile/data/000": loginterface.ErrStore, "tile/0/001": loginterface.ErrStore,
 		"tile/data/002.p/88": loginterface.ErrStore, "tile/data/001": nil, "tile/data/002.p/87": stores.ErrAbsent,
 		"tile/data/003": stores.ErrAbsent, "checkpoint": stores.ErrName, "../signed-head.json": stores.ErrName} {
-		if errors.Is(due, loginterface.ErrStore) {
+		if errors.Is(expected, loginterface.ErrStore) {
 			path := filepath.Join(w.folder, "objects", filepath.FromSlash(name))
 			content, err := os.ReadFile(path)
 			testutil.Must(t, err)
-			content[3] ^= 1 // (of a data tile, a byte of a timestamp: a hash covers it)
+			content[3] ^= 1 // In a data tile, this is a byte of a timestamp, which a hash covers.
 			testutil.Must(t, os.WriteFile(path, content, 0o600))
 		}
 		content, err := served.Object(ctx, name, 1<<20)
-		if !errors.Is(err, due) || (err == nil) != (content != nil) {
-			t.Errorf("%s: %d bytes, %v, and %v is due", name, len(content), err, due)
+		if !errors.Is(err, expected) || (err == nil) != (content != nil) {
+			t.Errorf("%s: %d bytes, %v, expected %v", name, len(content), err, expected)
 		}
 	}
 }
 
-// fork has the log answer with another history from an index on.
+// fork makes the log answer with another history from an index on.
 func (w *world) fork(t *testing.T, from, size uint64) {
 	t.Helper()
 	other := w.log.Fork(from)

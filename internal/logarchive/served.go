@@ -17,16 +17,16 @@ import (
 	"wagtenib/internal/tile"
 )
 
-// Served is an archive that is complete, as a log that takes no submissions: a loginterface.Log. It believes neither
-// its objects nor its index. Its methods may be called at once.
+// Served is a complete archive, served as a log that takes no submissions. It implements loginterface.Log. It checks
+// what it reads from its objects and its index. Its methods may be called concurrently.
 type Served struct {
-	of       Log
+	log      Log
 	head     loginterface.Head
 	tree     signer.Head
 	objects  stores.Objects
 	index    *leafIndex
 	comparer *tile.Comparer
-	// edge has the partial tiles of the tree, by their names. A process that goes on with the archive deletes them.
+	// edge has the partial tiles of the tree by their names, because a process that adds to the archive deletes them.
 	edge map[string][]byte
 }
 
@@ -39,8 +39,8 @@ func OriginOf(path string) (string, error) {
 	return of.Origin, err
 }
 
-// Open opens a complete archive. The error wraps ErrFolder, ErrIncomplete or ErrDamaged, or says what cannot be read. A
-// process that goes on with the archive may run at the same time. What it adds is served after the next Open.
+// Open opens a complete archive. The error wraps ErrFolder, ErrIncomplete or ErrDamaged, or says what cannot be read.
+// Another process may add to the archive at the same time. New entries are served after the next Open.
 func Open(ctx context.Context, path string) (s *Served, err error) {
 	if _, err := OriginOf(path); err != nil {
 		return nil, err
@@ -49,14 +49,14 @@ func Open(ctx context.Context, path string) (s *Served, err error) {
 	if err != nil {
 		return nil, err
 	}
-	signed, err := keptHead(path, signedName, of)
+	signed, err := readHead(path, signedName, of)
 	if errors.Is(err, stores.ErrAbsent) {
 		return nil, fmt.Errorf("%w: %s", ErrIncomplete, path)
 	}
 	if err != nil {
 		return nil, err
 	}
-	s = &Served{of: of, tree: signer.Head{Size: signed.TreeSize, Timestamp: signed.Timestamp, Root: signed.Root},
+	s = &Served{log: of, tree: signer.Head{Size: signed.TreeSize, Timestamp: signed.Timestamp, Root: signed.Root},
 		edge: map[string][]byte{}}
 	if s.head, err = headOf(signed, of); err != nil {
 		return nil, err
@@ -82,7 +82,7 @@ func Open(ctx context.Context, path string) (s *Served, err error) {
 	return s, nil
 }
 
-// headOf returns a head as package log has it.
+// headOf returns a signed head as a loginterface.Head.
 func headOf(signed head, of Log) (loginterface.Head, error) {
 	sth, err := signature.ReadSTH(signed.answer)
 	if err != nil {
@@ -96,7 +96,7 @@ func headOf(signed head, of Log) (loginterface.Head, error) {
 		Signature: sth.Signature}, nil
 }
 
-// keepEdge reads the partial tiles of the tree.
+// keepEdge reads the partial tiles of the tree into memory.
 func (s *Served) keepEdge(ctx context.Context) error {
 	for _, name := range tile.PartialOnly(s.tree.Size, 0) {
 		content, err := s.read(ctx, name)
@@ -115,7 +115,7 @@ func (s *Served) checkWhole(ctx context.Context) error {
 		return fmt.Errorf("%w: %w", ErrDamaged, err)
 	}
 	if root != s.tree.Root {
-		return fmt.Errorf("%w: its tiles have another root than its head", ErrDamaged)
+		return fmt.Errorf("%w: the tiles and the head have different roots", ErrDamaged)
 	}
 	last := tile.Data(s.tree.Size-1, s.tree.Size)
 	last.L = 0
@@ -138,19 +138,19 @@ func (s *Served) read(ctx context.Context, name string) ([]byte, error) {
 	})(ctx, name)
 }
 
-// get reads an object. A partial tile that was deleted is the one that was there when the archive was opened.
-func (s *Served) get(ctx context.Context, name string, most int64) ([]byte, error) {
-	content, err := s.objects.Get(ctx, name, most)
-	if kept := s.edge[name]; errors.Is(err, stores.ErrAbsent) && kept != nil && int64(len(kept)) <= most {
+// get reads an object. If a partial tile was deleted, it returns the tile that was read when the archive was opened.
+func (s *Served) get(ctx context.Context, name string, maxBytes int64) ([]byte, error) {
+	content, err := s.objects.Get(ctx, name, maxBytes)
+	if kept := s.edge[name]; errors.Is(err, stores.ErrAbsent) && kept != nil && int64(len(kept)) <= maxBytes {
 		return bytes.Clone(kept), nil
 	}
 	return content, err
 }
 
 // Key returns the log's public key, a SubjectPublicKeyInfo in DER.
-func (s *Served) Key() []byte { return s.of.PublicKey }
+func (s *Served) Key() []byte { return s.log.PublicKey }
 
-// Close closes what is open.
+// Close closes the index and the objects.
 func (s *Served) Close() {
 	if s.index != nil {
 		_ = s.index.close()
@@ -160,19 +160,19 @@ func (s *Served) Close() {
 	}
 }
 
-// Submit is loginterface.Log's.
+// Submit implements loginterface.Log. An archive takes no submissions.
 func (s *Served) Submit(context.Context, loginterface.Entry) (loginterface.Place, error) {
 	return loginterface.Place{}, loginterface.ErrEnded
 }
 
-// Checkpoint is loginterface.Log's: the last head of the log.
+// Checkpoint implements loginterface.Log. It returns the last head of the log.
 func (s *Served) Checkpoint(context.Context) (loginterface.Head, error) { return s.head, nil }
 
-// HeadOf is loginterface.Log's.
+// HeadOf implements loginterface.Log.
 func (s *Served) HeadOf(context.Context, uint64) (loginterface.Head, error) { return s.head, nil }
 
-// Object is loginterface.Log's. Each tile is compared with the tree of the head.
-func (s *Served) Object(ctx context.Context, name string, most int64) ([]byte, error) {
+// Object implements loginterface.Log. It compares each tile with the tree of the head.
+func (s *Served) Object(ctx context.Context, name string, maxBytes int64) ([]byte, error) {
 	of, isTile := tile.Parse(name)
 	if !isTile && !strings.HasPrefix(name, "issuer/") {
 		return nil, fmt.Errorf("%w: %.80q is not published", stores.ErrName, name)
@@ -180,7 +180,7 @@ func (s *Served) Object(ctx context.Context, name string, most int64) ([]byte, e
 	if isTile && tile.WidthIn(of, s.tree.Size) != of.W {
 		return nil, fmt.Errorf("archive: %s: %w", name, stores.ErrAbsent)
 	}
-	content, err := s.get(ctx, name, most)
+	content, err := s.get(ctx, name, maxBytes)
 	if !isTile || errors.Is(err, stores.ErrTooLong) {
 		return content, err
 	}
@@ -196,7 +196,7 @@ func (s *Served) Object(ctx context.Context, name string, most int64) ([]byte, e
 	return content, nil
 }
 
-// IndexOf is loginterface.Log's.
+// IndexOf implements loginterface.Log.
 func (s *Served) IndexOf(ctx context.Context, leafHash [32]byte) (uint64, error) {
 	index, ok, err := s.index.find(ctx, leafHash)
 	if err != nil {
@@ -208,10 +208,10 @@ func (s *Served) IndexOf(ctx context.Context, leafHash [32]byte) (uint64, error)
 	return index, nil
 }
 
-// End is loginterface.Log's. Nothing waits.
+// End implements loginterface.Log. There are no waiting requests.
 func (s *Served) End(context.Context) error { return nil }
 
-// Metrics are loginterface.Log's.
+// Metrics implements loginterface.Log.
 func (s *Served) Metrics() loginterface.Metrics {
 	return loginterface.Metrics{Entries: s.head.TreeSize, HeadAge: time.Since(time.UnixMilli(int64(s.head.Timestamp)))}
 }

@@ -11,8 +11,8 @@ import (
 	"strings"
 )
 
-// fewCosigned judges a head of a tiled log by a policy of witnesses: the file `witnesses` has the quorum and a verifier
-// key a line (C2SP tlog-cosignature).
+// fewCosigned judges a head of a tiled log by a policy of witnesses. The file witnesses has the quorum and, on each
+// further line, a verifier key (C2SP tlog-cosignature).
 func (e *evidence) fewCosigned() (string, error) {
 	second, err := e.head("head-2")
 	if err != nil {
@@ -30,22 +30,21 @@ func (e *evidence) fewCosigned() (string, error) {
 		if line == "" {
 			continue
 		}
-		words := strings.Split(line, "+")
-		key, err := base64.StdEncoding.DecodeString(strings.Join(words[min(2, len(words)):], "+"))
-		if err != nil || len(words) < 3 || len(key) != 1+ed25519.PublicKeySize || key[0] != 4 {
-			return "", notShown("the file witnesses has a line that is no verifier key: %q", line)
+		parts := strings.Split(line, "+")
+		key, err := base64.StdEncoding.DecodeString(strings.Join(parts[min(2, len(parts)):], "+"))
+		if err != nil || len(parts) < 3 || len(key) != 1+ed25519.PublicKeySize || key[0] != 4 {
+			return "", notShown("the file witnesses has a line that is not a verifier key: %q", line)
 		}
 		witnesses++
-		if isCosigned(text+"\n", lines, words[0], key) {
+		if isCosigned(text+"\n", lines, parts[0], key) {
 			count++
 		}
 	}
 	if quorum < 0 || count >= quorum {
 		return "", notShown("%d witnesses cosigned the head, and the quorum is %d", count, quorum)
 	}
-	return fmt.Sprintf("of %d witnesses, %d cosigned the log's head of %d leaves, and %d are wanted. It must be "+
-		"believed "+
-		"that the log gave no more cosignatures", witnesses, count, second.size, quorum), nil
+	return fmt.Sprintf("of %d witnesses, %d cosigned the log's head of %d leaves, and %d are needed. It must be "+
+		"believed that the log gave no more cosignatures", witnesses, count, second.size, quorum), nil
 }
 
 // isCosigned reports whether a witness's cosignature is among the lines of a note.

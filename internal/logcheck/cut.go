@@ -8,24 +8,23 @@ import (
 	"encoding/hex"
 )
 
-// What RFC 6962, section 3.1, and RFC 5280 name extensions and purposes by.
+// The object identifiers in RFC 6962, section 3.1, and RFC 5280.
 var (
 	poisonID    = asn1.ObjectIdentifier{1, 3, 6, 1, 4, 1, 11129, 2, 4, 3}
 	signingID   = asn1.ObjectIdentifier{1, 3, 6, 1, 4, 1, 11129, 2, 4, 4}
 	authorityID = asn1.ObjectIdentifier{2, 5, 29, 35}
 )
 
-// extension is one of a certificate.
+// extension is an extension of a certificate.
 type extension struct {
 	ID       asn1.ObjectIdentifier
 	Critical bool `asn1:"optional"`
 	Value    []byte
 }
 
-// Precertificates judges the precertificates of a log that Folder found to be right, and returns how many it has: each
-// leaf's TBSCertificate must be that of the precertificate beside it without its poison, with the name and the key
-// identifier of the final issuer, and else the same (RFC 6962, section 3.2), and its key hash must be the final
-// issuer's.
+// Precertificates checks the precertificates of a log in which Folder found no fault, and returns their number. The
+// TBSCertificate in each leaf must be that of its precertificate without the poison, and with the name and the key
+// identifier of the final issuer (RFC 6962, section 3.2). The key hash in the leaf must be that of the final issuer.
 func Precertificates(path string) (count int, err error) {
 	f := &folder{objects: map[string][]byte{}}
 	if err := f.read(path); err != nil {
@@ -33,8 +32,8 @@ func Precertificates(path string) (count int, err error) {
 	}
 	var size uint64
 	for name := range f.objects {
-		if words := headForm.FindStringSubmatch(name); words != nil {
-			if of := number(words[1]); of > size {
+		if parts := headForm.FindStringSubmatch(name); parts != nil {
+			if of := number(parts[1]); of > size {
 				size = of
 			}
 		}
@@ -55,7 +54,7 @@ func Precertificates(path string) (count int, err error) {
 		if err != nil {
 			return 0, wrong("leaf %d: its precertificate: %v", i, err)
 		}
-		// (the type, the key hash, and three bytes of length)
+		// The entry begins with the type, the key hash, and three bytes of length.
 		if !bytes.Equal(l.entry[2:34], keyHash[:]) {
 			return 0, wrong("leaf %d has another issuer's key hash than its precertificate", i)
 		}
@@ -66,7 +65,7 @@ func Precertificates(path string) (count int, err error) {
 	return count, nil
 }
 
-// number reads digits.
+// number reads decimal digits.
 func number(digits string) (n uint64) {
 	for _, digit := range digits {
 		n = 10*n + uint64(digit-'0')
@@ -74,7 +73,7 @@ func number(digits string) (n uint64) {
 	return n
 }
 
-// entryOf makes the entry of a precertificate: the final issuer's key hash and the TBSCertificate.
+// entryOf returns the entry of a precertificate: the final issuer's key hash and the TBSCertificate.
 func entryOf(precertificate []byte, issuers [][]byte) (keyHash hash, tbs []byte, err error) {
 	if len(issuers) == 0 {
 		return keyHash, nil, wrong("it has no issuer")
@@ -99,24 +98,24 @@ func entryOf(precertificate []byte, issuers [][]byte) (keyHash hash, tbs []byte,
 	}
 	fields, err := inside(precertificate)
 	if err != nil || len(fields) != 3 {
-		return keyHash, nil, wrong("it is no certificate: %v", err)
+		return keyHash, nil, wrong("it is not a certificate: %v", err)
 	}
 	tbs, err = cut(fields[0].FullBytes, signing)
 	return sha256.Sum256(issuer.RawSubjectPublicKeyInfo), tbs, err
 }
 
-// cut returns a precertificate's TBSCertificate without the poison, and with the issuer and its key identifier of a
-// signing certificate, if there is one.
+// cut returns a precertificate's TBSCertificate without the poison. If there is a signing certificate, it replaces the
+// issuer and the authority key identifier by those of the signing certificate.
 func cut(tbs []byte, signing *x509.Certificate) ([]byte, error) {
 	fields, err := inside(tbs)
 	if err != nil || len(fields) == 0 {
-		return nil, wrong("no TBSCertificate: %v", err)
+		return nil, wrong("it has no TBSCertificate: %v", err)
 	}
 	last := len(fields) - 1
 	if fields[last].Class != asn1.ClassContextSpecific || fields[last].Tag != 3 {
 		return nil, wrong("it has no extensions")
 	}
-	var made []byte
+	var result []byte
 	names := 0
 	for _, field := range fields[:last] {
 		// The issuer is the second SEQUENCE, after the signature's algorithm.
@@ -125,28 +124,28 @@ func cut(tbs []byte, signing *x509.Certificate) ([]byte, error) {
 			names++
 		}
 		if isSequence && names == 2 && signing != nil {
-			made = append(made, signing.RawIssuer...)
+			result = append(result, signing.RawIssuer...)
 		} else {
-			made = append(made, field.FullBytes...)
+			result = append(result, field.FullBytes...)
 		}
 	}
 	lists, err := elements(fields[last].Bytes)
 	if err != nil || len(lists) != 1 {
-		return nil, wrong("its extensions are no list: %v", err)
+		return nil, wrong("its extensions are not a list: %v", err)
 	}
-	kept, err := withoutPoison(lists[0].Bytes, signing)
+	extensions, err := withoutPoison(lists[0].Bytes, signing)
 	if err != nil {
 		return nil, err
 	}
-	if len(kept) > 0 {
-		made = append(made, wrap(0xa3, wrap(0x30, kept))...)
+	if len(extensions) > 0 {
+		result = append(result, wrap(0xa3, wrap(0x30, extensions))...)
 	}
-	return wrap(0x30, made), nil
+	return wrap(0x30, result), nil
 }
 
-// withoutPoison returns extensions without the one poison, and with a signing certificate's own authority key
-// identifier in place of theirs.
-func withoutPoison(list []byte, signing *x509.Certificate) (kept []byte, err error) {
+// withoutPoison returns extensions without the one poison. If there is a signing certificate, it replaces the authority
+// key identifier by that of the signing certificate.
+func withoutPoison(list []byte, signing *x509.Certificate) (extensions []byte, err error) {
 	all, err := elements(list)
 	if err != nil {
 		return nil, err
@@ -155,7 +154,7 @@ func withoutPoison(list []byte, signing *x509.Certificate) (kept []byte, err err
 	for _, whole := range all {
 		var one extension
 		if rest, err := asn1.Unmarshal(whole.FullBytes, &one); err != nil || len(rest) > 0 {
-			return nil, wrong("an extension is none: %v", err)
+			return nil, wrong("an extension is malformed: %v", err)
 		}
 		switch {
 		case one.ID.Equal(poisonID):
@@ -167,32 +166,32 @@ func withoutPoison(list []byte, signing *x509.Certificate) (kept []byte, err err
 					one.Value, replaced = of.Value, true
 				}
 			}
-			again, err := asn1.Marshal(one)
+			encoded, err := asn1.Marshal(one)
 			if err != nil || !replaced {
 				return nil, wrong("its signing certificate has no authority key identifier: %v", err)
 			}
-			kept = append(kept, again...)
+			extensions = append(extensions, encoded...)
 		default:
-			kept = append(kept, whole.FullBytes...)
+			extensions = append(extensions, whole.FullBytes...)
 		}
 	}
 	if poisons != 1 {
 		return nil, wrong("it has the poison %d times", poisons)
 	}
-	return kept, nil
+	return extensions, nil
 }
 
-// inside returns the elements of a SEQUENCE that is all.
+// inside returns the elements of a SEQUENCE. There must be no bytes after it.
 func inside(der []byte) ([]asn1.RawValue, error) {
 	var outer asn1.RawValue
 	rest, err := asn1.Unmarshal(der, &outer)
 	if err != nil || len(rest) > 0 || outer.Class != asn1.ClassUniversal || outer.Tag != asn1.TagSequence {
-		return nil, wrong("no SEQUENCE: %v", err)
+		return nil, wrong("it is not a SEQUENCE: %v", err)
 	}
 	return elements(outer.Bytes)
 }
 
-// elements splits bytes into what they are in DER.
+// elements splits bytes into DER elements.
 func elements(der []byte) (all []asn1.RawValue, err error) {
 	for len(der) > 0 {
 		var one asn1.RawValue
@@ -204,7 +203,7 @@ func elements(der []byte) (all []asn1.RawValue, err error) {
 	return all, nil
 }
 
-// wrap puts an identifier and a length before a content.
+// wrap returns the DER element with this identifier and this content.
 func wrap(tag byte, content []byte) []byte {
 	length := len(content)
 	switch {

@@ -16,7 +16,7 @@ import (
 	"time"
 )
 
-// issued is a certificate of a key of its own that another one signed; of itself if there is none.
+// issued is a certificate with its private key.
 type issued struct {
 	*x509.Certificate
 	key *ecdsa.PrivateKey
@@ -42,16 +42,16 @@ func issueFor(t *testing.T, by *issued, template x509.Certificate, key *ecdsa.Pr
 	if err != nil {
 		t.Fatal(err)
 	}
-	made, err := x509.ParseCertificate(der)
+	certificate, err := x509.ParseCertificate(der)
 	if err != nil {
 		t.Fatal(err)
 	}
-	return &issued{made, key}
+	return &issued{certificate, key}
 }
 
-// TestEntryOfPrecertificate issues a precertificate and the final certificate of the same fields, by their issuer and
-// by a precertificate signing certificate: the entry must be the final one's TBSCertificate, byte by byte, and its
-// issuer's key hash.
+// TestEntryOfPrecertificate issues a precertificate and the final certificate with the same fields. The precertificate
+// is issued by the issuer, or by a precertificate signing certificate. The entry must have the TBSCertificate of the
+// final certificate, byte by byte, and the key hash of its issuer.
 func TestEntryOfPrecertificate(t *testing.T) {
 	authority := issue(t, nil, x509.Certificate{SerialNumber: big.NewInt(1),
 		Subject: pkix.Name{CommonName: "an authority"}, IsCA: true, BasicConstraintsValid: true,
@@ -75,11 +75,11 @@ func TestEntryOfPrecertificate(t *testing.T) {
 	} {
 		pre := template
 		pre.ExtraExtensions = of.more
-		made := issueFor(t, of.by, pre, final.key)
-		keyHash, tbs, err := entryOf(made.Raw, of.issuers)
+		certificate := issueFor(t, of.by, pre, final.key)
+		keyHash, tbs, err := entryOf(certificate.Raw, of.issuers)
 		if err != nil || !bytes.Equal(tbs, final.RawTBSCertificate) ||
 			keyHash != sha256.Sum256(authority.RawSubjectPublicKeyInfo) {
-			t.Errorf("%s: %x in place of %x, %v", what, tbs, final.RawTBSCertificate, err)
+			t.Errorf("%s: %x, expected %x, %v", what, tbs, final.RawTBSCertificate, err)
 		}
 	}
 	pre := template
@@ -100,8 +100,8 @@ func TestEntryOfPrecertificate(t *testing.T) {
 	}
 }
 
-// TestPrecertificates judges logs over real precertificates: Folder finds nothing wrong with an entry of another
-// certificate that is signed and in the tree, and Precertificates must.
+// TestPrecertificates checks logs with real precertificates. Folder finds no fault in an entry of another certificate
+// that is signed and in the tree, and Precertificates must find it.
 func TestPrecertificates(t *testing.T) {
 	authority := issue(t, nil, x509.Certificate{SerialNumber: big.NewInt(1),
 		Subject: pkix.Name{CommonName: "an authority"}, IsCA: true, BasicConstraintsValid: true,
@@ -118,8 +118,8 @@ func TestPrecertificates(t *testing.T) {
 	}
 	keyHash, digest := sha256.Sum256(authority.RawSubjectPublicKeyInfo), sha256.Sum256(authority.Raw)
 	for what, of := range map[string]struct {
-		bend func(e *entered)
-		says string
+		change   func(e *entered)
+		expected string
 	}{
 		"right": {func(e *entered) {}, ""},
 		"another certificate's entry": {func(e *entered) { e.certificate = finals[5].RawTBSCertificate },
@@ -140,17 +140,17 @@ func TestPrecertificates(t *testing.T) {
 			e.kind, e.keyHash, e.certificate, e.precertificate, e.chain = 1, keyHash[:], finals[i].RawTBSCertificate,
 				pres[i].Raw, digest[:]
 			if i == 2 {
-				of.bend(e)
+				of.change(e)
 			}
 		})
 		p.objects[fmt.Sprintf("issuer/%x", digest)] = authority.Raw
-		folder := p.written(t)
+		folder := p.write(t)
 		if _, err := Folder(folder, p.der, p.answers); err != nil {
 			t.Fatalf("%s: %v", what, err)
 		}
 		count, err := Precertificates(folder)
-		if of.says == "" && (err != nil || count != 2) || of.says != "" &&
-			(err == nil || !strings.Contains(err.Error(), of.says)) {
+		if of.expected == "" && (err != nil || count != 2) || of.expected != "" &&
+			(err == nil || !strings.Contains(err.Error(), of.expected)) {
 			t.Errorf("%s: %d, %v", what, count, err)
 		}
 	}

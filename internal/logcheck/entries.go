@@ -8,7 +8,7 @@ import (
 	"fmt"
 )
 
-// inclusion is proof.json for an entry: the audit path of a leaf hash in the tree of head-2.
+// inclusion is the content of proof.json for an entry: the audit path of a leaf hash in the tree of head-2.
 type inclusion struct {
 	Index    uint64   `json:"leaf_index"`
 	Size     uint64   `json:"tree_size"`
@@ -16,17 +16,17 @@ type inclusion struct {
 	Path     [][]byte `json:"audit_path"`
 }
 
-// included returns head-2, and the place of a leaf hash in its tree, to which the path leads. Which hash that is, the
-// caller compares.
+// included returns head-2, and the audit path, which leads from a leaf hash to the root of head-2. The caller must
+// compare the leaf hash.
 func (e *evidence) included() (second head, of inclusion, err error) {
 	if second, err = e.head("head-2"); err != nil {
 		return second, of, err
 	}
 	if len(e.files["proof.json"]) == 0 {
-		return second, of, notShown("there is no proof.json: that the leaf is the log's must be believed")
+		return second, of, notShown("there is no proof.json, so it must be believed that the leaf is in the log")
 	}
 	if err := json.Unmarshal(e.files["proof.json"], &of); err != nil || len(of.LeafHash) != sha256.Size {
-		return second, of, notShown("proof.json is no audit path")
+		return second, of, notShown("proof.json is not an audit path")
 	}
 	root, ok := rootBy(of.Index, second.size, hash(of.LeafHash), of.Path)
 	if of.Size != second.size || !ok || root != second.root {
@@ -35,19 +35,19 @@ func (e *evidence) included() (second head, of inclusion, err error) {
 	return second, of, nil
 }
 
-// entry returns head-2 and the index of the file leaf, which the path shows to be in its tree.
+// entry returns head-2 and the index of the file leaf. The audit path shows that the leaf is in the tree of head-2.
 func (e *evidence) entry() (second head, index uint64, err error) {
 	second, of, err := e.included()
 	if err != nil {
 		return second, 0, err
 	}
 	if leaf := sha256.Sum256(append([]byte{0}, e.files["leaf"]...)); !bytes.Equal(leaf[:], of.LeafHash) {
-		return second, 0, notShown("the path is of another leaf")
+		return second, 0, notShown("the path belongs to another leaf")
 	}
 	return second, of.Index, nil
 }
 
-// logged judges that the log has an entry, which is no fault.
+// logged shows that the log has an entry, which is not a fault.
 func (e *evidence) logged() (string, error) {
 	second, index, err := e.entry()
 	if err != nil {
@@ -119,8 +119,8 @@ func (e *evidence) wrongIndex() (string, error) {
 	if err != nil {
 		return "", err
 	}
-	due := append([]byte{0, 0, 5}, binary.BigEndian.AppendUint64(nil, index)[3:]...)
-	if _, extensions, ok := timestampOf(e.files["leaf"]); !ok || bytes.Equal(extensions, due) {
+	expected := append([]byte{0, 0, 5}, binary.BigEndian.AppendUint64(nil, index)[3:]...)
+	if _, extensions, ok := timestampOf(e.files["leaf"]); !ok || bytes.Equal(extensions, expected) {
 		return "", notShown("entry %d names its own index", index)
 	}
 	return fmt.Sprintf("entry %d does not name its own index only. It must be believed that the log is a tiled one",
@@ -135,7 +135,7 @@ func (e *evidence) noLeaf() (string, error) {
 	if _, _, ok := timestampOf(e.files["leaf"]); ok {
 		return "", notShown("entry %d is a leaf", index)
 	}
-	return fmt.Sprintf("entry %d is no MerkleTreeLeaf. Nothing else must be believed", index), nil
+	return fmt.Sprintf("entry %d is not a MerkleTreeLeaf. Nothing else must be believed", index), nil
 }
 
 func (e *evidence) damagedTile() (string, error) {
@@ -147,11 +147,11 @@ func (e *evidence) damagedTile() (string, error) {
 	if err != nil {
 		return "", err
 	}
-	place := of.Index % 256
-	if place >= uint64(len(leaves)) {
+	position := of.Index % 256
+	if position >= uint64(len(leaves)) {
 		return "", notShown("the tile has %d entries", len(leaves))
 	}
-	if given := sha256.Sum256(append([]byte{0}, leaves[place].merkle...)); bytes.Equal(given[:], of.LeafHash) {
+	if given := sha256.Sum256(append([]byte{0}, leaves[position].merkle...)); bytes.Equal(given[:], of.LeafHash) {
 		return "", notShown("entry %d of the tile is the log's", of.Index)
 	}
 	return fmt.Sprintf("the tree of %d leaves that the log signed has another entry %d than the tile. It must be "+
@@ -159,8 +159,8 @@ func (e *evidence) damagedTile() (string, error) {
 }
 
 // brokenPromise judges a timestamp that the log signed over an entry (the files leaf and sct), and a head that the log
-// signed after the entry's maximum merge delay. If proof.json shows another leaf at the index that the timestamp names,
-// nothing else must be believed.
+// signed after the entry's maximum merge delay. If proof.json shows another leaf at the index in the timestamp, nothing
+// else must be believed.
 func (e *evidence) brokenPromise() (string, error) {
 	timestamp, extensions, ok := timestampOf(e.files["leaf"])
 	sct := e.files["sct"]
@@ -177,25 +177,25 @@ func (e *evidence) brokenPromise() (string, error) {
 			return "", notShown("the timestamp is %d, and the head was signed at %d", timestamp, second.timestamp)
 		}
 		return fmt.Sprintf("the log promised an entry at %d. It must be believed that its maximum merge delay is %d "+
-			"ms, and "+
-			"that the %d leaves of its head of %d lack it: ask for it by its hash",
+			"ms, and that "+
+			"the %d leaves of its head of %d lack it: ask for it by its hash",
 			timestamp, e.MaxMergeDelay, second.size, second.timestamp), nil
 	}
 	_, of, err := e.included()
 	if err != nil {
 		return "", err
 	}
-	due := append([]byte{0, 0, 5}, binary.BigEndian.AppendUint64(nil, of.Index)[3:]...)
+	expected := append([]byte{0, 0, 5}, binary.BigEndian.AppendUint64(nil, of.Index)[3:]...)
 	leaf := sha256.Sum256(append([]byte{0}, e.files["leaf"]...))
-	if !bytes.Equal(extensions, due) || bytes.Equal(leaf[:], of.LeafHash) {
+	if !bytes.Equal(extensions, expected) || bytes.Equal(leaf[:], of.LeafHash) {
 		return "", notShown("the leaf is at the index that the timestamp names, or it names another one")
 	}
 	return fmt.Sprintf("the log promised an entry at the index %d, and another one is there. Nothing else must be "+
 		"believed", of.Index), nil
 }
 
-// rootBy returns the root to which an audit path leads from a leaf hash (RFC 6962, section 2.1.1), or false if it has
-// another length.
+// rootBy returns the root to which an audit path leads from a leaf hash (RFC 6962, section 2.1.1). ok is false if the
+// path has another length.
 func rootBy(index, size uint64, at hash, path [][]byte) (root hash, ok bool) {
 	if index >= size {
 		return root, false

@@ -20,7 +20,7 @@ import (
 	"time"
 )
 
-// about is the file evidence.json: the monitor's statement, and the log's parameters.
+// about is the content of the file evidence.json: the monitor's statement, and the log's parameters.
 type about struct {
 	Verdict       string `json:"verdict"`
 	Time          string `json:"time"`
@@ -29,7 +29,7 @@ type about struct {
 	MaxMergeDelay uint64 `json:"max_merge_delay"` // milliseconds
 }
 
-// evidence is what is judged: the files of a folder by their names, and what evidence.json says.
+// evidence has the files of a folder by their names, and the content of evidence.json.
 type evidence struct {
 	about
 	files map[string][]byte
@@ -39,14 +39,14 @@ type evidence struct {
 // ErrEvidence means that the files do not show what evidence.json says.
 var ErrEvidence = errors.New("check: the evidence does not show this")
 
-func notShown(form string, words ...any) error {
-	return fmt.Errorf("%w: "+form, append([]any{ErrEvidence}, words...)...)
+func notShown(format string, arguments ...any) error {
+	return fmt.Errorf("%w: "+format, append([]any{ErrEvidence}, arguments...)...)
 }
 
-// maxEvidenceFile is the largest number of bytes of a file of evidence. The largest one is a data tile.
+// maxEvidenceFile is the maximum number of bytes of a file of evidence. The largest file is a data tile.
 const maxEvidenceFile = 64 << 20
 
-// judges are the ways to judge evidence, by the verdict that evidence.json has.
+// judges maps each verdict in evidence.json to the function that checks it.
 var judges = map[string]func(*evidence) (string, error){
 	"fork": (*evidence).fork, "shrunk": (*evidence).shrunk, "not later": (*evidence).notLater, "inconsistent " +
 		"proof": (*evidence).inconsistent,
@@ -58,10 +58,10 @@ var judges = map[string]func(*evidence) (string, error){
 		"cosignatures": (*evidence).fewCosigned, "entry": (*evidence).logged,
 }
 
-// Evidence judges a folder of evidence against a log (evidence.json, head-1, head-2, leaf, tile, proof.json) by the
-// log's public key, a SubjectPublicKeyInfo in DER. The key must come from the reader's own source, such as a log list:
-// evidence.json must name the same one. It returns a sentence that says what the files show, and what must be believed.
-// The error wraps ErrEvidence if they do not show it.
+// Evidence checks a folder of evidence against a log (evidence.json, head-1, head-2, leaf, tile, proof.json) by the
+// log's public key, a SubjectPublicKeyInfo in DER. The key must come from the reader's own source, such as a log list,
+// and must be the one in evidence.json. Evidence returns a sentence that says what the files show, and what must be
+// believed. The error wraps ErrEvidence if the files do not show it.
 func Evidence(folder string, key []byte) (shown string, err error) {
 	e := &evidence{files: map[string][]byte{}}
 	entries, err := os.ReadDir(folder)
@@ -100,7 +100,7 @@ func Evidence(folder string, key []byte) (shown string, err error) {
 	return judge(e)
 }
 
-// verify checks a DigitallySigned with SHA-256 (RFC 5246, section 4.7).
+// verify reports whether a DigitallySigned with SHA-256 (RFC 5246, section 4.7) is a signature of the log's key.
 func (e *evidence) verify(message, signature []byte) bool {
 	if len(signature) < 4 || signature[0] != 4 || int(binary.BigEndian.Uint16(signature[2:])) != len(signature)-4 {
 		return false
@@ -115,8 +115,8 @@ func (e *evidence) verify(message, signature []byte) bool {
 	return false
 }
 
-// parsed reads a head without its signature, and returns each signature over it with the timestamp that it is for: a
-// checkpoint has a line for each, an answer to get-sth has one.
+// parsed reads a head without verifying it, and returns each signature over it with its timestamp. A checkpoint has a
+// line for each signature, and an answer to get-sth has one.
 func (e *evidence) parsed(name string) (head head, signatures []signedAt, err error) {
 	content, ok := e.files[name]
 	if !ok {
@@ -125,20 +125,20 @@ func (e *evidence) parsed(name string) (head head, signatures []signedAt, err er
 	if e.Origin == "" {
 		return parsedSTH(name, content)
 	}
-	text, lines, ok := strings.Cut(string(content), "\n\n")
-	words := strings.Split(text, "\n")
-	if !ok || len(words) != 3 || words[0] != e.Origin {
-		return head, nil, notShown("%s is no checkpoint of %q", name, e.Origin)
+	text, signatureLines, ok := strings.Cut(string(content), "\n\n")
+	lines := strings.Split(text, "\n")
+	if !ok || len(lines) != 3 || lines[0] != e.Origin {
+		return head, nil, notShown("%s is not a checkpoint of %q", name, e.Origin)
 	}
-	if head.size, err = strconv.ParseUint(words[1], 10, 63); err != nil {
+	if head.size, err = strconv.ParseUint(lines[1], 10, 63); err != nil {
 		return head, nil, notShown("%s has no size", name)
 	}
-	root, err := base64.StdEncoding.DecodeString(words[2])
+	root, err := base64.StdEncoding.DecodeString(lines[2])
 	if err != nil || len(root) != sha256.Size {
 		return head, nil, notShown("%s has no root", name)
 	}
 	copy(head.root[:], root)
-	for _, line := range strings.Split(lines, "\n") {
+	for _, line := range strings.Split(signatureLines, "\n") {
 		content, err := base64.StdEncoding.DecodeString(strings.TrimPrefix(line, "— "+e.Origin+" "))
 		if err == nil && len(content) > 12 {
 			signatures = append(signatures, signedAt{binary.BigEndian.Uint64(content[4:]), content[12:]})
@@ -147,7 +147,7 @@ func (e *evidence) parsed(name string) (head head, signatures []signedAt, err er
 	return head, signatures, nil
 }
 
-// signedAt is a signature over a head, and the timestamp that is signed.
+// signedAt is a signature over a head, with the signed timestamp.
 type signedAt struct {
 	timestamp uint64
 	signature []byte
@@ -161,7 +161,7 @@ func parsedSTH(name string, content []byte) (found head, signatures []signedAt, 
 		Signature []byte `json:"tree_head_signature"`
 	}
 	if err := json.Unmarshal(content, &sth); err != nil || len(sth.Root) != sha256.Size {
-		return found, nil, notShown("%s is no answer to get-sth", name)
+		return found, nil, notShown("%s is not an answer to get-sth", name)
 	}
 	found.size = sth.Size
 	copy(found.root[:], sth.Root)
@@ -233,8 +233,8 @@ func (e *evidence) notLater() (string, error) {
 		"believed", first.size, first.timestamp, second.size, second.timestamp), nil
 }
 
-// twoViews judges two heads of one log that different observers saw: neither tree can have begun with the other one if
-// the proof does not lead there.
+// twoViews judges two heads of one log that different observers saw. If the proof does not lead from one to the other,
+// neither tree is the beginning of the other one.
 func (e *evidence) twoViews() (string, error) {
 	first, second, err := e.heads()
 	if err != nil {
@@ -251,12 +251,12 @@ func (e *evidence) inconsistent() (string, error) {
 	if err != nil {
 		return "", err
 	}
-	// (another answer has no such field, and must not be taken for an empty proof)
+	// Another answer has no such field, and must not be taken for an empty proof.
 	var answer struct {
 		Consistency *[][]byte `json:"consistency"`
 	}
 	if err := json.Unmarshal(e.files["proof.json"], &answer); err != nil || answer.Consistency == nil {
-		return "", notShown("proof.json is no answer to get-sth-consistency")
+		return "", notShown("proof.json is not an answer to get-sth-consistency")
 	}
 	if first.size == 0 || first.size >= second.size {
 		return "", notShown("there is no proof between %d and %d leaves", first.size, second.size)
@@ -265,8 +265,7 @@ func (e *evidence) inconsistent() (string, error) {
 		return "", notShown("the proof leads from head-1 to head-2")
 	}
 	return fmt.Sprintf("the log signed heads of %d and %d leaves, and the proof does not lead from one to the "+
-		"other. It "+
-		"must be believed that the log gave this proof: ask it again",
+		"other. It must be believed that the log gave this proof: ask it again",
 		first.size, second.size), nil
 }
 
@@ -276,8 +275,7 @@ func (e *evidence) otherRoot() (string, error) {
 		return "", err
 	}
 	return fmt.Sprintf("the log signed the root %x of %d leaves. It must be believed that the leaves which it "+
-		"gave have "+
-		"another one: read them again", second.root, second.size), nil
+		"gave have another one: read them again", second.root, second.size), nil
 }
 
 func (e *evidence) oldHead() (string, error) {
@@ -293,8 +291,7 @@ func (e *evidence) oldHead() (string, error) {
 		return "", notShown("the head was %d ms old, and the maximum merge delay is %d ms", age, e.MaxMergeDelay)
 	}
 	return fmt.Sprintf("the log signed its head at %d. It must be believed that this was its newest head at %s, "+
-		"and that "+
-		"its maximum merge delay is %d ms", second.timestamp, e.Time, e.MaxMergeDelay), nil
+		"and that its maximum merge delay is %d ms", second.timestamp, e.Time, e.MaxMergeDelay), nil
 }
 
 func (e *evidence) badSignature() (string, error) {

@@ -5,7 +5,7 @@ import (
 	"fmt"
 )
 
-// nameOf is a tile's name (C2SP tlog-tiles).
+// nameOf returns a tile's name (C2SP tlog-tiles).
 func nameOf(level string, index, width uint64) string {
 	name := fmt.Sprintf("%03d", index%1000)
 	for index /= 1000; index > 0; index /= 1000 {
@@ -17,7 +17,7 @@ func nameOf(level string, index, width uint64) string {
 	return name
 }
 
-// readLeaves reads so many leaves out of their data tiles, and makes the hashes of all perfect subtrees.
+// readLeaves reads the first size leaves from their data tiles, and computes the hashes of all perfect subtrees.
 func (f *folder) readLeaves(size uint64) error {
 	for index := uint64(0); 256*index < size; index++ {
 		width := size - 256*index
@@ -62,7 +62,7 @@ func node(left, right hash) hash {
 	return sha256.Sum256(append(append([]byte{1}, left[:]...), right[:]...))
 }
 
-// cursor reads a tile from its front. After the end of the tile, at is greater than its length.
+// cursor reads a tile from its beginning. After the end of the tile, at is greater than its length.
 type cursor struct {
 	tile []byte
 	at   int
@@ -84,8 +84,8 @@ func (c *cursor) number(length int) uint64 {
 
 func (c *cursor) skip(length uint64) { c.at += int(length) }
 
-// issuers returns the fingerprints of a chain, which has this many more bytes. A fingerprint that the tile does not
-// have is all zeros.
+// issuers returns the fingerprints of a chain, which has length more bytes. A fingerprint after the end of the tile is
+// all zeros.
 func (c *cursor) issuers(length uint64) (all []hash) {
 	for ; length > 0; length -= 32 {
 		var issuer hash

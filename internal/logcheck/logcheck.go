@@ -1,6 +1,6 @@
-// Package logcheck judges a log from the objects that it published in a folder and from the SCTs that it returned. It
-// needs only the log's public key. It is independent of the log's code: it uses no other package of this repository.
-// The log must be at rest: a node that died after a swap leaves tiles that no head covers until another node continues.
+// Package logcheck checks a log by the objects that it published in a folder and by the SCTs that it returned. It needs
+// only the log's public key. It is independent of the log's code: it uses no other package of this repository. The log
+// must be at rest, because a node that died after a swap leaves tiles that no head covers until another node continues.
 // Package logcheck holds the whole log in memory, so it is for tests.
 package logcheck
 
@@ -23,55 +23,55 @@ import (
 	"strings"
 )
 
-// Answer is a timestamp that was answered, with what was submitted.
+// Answer is an SCT that the log returned, with what was submitted.
 type Answer struct {
-	// Certificate is the certificate; or IssuerKeyHash and TBSCertificate are there, of a precertificate.
+	// A certificate has Certificate. A precertificate has IssuerKeyHash and TBSCertificate instead.
 	Certificate    []byte `json:"certificate,omitempty"`
 	IssuerKeyHash  []byte `json:"issuer_key_hash,omitempty"`
 	TBSCertificate []byte `json:"tbs_certificate,omitempty"`
 	Timestamp      uint64 `json:"timestamp"`
 	Extensions     []byte `json:"extensions"`
-	// Signature is the DigitallySigned.
+	// Signature is a DigitallySigned.
 	Signature []byte `json:"signature"`
 	LogID     []byte `json:"log_id"`
 }
 
-// Report is what a log that is right has.
+// Report counts what a correct log has.
 type Report struct {
 	Heads, Leaves, Tiles, Issuers, Answers int
-	// Repeats is how many leaves have the entry of one before them.
+	// Repeats is the number of leaves whose entry occurs in an earlier leaf.
 	Repeats int
 }
 
-// errWrong is what every verdict wraps.
+// errWrong is the error that every verdict wraps.
 var errWrong = errors.New("check")
 
-func wrong(form string, words ...any) error {
-	return fmt.Errorf("%w: "+form, append([]any{errWrong}, words...)...)
+func wrong(format string, arguments ...any) error {
+	return fmt.Errorf("%w: "+format, append([]any{errWrong}, arguments...)...)
 }
 
 type hash = [32]byte
 
-// folder is what is looked at.
+// folder is a log in a folder, with what was computed from its leaves.
 type folder struct {
 	objects map[string][]byte
 	key     *ecdsa.PublicKey
 	logID   hash
 	leaves  []leaf
-	// rows has at k the hashes of the perfect subtrees of 2^k leaves.
+	// rows[k] has the hashes of the perfect subtrees of 2^k leaves.
 	rows [][]hash
 }
 
-// leaf is an entry: its MerkleTreeLeaf, its bytes in a data tile, and what it is an entry of.
+// leaf is an entry: its MerkleTreeLeaf, its bytes in a data tile, and its parts.
 type leaf struct {
 	merkle, inTile, entry []byte
-	// precertificate is nil of a certificate.
+	// precertificate is nil if the entry is a certificate.
 	precertificate   []byte
 	timestamp, index uint64
 	issuers          []hash
 }
 
-// Folder judges the objects below a folder by a log's key (its SubjectPublicKeyInfo in DER).
+// Folder checks the objects below a folder by a log's key, a SubjectPublicKeyInfo in DER.
 func Folder(path string, key []byte, answers []Answer) (Report, error) {
 	parsed, err := x509.ParsePKIXPublicKey(key)
 	if err != nil {
@@ -121,7 +121,7 @@ func Folder(path string, key []byte, answers []Answer) (Report, error) {
 	return report, nil
 }
 
-// read reads all files that have public names.
+// read reads all files with public names.
 func (f *folder) read(path string) error {
 	return filepath.WalkDir(path, func(at string, entry fs.DirEntry, err error) error {
 		if err != nil {
@@ -152,21 +152,22 @@ type head struct {
 	name            string
 }
 
-// furtherLine matches a signature line after the log's: a name, and the four bytes of a key and more in base64.
+// furtherLine matches a signature line after that of the log: a name, and base64 of the four bytes of a key ID and
+// more.
 var furtherLine = regexp.MustCompile(`^— [^ +]+ [A-Za-z0-9+/]{7,}=*$`)
 
 var headForm = regexp.MustCompile(`^heads/(\d{20})-(\d{20})$`)
 
-// heads reads the signed notes in the order of their names, and judges everything that does not need the leaves.
+// heads reads the signed notes in the order of their names, and checks everything for which it needs no leaves.
 func (f *folder) heads() ([]head, error) {
 	var heads []head
 	for name, content := range f.objects {
 		if !strings.HasPrefix(name, "heads/") {
 			continue
 		}
-		words := headForm.FindStringSubmatch(name)
-		if words == nil {
-			return nil, wrong("%s: that is no head's name", name)
+		parts := headForm.FindStringSubmatch(name)
+		if parts == nil {
+			return nil, wrong("%s: that is not the name of a head", name)
 		}
 		h, err := f.note(string(content))
 		if err != nil {
@@ -186,27 +187,27 @@ func (f *folder) heads() ([]head, error) {
 	return heads, nil
 }
 
-// note reads a checkpoint whose first signature must be the log's (C2SP tlog-checkpoint, static-ct-api), and verifies
-// that one. Of the witnesses' signatures after it, it checks only the form.
+// note reads a checkpoint (C2SP tlog-checkpoint, static-ct-api). The first signature must be that of the log, which it
+// verifies. It checks only the form of the witnesses' signatures after it.
 func (f *folder) note(text string) (head, error) {
 	body, signatures, ok := strings.Cut(text, "\n\n")
 	lines := strings.Split(body, "\n")
 	if !ok || len(lines) != 3 || !strings.HasSuffix(signatures, "\n") {
-		return head{}, wrong("no signed note")
+		return head{}, wrong("it is not a signed note")
 	}
 	signed := strings.Split(strings.TrimSuffix(signatures, "\n"), "\n")
 	for _, line := range signed[1:] {
 		if !furtherLine.MatchString(line) {
-			return head{}, wrong("no signed note: %q", line)
+			return head{}, wrong("it is not a signed note: %q", line)
 		}
 	}
 	size, err := strconv.ParseUint(lines[1], 10, 63)
 	if err != nil || strconv.FormatUint(size, 10) != lines[1] {
-		return head{}, wrong("no size")
+		return head{}, wrong("it has no size")
 	}
 	root, err := base64.StdEncoding.Strict().DecodeString(lines[2])
 	if err != nil || len(root) != 32 || base64.StdEncoding.EncodeToString(root) != lines[2] {
-		return head{}, wrong("no root")
+		return head{}, wrong("it has no root")
 	}
 	blob, err := f.signature(lines[0], signed[0])
 	if err != nil {
@@ -217,39 +218,39 @@ func (f *folder) note(text string) (head, error) {
 	message := []byte{0, 1}
 	message = binary.BigEndian.AppendUint64(message, h.timestamp)
 	message = binary.BigEndian.AppendUint64(message, h.size)
-	return h, f.signed(append(message, root...), h.signature)
+	return h, f.checkSigned(append(message, root...), h.signature)
 }
 
-// signature reads a line of a signature, which must be the log's.
+// signature reads a signature line, which must be that of the log.
 func (f *folder) signature(origin, line string) ([]byte, error) {
-	words := strings.Split(line, " ")
-	if len(words) != 3 || words[0] != "—" || words[1] != origin {
-		return nil, wrong("the signature is not the origin's")
+	parts := strings.Split(line, " ")
+	if len(parts) != 3 || parts[0] != "—" || parts[1] != origin {
+		return nil, wrong("the signature is not that of the origin")
 	}
-	blob, err := base64.StdEncoding.Strict().DecodeString(words[2])
-	if err != nil || len(blob) < 13 || base64.StdEncoding.EncodeToString(blob) != words[2] {
-		return nil, wrong("no signature")
+	blob, err := base64.StdEncoding.Strict().DecodeString(parts[2])
+	if err != nil || len(blob) < 13 || base64.StdEncoding.EncodeToString(blob) != parts[2] {
+		return nil, wrong("it has no signature")
 	}
 	id := sha256.Sum256(append([]byte(origin+"\n\x05"), f.logID[:]...))
 	if !bytes.Equal(id[:4], blob[:4]) {
-		return nil, wrong("the signature is another key's")
+		return nil, wrong("the signature is that of another key")
 	}
 	return blob, nil
 }
 
-// signed checks a DigitallySigned of ECDSA with SHA-256.
-func (f *folder) signed(message, signature []byte) error {
+// checkSigned checks a DigitallySigned of ECDSA with SHA-256.
+func (f *folder) checkSigned(message, signature []byte) error {
 	if len(signature) < 4 || signature[0] != 4 || signature[1] != 3 ||
 		int(signature[2])<<8|int(signature[3]) != len(signature)-4 {
-		return wrong("no DigitallySigned")
+		return wrong("the signature is not a DigitallySigned")
 	}
 	if digest := sha256.Sum256(message); !ecdsa.VerifyASN1(f.key, digest[:], signature[4:]) {
-		return wrong("the signature is not the key's")
+		return wrong("the signature is not that of the key")
 	}
 	return nil
 }
 
-// mth is the Merkle Tree Hash of the first leaves (RFC 6962, section 2.1).
+// mth returns the Merkle Tree Hash of the first leaves (RFC 6962, section 2.1).
 func (f *folder) mth(size uint64) hash {
 	if size == 0 {
 		return sha256.Sum256(nil)
@@ -268,12 +269,13 @@ func (f *folder) mth(size uint64) hash {
 	return root
 }
 
-// swept reports whether partial tiles may be deleted, since their full one exists (C2SP tlog-tiles).
-func (f *folder) swept(level string, index uint64) bool {
+// mayLackPartials reports whether the partial tiles of a tile may have been deleted because the full one exists (C2SP
+// tlog-tiles).
+func (f *folder) mayLackPartials(level string, index uint64) bool {
 	return f.objects[nameOf(level, index, 256)] != nil
 }
 
-// judgeHead checks that a head is the tree's, and that each tile that it needs exists.
+// judgeHead checks that a head is that of the tree, and that each tile that it needs exists.
 func (f *folder) judgeHead(h head) error {
 	if h.root != f.mth(h.size) {
 		return wrong("%s is not the MTH of the leaves", h.name)
@@ -282,7 +284,7 @@ func (f *folder) judgeHead(h head) error {
 		hashes := h.size >> uint(8*level)
 		if width := hashes % 256; width > 0 {
 			if name := nameOf(strconv.Itoa(level), hashes/256, width); f.objects[name] == nil &&
-				!f.swept(strconv.Itoa(level), hashes/256) {
+				!f.mayLackPartials(strconv.Itoa(level), hashes/256) {
 				return wrong("%s: %s is missing", h.name, name)
 			}
 		}
@@ -293,7 +295,7 @@ func (f *folder) judgeHead(h head) error {
 		}
 	}
 	if width := h.size % 256; width > 0 {
-		if name := nameOf("data", h.size/256, width); f.objects[name] == nil && !f.swept("data", h.size/256) {
+		if name := nameOf("data", h.size/256, width); f.objects[name] == nil && !f.mayLackPartials("data", h.size/256) {
 			return wrong("%s: %s is missing", h.name, name)
 		}
 	}
@@ -302,7 +304,7 @@ func (f *folder) judgeHead(h head) error {
 
 var tileForm = regexp.MustCompile(`^tile/(data|\d+)/((?:x\d{3}/)*\d{3})(?:\.p/(\d+))?$`)
 
-// judgeTiles sees that every tile is the defined one, and that there is none of what no head covers.
+// judgeTiles checks that every tile is the one that the leaves define, and that no tile has more than a head covers.
 func (f *folder) judgeTiles(size uint64) (count int, err error) {
 	for name, content := range f.objects {
 		if !strings.HasPrefix(name, "tile/") {
@@ -323,36 +325,36 @@ func (f *folder) judgeTiles(size uint64) (count int, err error) {
 	return count, nil
 }
 
-// named is what a tile's name says: a data tile's level is 0.
+// named has the parts of a tile's name. The level of a data tile is 0 here.
 type named struct {
 	isData       bool
 	level        int
 	index, width uint64
 }
 
-// tileNamed reads a tile's name, of which there is one form.
+// tileNamed reads a tile's name, which must be in its only form.
 func tileNamed(name string) (of named, err error) {
-	words := tileForm.FindStringSubmatch(name)
-	if words == nil {
-		return of, wrong("%s: that is no tile's name", name)
+	parts := tileForm.FindStringSubmatch(name)
+	if parts == nil {
+		return of, wrong("%s: that is not the name of a tile", name)
 	}
-	of = named{isData: words[1] == "data", width: 256}
-	of.index, err = strconv.ParseUint(strings.NewReplacer("x", "", "/", "").Replace(words[2]), 10, 40)
+	of = named{isData: parts[1] == "data", width: 256}
+	of.index, err = strconv.ParseUint(strings.NewReplacer("x", "", "/", "").Replace(parts[2]), 10, 40)
 	if err != nil {
 		return of, wrong("%s: it has no index", name)
 	}
-	if words[3] != "" {
-		if of.width, err = strconv.ParseUint(words[3], 10, 8); err != nil || of.width == 0 {
+	if parts[3] != "" {
+		if of.width, err = strconv.ParseUint(parts[3], 10, 8); err != nil || of.width == 0 {
 			return of, wrong("%s: it has no width", name)
 		}
 	}
-	if nameOf(words[1], of.index, of.width) != name {
-		return of, wrong("%s is written otherwise", name)
+	if nameOf(parts[1], of.index, of.width) != name {
+		return of, wrong("%s is not the canonical name of its tile", name)
 	}
 	if of.isData {
 		return of, nil
 	}
-	if of.level, err = strconv.Atoi(words[1]); err != nil || of.level > 7 || strconv.Itoa(of.level) != words[1] {
+	if of.level, err = strconv.Atoi(parts[1]); err != nil || of.level > 7 || strconv.Itoa(of.level) != parts[1] {
 		return of, wrong("%s: it has no level", name)
 	}
 	return of, nil
@@ -370,12 +372,12 @@ func (f *folder) defined(of named) (content []byte) {
 	return content
 }
 
-// judgeIssuers sees that every issuer is there, under its own hash.
+// judgeIssuers checks that every issuer exists under the name of its hash.
 func (f *folder) judgeIssuers() (count int, err error) {
 	for name, content := range f.objects {
 		if digest := sha256.Sum256(content); strings.HasPrefix(name, "issuer/") {
 			if name != "issuer/"+hex.EncodeToString(digest[:]) {
-				return 0, wrong("%s is another issuer", name)
+				return 0, wrong("%s has another hash than its name", name)
 			}
 			count++
 		}
@@ -390,7 +392,7 @@ func (f *folder) judgeIssuers() (count int, err error) {
 	return count, nil
 }
 
-// judgeAnswer checks that an SCT is signed, and that its entry is in its place.
+// judgeAnswer checks that an SCT is signed, and that its entry has the index in it.
 func (f *folder) judgeAnswer(a Answer) error {
 	if !bytes.Equal(a.LogID, f.logID[:]) {
 		return wrong("a timestamp of another log")
@@ -407,7 +409,7 @@ func (f *folder) judgeAnswer(a Answer) error {
 	entry = append(entry, content...)
 	message := binary.BigEndian.AppendUint64([]byte{0, 0}, a.Timestamp)
 	message = append(append(append(message, entry...), 0, 8), a.Extensions...)
-	if err := f.signed(message, a.Signature); err != nil {
+	if err := f.checkSigned(message, a.Signature); err != nil {
 		return err
 	}
 	if index >= uint64(len(f.leaves)) {

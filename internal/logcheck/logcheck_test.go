@@ -25,7 +25,7 @@ const origin = "log.example/judged"
 
 var must = testutil.Must
 
-// entered is a leaf of a log that is made here: its parts as a data tile has them (C2SP static-ct-api, "TileLeaf").
+// entered is a leaf of a log that this test builds. It has the fields of a data tile (C2SP static-ct-api, "TileLeaf").
 type entered struct {
 	timestamp             uint64
 	kind                  uint16
@@ -34,7 +34,7 @@ type entered struct {
 	precertificate, chain []byte
 }
 
-// signed are the bytes from the timestamp to the extensions.
+// signed returns the bytes from the timestamp to the extensions.
 func (e entered) signed() []byte {
 	b := binary.BigEndian.AppendUint64(nil, e.timestamp)
 	b = append(binary.BigEndian.AppendUint16(b, e.kind), e.keyHash...)
@@ -52,7 +52,8 @@ func (e entered) inTile() []byte {
 
 func leafIndex(index int) []byte { return []byte{0, 0, 5, 0, 0, 0, byte(index >> 8), byte(index)} }
 
-// published is a log that is made here, by other means than a log's: its heads' sizes and moments, and all its objects.
+// published is a log that this test builds by other means than the log's own code: its key, its leaves, and all its
+// objects.
 type published struct {
 	key     *ecdsa.PrivateKey
 	der     []byte
@@ -69,9 +70,9 @@ func (p *published) ReadHashes(indexes []int64) (found []tlog.Hash, err error) {
 	return found, nil
 }
 
-// newLog has 300 leaves, of which the last repeats the first's entry, and four heads, the first of none; bend changes a
-// leaf before anything is made of it.
-func newLog(t testing.TB, bend func(i int, e *entered)) *published {
+// newLog returns a log with 300 leaves and four heads, the first of which has no leaves. The last leaf repeats the
+// entry of the first one. change changes a leaf before anything is computed from it.
+func newLog(t testing.TB, change func(i int, e *entered)) *published {
 	key, err := ecdsa.GenerateKey(elliptic.P256(), rand.Reader)
 	must(t, err)
 	der, err := x509.MarshalPKIXPublicKey(&key.PublicKey)
@@ -86,8 +87,8 @@ func newLog(t testing.TB, bend func(i int, e *entered)) *published {
 		if i%299%3 == 2 {
 			e.kind, e.keyHash, e.precertificate = 1, bytes.Repeat([]byte{7}, 32), []byte("a precertificate")
 		}
-		if bend != nil {
-			bend(i, &e)
+		if change != nil {
+			change(i, &e)
 		}
 		more, err := tlog.StoredHashes(int64(i), append([]byte{0, 0}, e.signed()...), p)
 		must(t, err)
@@ -112,7 +113,7 @@ func (p *published) root(t testing.TB, size int) tlog.Hash {
 	return root
 }
 
-// signature is a DigitallySigned over bytes.
+// signature returns a DigitallySigned over bytes.
 func (p *published) signature(t testing.TB, message []byte) []byte {
 	digest := sha256.Sum256(message)
 	signature, err := ecdsa.SignASN1(rand.Reader, p.key, digest[:])
@@ -120,7 +121,7 @@ func (p *published) signature(t testing.TB, message []byte) []byte {
 	return append([]byte{4, 3, 0, byte(len(signature))}, signature...)
 }
 
-// line is that of the log's signature over a head (C2SP static-ct-api: type 5).
+// line returns the line of the log's signature over a head (C2SP static-ct-api: type 5).
 func (p *published) line(t testing.TB, size int, timestamp uint64, root tlog.Hash) string {
 	message := binary.BigEndian.AppendUint64([]byte{0, 1}, timestamp)
 	message = append(binary.BigEndian.AppendUint64(message, uint64(size)), root[:]...)
@@ -140,7 +141,7 @@ func (p *published) head(t testing.TB, size int, timestamp uint64, root tlog.Has
 		p.line(t, size, timestamp, root)))
 }
 
-// tiles publishes those of a tree.
+// tiles publishes the tiles of a tree.
 func (p *published) tiles(t testing.TB, size int) {
 	for _, tile := range tlog.NewTiles(8, 0, int64(size)) {
 		content, err := tlog.ReadTileData(tile, p)
@@ -157,7 +158,7 @@ func (p *published) tiles(t testing.TB, size int) {
 			p.objects[name] = append(p.objects[name], leaf.inTile()...)
 		}
 	}
-	// (of the partial tiles that x/mod names on the way to a size no head has any but the last)
+	// x/mod also returns partial tiles of smaller trees, which belong to no head.
 	for name := range p.objects {
 		if at := strings.Index(name, ".p/"); at > 0 && strings.HasPrefix(name, "tile/") && !p.hasHead(name) {
 			delete(p.objects, name)
@@ -165,7 +166,7 @@ func (p *published) tiles(t testing.TB, size int) {
 	}
 }
 
-// hasHead reports whether a partial tile is of one of the heads' trees.
+// hasHead reports whether a partial tile belongs to the tree of one of the heads.
 func (p *published) hasHead(name string) bool {
 	for head := range p.objects {
 		var size, timestamp int
@@ -182,7 +183,7 @@ func (p *published) hasHead(name string) bool {
 	return false
 }
 
-// answer is the timestamp of a leaf.
+// answer returns the SCT of a leaf.
 func (p *published) answer(t testing.TB, i int) Answer {
 	e, id := p.leaves[i], sha256.Sum256(p.der)
 	a := Answer{Certificate: e.certificate, Timestamp: e.timestamp, Extensions: e.extensions, LogID: id[:]}
@@ -193,7 +194,7 @@ func (p *published) answer(t testing.TB, i int) Answer {
 	return a
 }
 
-// copied is the same log once more, to be bent.
+// copied returns a copy of the log, which a test may change.
 func (p *published) copied() *published {
 	other := *p
 	other.objects, other.answers, other.leaves = map[string][]byte{}, append([]Answer{}, p.answers...),
@@ -207,14 +208,14 @@ func (p *published) copied() *published {
 	return &other
 }
 
-// judged writes all objects into a folder, and has it judged.
-func (p *published) judged(t testing.TB) (Report, error) {
+// judge writes all objects into a folder, and checks it.
+func (p *published) judge(t testing.TB) (Report, error) {
 	t.Helper()
-	return Folder(p.written(t), p.der, p.answers)
+	return Folder(p.write(t), p.der, p.answers)
 }
 
-// written writes all objects into a folder.
-func (p *published) written(t testing.TB) string {
+// write writes all objects into a folder.
+func (p *published) write(t testing.TB) string {
 	t.Helper()
 	folder := t.TempDir()
 	for name, content := range p.objects {
@@ -225,39 +226,39 @@ func (p *published) written(t testing.TB) string {
 	return folder
 }
 
-// TestRight judges a correct log. It may have deleted partial tiles after their full ones, and have files that are not
+// TestRight checks a correct log. It may have deleted partial tiles after their full ones, and have files that are not
 // published.
 func TestRight(t *testing.T) {
 	p := newLog(t, nil)
-	want := Report{Heads: 4, Leaves: 300, Tiles: 0, Issuers: 1, Answers: 3, Repeats: 1}
+	expected := Report{Heads: 4, Leaves: 300, Tiles: 0, Issuers: 1, Answers: 3, Repeats: 1}
 	for name := range p.objects {
 		if strings.HasPrefix(name, "tile/") {
-			want.Tiles++
+			expected.Tiles++
 		}
 	}
-	if report, err := p.judged(t); err != nil || report != want {
-		t.Fatalf("%+v, and not %+v: %v", report, want, err)
+	if report, err := p.judge(t); err != nil || report != expected {
+		t.Fatalf("%+v, expected %+v: %v", report, expected, err)
 	}
-	// (tiles of 2 leaves, and what a store has of its own)
-	for _, swept := range []string{"tile/0/000.p/2", "tile/data/000.p/2"} {
-		if p.objects[swept] == nil {
-			t.Fatalf("there is no %s", swept)
+	// These are partial tiles of 2 leaves. Below are files that only the store uses.
+	for _, deleted := range []string{"tile/0/000.p/2", "tile/data/000.p/2"} {
+		if p.objects[deleted] == nil {
+			t.Fatalf("there is no %s", deleted)
 		}
-		delete(p.objects, swept)
-		want.Tiles--
+		delete(p.objects, deleted)
+		expected.Tiles--
 	}
 	p.objects["staging/00"], p.objects[".lock"], p.objects[".tmp/x"] = []byte("a bundle"), []byte{}, []byte("half")
 	head := nameOfHead(300, 1003)
 	p.objects[head] = append(p.objects[head], "— w.example AAAAAAA=\n— v.example BBBBBBBB\n"...)
-	if report, err := p.judged(t); err != nil || report != want {
-		t.Errorf("%+v, and not %+v: %v", report, want, err)
+	if report, err := p.judge(t); err != nil || report != expected {
+		t.Errorf("%+v, expected %+v: %v", report, expected, err)
 	}
 }
 
-// TestWrong bends a log in one place at a time, and signs and hashes the rest of it as it then is: each is found, by
-// what is wrong.
+// TestWrong changes a log in one place at a time, and signs and hashes the rest of it again. Each change must cause the
+// expected error.
 func TestWrong(t *testing.T) {
-	replaced := func(name, old, new string) func(t testing.TB, p *published) {
+	replace := func(name, old, new string) func(t testing.TB, p *published) {
 		return func(t testing.TB, p *published) {
 			if !strings.Contains(string(p.objects[name]), old) {
 				t.Fatalf("%s has no %q", name, old)
@@ -265,7 +266,7 @@ func TestWrong(t *testing.T) {
 			p.objects[name] = []byte(strings.Replace(string(p.objects[name]), old, new, 1))
 		}
 	}
-	gone := func(name string) func(t testing.TB, p *published) {
+	missing := func(name string) func(t testing.TB, p *published) {
 		return func(t testing.TB, p *published) {
 			if p.objects[name] == nil {
 				t.Fatalf("there is no %s", name)
@@ -276,23 +277,23 @@ func TestWrong(t *testing.T) {
 	copied := func(from, to string) func(t testing.TB, p *published) {
 		return func(_ testing.TB, p *published) { p.objects[to] = p.objects[from] }
 	}
-	answered := func(i int, bend func(a *Answer)) func(t testing.TB, p *published) {
-		return func(_ testing.TB, p *published) { bend(&p.answers[i]) }
+	changeAnswer := func(i int, change func(a *Answer)) func(t testing.TB, p *published) {
+		return func(_ testing.TB, p *published) { change(&p.answers[i]) }
 	}
-	// signedAgain has an answer be of a leaf that is bent, with its signature.
-	signedAgain := func(bend func(e *entered)) func(t testing.TB, p *published) {
+	// signedAgain makes an answer the correct SCT of a changed leaf.
+	signedAgain := func(change func(e *entered)) func(t testing.TB, p *published) {
 		return func(t testing.TB, p *published) {
 			right := p.leaves[0]
-			bend(&p.leaves[0])
+			change(&p.leaves[0])
 			p.answers[2] = p.answer(t, 0)
 			p.leaves[0] = right
 		}
 	}
 	last, right := nameOfHead(300, 1003), newLog(t, nil)
 	for what, of := range map[string]struct {
-		leaf func(i int, e *entered)
-		bend func(t testing.TB, p *published)
-		says string
+		leaf     func(i int, e *entered)
+		change   func(t testing.TB, p *published)
+		expected string
 	}{
 		"a leaf is earlier than the one before": {func(i int, e *entered) {
 			if i == 7 {
@@ -319,13 +320,13 @@ func TestWrong(t *testing.T) {
 				e.chain = e.chain[:31]
 			}
 		}, nil, "leaf 0 has no chain of fingerprints"},
-		"an issuer isn't there": {func(i int, e *entered) {
+		"an issuer is missing": {func(i int, e *entered) {
 			if i == 9 {
 				e.chain = bytes.Repeat([]byte{9}, 32)
 			}
 		}, nil, "leaf 9: issuer/0909"},
-		"two heads have one moment": {nil, func(t testing.TB, p *published) {
-			gone(last)(t, p)
+		"two heads have one timestamp": {nil, func(t testing.TB, p *published) {
+			missing(last)(t, p)
 			p.head(t, 300, 1002, p.root(t, 300))
 		}, "is not later than"},
 		"a later head is of fewer leaves": {nil, func(t testing.TB, p *published) { p.head(t, 2, 2000, p.root(t, 2)) },
@@ -337,24 +338,24 @@ func TestWrong(t *testing.T) {
 			"is not the MTH of the leaves"},
 		"a head is under another's name": {nil, copied(last, nameOfHead(300, 1004)),
 			"it is the head of 300 leaves at 1003"},
-		"a head has an extension line": {nil, replaced(last, "\n\n", "\nmore\n\n"), "no signed note"},
-		"a head's size begins with 0":  {nil, replaced(last, "\n300\n", "\n0300\n"), "no size"},
-		"a head's root is short":       {nil, replaced(last, "=\n\n", "\n\n"), "no root"},
-		"a head's root and a return":   {nil, replaced(last, "=\n\n", "=\r\n\n"), "no root"},
+		"a head has an extension line": {nil, replace(last, "\n\n", "\nmore\n\n"), "not a signed note"},
+		"a head's size begins with 0":  {nil, replace(last, "\n300\n", "\n0300\n"), "no size"},
+		"a head's root is short":       {nil, replace(last, "=\n\n", "\n\n"), "no root"},
+		"a head's root and a return":   {nil, replace(last, "=\n\n", "=\r\n\n"), "no root"},
 		"a head's line and a return": {nil, func(_ testing.TB, p *published) {
 			p.objects[last] = append(bytes.TrimSuffix(p.objects[last], []byte("\n")), "\r\n"...)
 		}, "no signature"},
-		"another signs first": {nil, replaced(last, "— "+origin, "— other.example"),
-			"the signature is not the origin's"},
-		"a head is of another origin": {nil, replaced(last, origin+"\n300", "other.example\n300"),
-			"the signature is not the origin's"},
+		"another signs first": {nil, replace(last, "— "+origin, "— other.example"),
+			"the signature is not that of the origin"},
+		"a head is of another origin": {nil, replace(last, origin+"\n300", "other.example\n300"),
+			"the signature is not that of the origin"},
 		"all of a head is another's": {nil, func(t testing.TB, p *published) {
 			p.objects[last] = []byte(strings.ReplaceAll(string(p.objects[last]), origin, "other.example"))
-		}, "the signature is another key's"},
+		}, "the signature is that of another key"},
 		"a head's signature is of another head": {nil, func(t testing.TB, p *published) {
 			p.objects[last] = []byte(strings.Replace(string(p.objects[last]), p.root(t, 300).String(),
 				p.root(t, 257).String(), 1))
-		}, "the signature is not the key's"},
+		}, "the signature is not that of the key"},
 		"there is no head": {nil, func(_ testing.TB, p *published) {
 			for name := range p.objects {
 				if strings.HasPrefix(name, "heads/") {
@@ -362,11 +363,11 @@ func TestWrong(t *testing.T) {
 				}
 			}
 		}, "there is no head"},
-		"a partial tile of data is missing":    {nil, gone("tile/data/001.p/1"), "tile/data/001.p/1 is missing"},
-		"a partial tile of hashes is missing":  {nil, gone("tile/0/001.p/1"), "tile/0/001.p/1 is missing"},
-		"a full tile of hashes is missing":     {nil, gone("tile/0/000"), "tile/0/000 is missing"},
-		"a tile of the level above is missing": {nil, gone("tile/1/000.p/1"), "tile/1/000.p/1 is missing"},
-		"the newest tile of data is missing":   {nil, gone("tile/data/001.p/44"), "tile/data/001.p/44 is missing"},
+		"a partial tile of data is missing":    {nil, missing("tile/data/001.p/1"), "tile/data/001.p/1 is missing"},
+		"a partial tile of hashes is missing":  {nil, missing("tile/0/001.p/1"), "tile/0/001.p/1 is missing"},
+		"a full tile of hashes is missing":     {nil, missing("tile/0/000"), "tile/0/000 is missing"},
+		"a tile of the level above is missing": {nil, missing("tile/1/000.p/1"), "tile/1/000.p/1 is missing"},
+		"the newest tile of data is missing":   {nil, missing("tile/data/001.p/44"), "tile/data/001.p/44 is missing"},
 		"a tile of data has a leaf more": {nil, func(_ testing.TB, p *published) {
 			n := "tile/data/001.p/44"
 			p.objects[n] = append(p.objects[n], p.leaves[3].inTile()...)
@@ -379,7 +380,7 @@ func TestWrong(t *testing.T) {
 			n := "tile/data/001.p/44"
 			p.objects[n] = p.objects[n][:len(p.objects[n])-1]
 		}, "leaf 43 is cut off"},
-		"an earlier tile of data is another": {nil, replaced("tile/data/001.p/1", "certificate 256",
+		"an earlier tile of data is another": {nil, replace("tile/data/001.p/1", "certificate 256",
 			"certificate 255"), "tile/data/001.p/1 is not the tile of the tree"},
 		"an earlier tile of hashes is another": {nil, func(_ testing.TB,
 			p *published) {
@@ -387,57 +388,59 @@ func TestWrong(t *testing.T) {
 		}, "tile/0/000.p/2 is not the tile of the tree"},
 		"a tile has more leaves than there are": {nil, copied("tile/0/001.p/44", "tile/0/001.p/45"),
 			"has more than the 300 leaves"},
-		"a tile of a level that isn't there": {nil, copied("tile/1/000.p/1", "tile/2/000.p/1"),
+		"a tile of a level that does not exist": {nil, copied("tile/1/000.p/1", "tile/2/000.p/1"),
 			"has more than the 300 leaves"},
 		"a tile's name has a part too many": {nil, copied("tile/0/000", "tile/0/x000/000"),
-			"is written otherwise"},
+			"is not the canonical name of its tile"},
 		"a tile's width begins with 0": {nil, copied("tile/0/001.p/44", "tile/0/001.p/044"),
-			"is written otherwise"},
+			"is not the canonical name of its tile"},
 		"a tile's level begins with 0": {nil, copied("tile/0/000", "tile/00/000"), "it has no level"},
-		"a tile's level isn't one":     {nil, copied("tile/0/000", "tile/8/000"), "it has no level"},
+		"a tile's level is not one":    {nil, copied("tile/0/000", "tile/8/000"), "it has no level"},
 		"an issuer's content is another": {nil, func(_ testing.TB,
 			p *published) {
 			p.objects["issuer/"+strings.Repeat("00", 32)] = []byte("x")
-		}, "is another issuer"},
-		"a timestamp of another log": {nil, answered(1, func(a *Answer) { a.LogID = make([]byte, 32) }),
+		}, "has another hash than its name"},
+		"a timestamp of another log": {nil, changeAnswer(1, func(a *Answer) { a.LogID = make([]byte, 32) }),
 			"answer 1: check: a timestamp of another log"},
-		"a timestamp's extension is another": {nil, answered(2,
+		"a timestamp's extension is another": {nil, changeAnswer(2,
 			func(a *Answer) { a.Extensions = append([]byte{1}, a.Extensions[1:]...) }),
 			"answer 2: check: a timestamp without leaf_index"},
-		"a timestamp's extensions are more": {nil, answered(2,
+		"a timestamp's extensions are more": {nil, changeAnswer(2,
 			func(a *Answer) { a.Extensions = append(a.Extensions[:8:8], 0) }), "a timestamp without leaf_index"},
 		"a timestamp's signature is of another": {nil, func(_ testing.TB,
 			p *published) {
 			p.answers[2].Signature = p.answers[0].Signature
-		}, "answer 2: check: the signature is not the key's"},
-		"a timestamp's algorithm is another": {nil, answered(0, func(a *Answer) { a.Signature[1] = 1 }),
-			"no DigitallySigned"},
-		"a timestamp's hash is another": {nil, answered(0, func(a *Answer) { a.Signature[0] = 5 }),
-			"no DigitallySigned"},
-		"a timestamp's signature has a byte more": {nil, answered(0,
-			func(a *Answer) { a.Signature = append(a.Signature, 0) }), "no DigitallySigned"},
-		"a timestamp of a leaf that isn't there": {nil, signedAgain(
+		}, "answer 2: check: the signature is not that of the key"},
+		"a timestamp's algorithm is another": {nil, changeAnswer(0, func(a *Answer) { a.Signature[1] = 1 }),
+			"not a DigitallySigned"},
+		"a timestamp's hash is another": {nil, changeAnswer(0, func(a *Answer) { a.Signature[0] = 5 }),
+			"not a DigitallySigned"},
+		"a timestamp's signature has a byte more": {nil, changeAnswer(0,
+			func(a *Answer) { a.Signature = append(a.Signature, 0) }), "not a DigitallySigned"},
+		"a timestamp of a leaf that does not exist": {nil, signedAgain(
 			func(e *entered) { e.extensions = leafIndex(300) }),
 			"a timestamp of leaf 300, and the last head has 300 leaves"},
-		"a timestamp of another moment is signed": {nil, signedAgain(func(e *entered) { e.timestamp++ }),
+		"another timestamp is signed": {nil, signedAgain(func(e *entered) { e.timestamp++ }),
 			"leaf 0 is not the entry of its SCT"},
-		"a timestamp of another place is signed": {nil, signedAgain(func(e *entered) { e.extensions = leafIndex(1) }),
+		"a timestamp of another index is signed": {nil, signedAgain(func(e *entered) { e.extensions = leafIndex(1) }),
 			"leaf 1 is not the entry of its SCT"},
 		"a timestamp of another content is signed": {nil, signedAgain(
 			func(e *entered) { e.certificate = []byte("another") }), "leaf 0 is not the entry of its SCT"},
-		"a head's name isn't one":                  {nil, copied(last, "heads/300-1003"), "that is no head's name"},
-		"a tile's name isn't one":                  {nil, copied("tile/0/000", "tile/0/0"), "that is no tile's name"},
+		"a head's name is not one": {nil, copied(last, "heads/300-1003"),
+			"that is not the name of a head"},
+		"a tile's name is not one": {nil, copied("tile/0/000", "tile/0/0"),
+			"that is not the name of a tile"},
 		"a partial tile has no width":              {nil, copied("tile/0/000", "tile/0/000.p/0"), "it has no width"},
 		"a partial tile has as many as a full one": {nil, copied("tile/0/000", "tile/0/000.p/256"), "it has no width"},
-		"behind the signature stands none": {nil, func(_ testing.TB,
+		"a line after the signature is none": {nil, func(_ testing.TB,
 			p *published) {
 			p.objects[last] = append(p.objects[last], "— w.example AAAA\n"...)
-		}, "no signed note"},
+		}, "not a signed note"},
 		"the last line of a head has no end": {nil, func(_ testing.TB,
 			p *published) {
 			p.objects[last] = bytes.TrimSuffix(p.objects[last], []byte("\n"))
-		}, "no signed note"},
-		"a head's signature is cut off behind a byte": {nil, func(_ testing.TB, p *published) {
+		}, "not a signed note"},
+		"a head's signature is cut off": {nil, func(_ testing.TB, p *published) {
 			p.objects[last] = []byte(fmt.Sprintf("%s\n300\n%v\n\n— %s %s\n", origin, tlog.Hash{}, origin,
 				base64.StdEncoding.EncodeToString(make([]byte, 12))))
 		}, "no signature"},
@@ -446,17 +449,17 @@ func TestWrong(t *testing.T) {
 		if of.leaf != nil {
 			p = newLog(t, of.leaf)
 		}
-		if of.bend != nil {
-			of.bend(t, p)
+		if of.change != nil {
+			of.change(t, p)
 		}
-		report, err := p.judged(t)
-		if err == nil || !strings.Contains(err.Error(), of.says) || report != (Report{}) {
-			t.Errorf("%s: %+v, %v, and not: %s", what, report, err, of.says)
+		report, err := p.judge(t)
+		if err == nil || !strings.Contains(err.Error(), of.expected) || report != (Report{}) {
+			t.Errorf("%s: %+v, %v, expected: %s", what, report, err, of.expected)
 		}
 	}
 }
 
-// TestKeysOfLogs: Judge returns an error for a key that is not ECDSA, and for a missing folder.
+// TestKeysOfLogs checks that Folder returns an error for a key that is not an ECDSA key, and for a missing folder.
 func TestKeysOfLogs(t *testing.T) {
 	p := newLog(t, nil)
 	public, _, err := ed25519.GenerateKey(rand.Reader)

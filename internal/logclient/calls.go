@@ -12,7 +12,7 @@ import (
 	"wagtenib/bindings/go/wagtenib"
 )
 
-// The bounds of the answers of a log of RFC 6962.
+// The limits of the answers of a log of RFC 6962.
 const (
 	maxSTH     = 64 << 10 // bytes
 	maxProof   = 64 << 10 // bytes
@@ -21,19 +21,19 @@ const (
 	maxPath    = 64       // hashes of a path or proof
 )
 
-// page is the number of entries that are asked for in one request. Many logs give no more, and cut their answers at
-// multiples of it.
+// page is the number of entries that one request asks for. Many logs return no more, and end their answers at multiples
+// of it.
 const page = 256
 
-// call returns the JSON answer of a call (RFC 6962, section 4), read into `into`.
-func (c *Client) call(ctx context.Context, name string, query url.Values, most int64, held *holding, into any) ([]byte,
-	error) {
-	content, err := c.get(ctx, "ct/v1/"+name, query, most, held)
+// call makes a call (RFC 6962, section 4), reads its JSON answer into `into`, and also returns the answer's bytes.
+func (c *Client) call(ctx context.Context, name string, query url.Values, maxBytes int64, ahead *reservation,
+	into any) ([]byte, error) {
+	content, err := c.get(ctx, "ct/v1/"+name, query, maxBytes, ahead)
 	if err != nil {
 		return nil, err
 	}
 	if trimmed := bytes.TrimSpace(content); len(trimmed) == 0 || trimmed[0] != '{' {
-		return nil, fmt.Errorf("ct/v1/%s: %w: it is no JSON object (%.40q)", name, ErrNonsense, trimmed)
+		return nil, fmt.Errorf("ct/v1/%s: %w: it is not a JSON object (%.40q)", name, ErrNonsense, trimmed)
 	}
 	if err := json.Unmarshal(content, into); err != nil {
 		return nil, fmt.Errorf("ct/v1/%s: %w: %v", name, ErrNonsense, err)
@@ -41,29 +41,29 @@ func (c *Client) call(ctx context.Context, name string, query url.Values, most i
 	return content, nil
 }
 
-// STH returns the answer to get-sth as it came (RFC 6962, section 4.3). Nothing of it is verified.
+// STH returns the unchanged answer to get-sth (RFC 6962, section 4.3). It verifies nothing.
 func (c *Client) STH(ctx context.Context) ([]byte, error) {
 	var anything map[string]json.RawMessage
 	return c.call(ctx, "get-sth", nil, maxSTH, nil, &anything)
 }
 
-// hashes turns the hashes of an answer into the library's.
+// hashes converts the hashes of an answer to hashes of the library.
 func hashes(name string, given [][]byte) ([]wagtenib.Hash, error) {
 	if len(given) > maxPath {
 		return nil, fmt.Errorf("ct/v1/%s: %w: %d hashes, and a proof has at most %d", name, ErrNonsense, len(given), maxPath)
 	}
-	found := make([]wagtenib.Hash, len(given))
+	result := make([]wagtenib.Hash, len(given))
 	for i, one := range given {
 		if len(one) != wagtenib.HashSize {
 			return nil, fmt.Errorf("ct/v1/%s: %w: a hash of %d bytes", name, ErrNonsense, len(one))
 		}
-		found[i] = wagtenib.Hash(one)
+		result[i] = wagtenib.Hash(one)
 	}
-	return found, nil
+	return result, nil
 }
 
-// Consistency returns the proof from the first leaves to the second (get-sth-consistency; RFC 6962, section 4.4). It is
-// not checked.
+// Consistency returns the proof from the tree of the first leaves to that of the second (get-sth-consistency; RFC 6962,
+// section 4.4). It does not check the proof.
 func (c *Client) Consistency(ctx context.Context, first, second uint64) ([]wagtenib.Hash, error) {
 	const name = "get-sth-consistency"
 	query := url.Values{"first": {strconv.FormatUint(first, 10)}, "second": {strconv.FormatUint(second, 10)}}
@@ -77,8 +77,8 @@ func (c *Client) Consistency(ctx context.Context, first, second uint64) ([]wagte
 }
 
 // ProofByHash returns the index and the audit path of the leaf with this hash in the tree of size leaves
-// (get-proof-by-hash; RFC 6962, section 4.5). They are not checked. The error wraps ErrNotFound or ErrStatus if the log
-// knows no such leaf.
+// (get-proof-by-hash; RFC 6962, section 4.5). It does not check them. The error wraps ErrNotFound or ErrStatus if the
+// log has no such leaf.
 func (c *Client) ProofByHash(ctx context.Context, leafHash wagtenib.Hash, size uint64) (index uint64,
 	path []wagtenib.Hash, err error) {
 	const name = "get-proof-by-hash"
@@ -97,7 +97,7 @@ func (c *Client) ProofByHash(ctx context.Context, leafHash wagtenib.Hash, size u
 	return *answer.Index, path, err
 }
 
-// Roots returns the certificates that the log accepts chains to, in DER (get-roots; RFC 6962, section 4.7).
+// Roots returns the root certificates that the log accepts, in DER (get-roots; RFC 6962, section 4.7).
 func (c *Client) Roots(ctx context.Context) ([][]byte, error) {
 	var answer struct {
 		Certificates [][]byte `json:"certificates"`
@@ -112,10 +112,10 @@ type RawEntry struct {
 	ExtraData []byte `json:"extra_data"` // the chain; of a precertificate it begins with the precertificate
 }
 
-// entryList reads the first entries of an answer. A log can put millions of empty ones into the bytes of an answer, so
-// those that were not asked for take no memory.
+// entryList reads the first entries of an answer. A log can put millions of empty entries into the bytes of an answer,
+// so those after the requested number take no memory.
 type entryList struct {
-	most    int
+	max     int
 	entries []RawEntry
 }
 
@@ -123,9 +123,9 @@ type entryList struct {
 func (l *entryList) UnmarshalJSON(content []byte) error {
 	from := json.NewDecoder(bytes.NewReader(content))
 	if token, err := from.Token(); err != nil || token != json.Delim('[') {
-		return fmt.Errorf("it is no array (%.40q)", content)
+		return fmt.Errorf("it is not an array (%.40q)", content)
 	}
-	for from.More() && len(l.entries) < l.most {
+	for from.More() && len(l.entries) < l.max {
 		var one RawEntry
 		if err := from.Decode(&one); err != nil {
 			return err
@@ -135,14 +135,14 @@ func (l *entryList) UnmarshalJSON(content []byte) error {
 	return nil
 }
 
-// Page holds entries that follow each other.
+// Page has consecutive entries.
 type Page struct {
 	Start   uint64 // the index of the first one
 	Entries []RawEntry
 }
 
-// Entries reads the entries from the index start on, before end, and hands them to use in order. `more` says that the
-// next ones have come already. An error of use ends the reading, and is returned as it is.
+// Entries reads the entries from the index start on, before end, and calls use for each page, in order. more is true if
+// the next entries have already been read. An error of use ends the reading, and is returned as it is.
 func (c *Client) Entries(ctx context.Context, start, end uint64, use func(entries Page, more bool) error) error {
 	next := func() (piece, bool) {
 		if start >= end {
@@ -155,29 +155,30 @@ func (c *Client) Entries(ctx context.Context, start, end uint64, use func(entrie
 	return inOrder(ctx, c, next, c.page, use)
 }
 
-// page reads the entries of a piece. A log may give fewer than were asked for, so it may take several requests, whose
-// answers have a bound together.
-func (c *Client) page(ctx context.Context, of piece, held *holding) (Page, error) {
+// page reads the entries of a piece. A log may return fewer than the request asks for, so several requests may be
+// necessary. Their answers have a common limit.
+func (c *Client) page(ctx context.Context, of piece, ahead *reservation) (Page, error) {
 	const name = "get-entries"
-	found, left := Page{Start: of.start}, c.limits.Page
-	for at := of.start; at < of.end; at = of.start + uint64(len(found.Entries)) {
+	result, left := Page{Start: of.start}, c.limits.Page
+	for at := of.start; at < of.end; at = of.start + uint64(len(result.Entries)) {
 		query := url.Values{"start": {strconv.FormatUint(at, 10)}, "end": {strconv.FormatUint(of.end-1, 10)}}
 		var answer struct {
 			Entries entryList `json:"entries"`
 		}
-		answer.Entries.most = int(of.end - at)
-		content, err := c.call(ctx, name, query, min(maxEntries, left), held, &answer)
+		answer.Entries.max = int(of.end - at)
+		content, err := c.call(ctx, name, query, min(maxEntries, left), ahead, &answer)
 		if err != nil {
 			return Page{}, err
 		}
 		left -= int64(len(content))
 		if len(answer.Entries.entries) == 0 {
-			return Page{}, fmt.Errorf("ct/v1/%s: %w: no entries from %d on, and the log has signed %d", name, ErrNonsense, at,
+			return Page{}, fmt.Errorf("ct/v1/%s: %w: no entries from %d on, although the log has signed %d", name,
+				ErrNonsense, at,
 				of.end)
 		}
-		found.Entries = append(found.Entries, answer.Entries.entries...)
+		result.Entries = append(result.Entries, answer.Entries.entries...)
 	}
-	return found, nil
+	return result, nil
 }
 
 func toBase64(content []byte) string { return base64.StdEncoding.EncodeToString(content) }

@@ -1,8 +1,8 @@
 // Package logclient reads Certificate Transparency logs over HTTP: tiled logs (C2SP static-ct-api) and logs of RFC
 // 6962.
 //
-// It believes nothing that it reads. It bounds the bytes and the time of every answer, and names the reason if it
-// refuses one. The caller must judge what it returns.
+// It trusts nothing that it reads. It limits the bytes and the time of every answer, and names the reason if it refuses
+// one. The caller must verify what it returns.
 package logclient
 
 import (
@@ -15,16 +15,16 @@ import (
 	"time"
 )
 
-// Limits bound what a log can cost. The zero value of a field means its default.
+// Limits limit what a log can cost. If a field is zero, its default applies.
 type Limits struct {
-	Request  time.Duration // for one request and its whole answer; 2 minutes
-	Grace    time.Duration // after which an answer must keep the minimum pace; 10 seconds
-	Pace     int           // bytes a second that an answer must come by at least; 4,096
-	Attempts int           // requests for one answer, if the log is busy or fails; 10
-	Wait     time.Duration // the longest time between two attempts. A log that asks for a longer one is busy; 5 minutes
-	InFlight int           // requests at a time; 8
-	Page     int64         // bytes of all answers for 256 entries; 256 MiB
-	Buffer   int64         // bytes of entries that are read ahead, beside one whole answer; 32 MiB
+	Request  time.Duration // for one request and its whole answer; default 2 minutes
+	Grace    time.Duration // after which an answer must keep the minimum pace; default 10 seconds
+	Pace     int           // minimum number of bytes per second of an answer; default 4,096
+	Attempts int           // requests for one answer, if the log is busy or fails; default 10
+	Wait     time.Duration // maximum time between two attempts: a log that asks for more is busy; default 5 minutes
+	InFlight int           // concurrent requests; default 8
+	Page     int64         // bytes of all answers for 256 entries; default 256 MiB
+	Buffer   int64         // bytes of entries that are read ahead, in addition to one whole answer; default 32 MiB
 }
 
 func (l Limits) withDefaults() Limits {
@@ -54,35 +54,35 @@ func (l Limits) withDefaults() Limits {
 	return l
 }
 
-// Options say how a log is read.
+// Options are the options for reading a log.
 type Options struct {
-	UserAgent string            // who asks, with a contact: see UserAgent
-	Transport http.RoundTripper // of the requests; nil for a pool of connections of this client's own
+	UserAgent string            // the program and its contact: see UserAgent
+	Transport http.RoundTripper // for the requests; nil for a connection pool of this client
 	Clock     Clock             // for the waits between attempts; nil for the machine's clock
 	Limits    Limits
-	// Retrying is called if the first attempt of a request failed and there will be another one, with the address and
-	// the reason. Several goroutines may call it at once. It may be nil.
+	// Retrying is called with the address and the reason if the first attempt of a request failed and there will be
+	// another one. It may be called concurrently. It may be nil.
 	Retrying func(address string, fault error)
 }
 
-// Client reads one log. Its methods can be called by several goroutines at once.
+// Client reads one log. Its methods may be called concurrently.
 type Client struct {
-	base    *url.URL
-	http    *http.Client
-	agent   string
-	clock   Clock
-	retried func(address string, fault error)
-	limits  Limits
-	slots   *slots
-	room    *room
-	refused refusals
+	base     *url.URL
+	http     *http.Client
+	agent    string
+	clock    Clock
+	onRetry  func(address string, fault error)
+	limits   Limits
+	slots    *slots
+	buffer   *buffer
+	refusals refusals
 }
 
-// ErrAddress means that an address is not one of a log.
+// ErrAddress means that an address is not that of a log.
 var ErrAddress = errors.New("logclient: not a log's address")
 
-// UserAgent returns a text for Options.UserAgent: the program and its version, and the address by which its operator
-// can be reached, if there is one. The error is nil, or says that a text has characters that a header cannot have.
+// UserAgent returns a text for Options.UserAgent. It has the program, its version, and the address of the program's
+// operator if there is one. The error is not nil if the text has characters that a header cannot have.
 func UserAgent(program, version, contact string) (string, error) {
 	agent := program + "/" + version
 	if contact != "" {
@@ -96,8 +96,8 @@ func UserAgent(program, version, contact string) (string, error) {
 	return agent, nil
 }
 
-// New returns a client of the log at an address: the monitoring prefix of a tiled log, or the base of "ct/v1/". The
-// error is nil or wraps ErrAddress.
+// New returns a client of the log at an address, which is the monitoring prefix of a tiled log, or the base of
+// "ct/v1/". The error wraps ErrAddress.
 func New(address string, options Options) (*Client, error) {
 	base, err := url.Parse(address)
 	if err != nil {
@@ -110,7 +110,7 @@ func New(address string, options Options) (*Client, error) {
 	base.Path = strings.TrimSuffix(base.Path, "/")
 	limits := options.Limits.withDefaults()
 	c := &Client{base: base, agent: options.UserAgent, clock: options.Clock, limits: limits,
-		retried: options.Retrying, slots: &slots{free: limits.InFlight}, room: &room{free: limits.Buffer}}
+		onRetry: options.Retrying, slots: &slots{free: limits.InFlight}, buffer: &buffer{free: limits.Buffer}}
 	if c.agent == "" {
 		c.agent = "wagtenib"
 	}
@@ -125,8 +125,7 @@ func New(address string, options Options) (*Client, error) {
 	return c, nil
 }
 
-// newTransport returns a pool of connections of one log's own: a log that is slow must not hold the connections of
-// another.
+// newTransport returns a connection pool for one log, because a slow log must not occupy the connections of another.
 func newTransport(limits Limits) *http.Transport {
 	dialer := net.Dialer{Timeout: 10 * time.Second, KeepAlive: 30 * time.Second}
 	return &http.Transport{
@@ -141,11 +140,11 @@ func newTransport(limits Limits) *http.Transport {
 	}
 }
 
-// maxRedirects is the number of redirects within the log's own host that one request follows.
+// maxRedirects is the maximum number of redirects, within the log's own host, that a request follows.
 const maxRedirects = 3
 
-// checkRedirect follows a few redirects within the host of the log. Another host's answers are not the log's, whatever
-// they are.
+// checkRedirect permits a few redirects within the host of the log, and refuses redirects to other hosts, whose answers
+// are not those of the log.
 func (c *Client) checkRedirect(next *http.Request, before []*http.Request) error {
 	first := before[0].URL
 	switch {

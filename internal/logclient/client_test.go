@@ -18,7 +18,7 @@ import (
 	"wagtenib/internal/testlog"
 )
 
-// clock is a clock whose waits pass at once, and move it. It notes them.
+// clock is a clock whose waits end immediately and advance its time. It records them.
 type clock struct {
 	mutex sync.Mutex
 	now   time.Time
@@ -41,7 +41,7 @@ func (c *clock) Wait(ctx context.Context, d time.Duration) error {
 	return ctx.Err()
 }
 
-// client returns a client of a server whose answers are a handler's.
+// client returns a client of a server with this handler.
 func client(t testing.TB, handler http.Handler, options logclient.Options) *logclient.Client {
 	t.Helper()
 	server := httptest.NewServer(handler)
@@ -53,7 +53,7 @@ func client(t testing.TB, handler http.Handler, options logclient.Options) *logc
 	return c
 }
 
-// newLog returns a log with so many entries and a head over them.
+// newLog returns a log with count entries and a head over them.
 func newLog(t testing.TB, count uint64) *testlog.Log {
 	t.Helper()
 	log, err := testlog.New("log.example/2027")
@@ -67,11 +67,11 @@ func newLog(t testing.TB, count uint64) *testlog.Log {
 	return log
 }
 
-// quick are limits by which an answer that is too slow ends soon.
+// quick has limits that end a slow answer soon.
 var quick = logclient.Limits{Request: 400 * time.Millisecond, Grace: 100 * time.Millisecond, Attempts: 2}
 
-// until writes the same bytes again and again, as long as the client stays.
-func until(w http.ResponseWriter, r *http.Request, content string, pause time.Duration) {
+// repeat writes the same bytes again and again, until the client disconnects.
+func repeat(w http.ResponseWriter, r *http.Request, content string, pause time.Duration) {
 	for r.Context().Err() == nil {
 		if _, err := w.Write([]byte(content)); err != nil {
 			return
@@ -84,7 +84,7 @@ func until(w http.ResponseWriter, r *http.Request, content string, pause time.Du
 	}
 }
 
-// Answers that a log must not give are refused by name, within a bound of time.
+// TestRefusesByName checks the error for each answer that a log must not give, within a limited time.
 func TestRefusesByName(t *testing.T) {
 	elsewhere := httptest.NewServer(http.HandlerFunc(func(http.ResponseWriter,
 		*http.Request) {
@@ -92,8 +92,8 @@ func TestRefusesByName(t *testing.T) {
 	}))
 	defer elsewhere.Close()
 	for what, of := range map[string]struct {
-		answer func(w http.ResponseWriter, r *http.Request)
-		due    error
+		answer   func(w http.ResponseWriter, r *http.Request)
+		expected error
 	}{
 		"not found": {func(w http.ResponseWriter, r *http.Request) { http.NotFound(w, r) }, logclient.ErrNotFound},
 		"gone": {func(w http.ResponseWriter, _ *http.Request) { w.WriteHeader(http.StatusGone) },
@@ -117,9 +117,9 @@ func TestRefusesByName(t *testing.T) {
 			http.Redirect(w, r, "/checkpoint",
 				http.StatusFound)
 		}, logclient.ErrRedirect},
-		"endless": {func(w http.ResponseWriter, r *http.Request) { until(w, r, strings.Repeat("a", 1<<16), 0) },
+		"endless": {func(w http.ResponseWriter, r *http.Request) { repeat(w, r, strings.Repeat("a", 1<<16), 0) },
 			logclient.ErrTooLarge},
-		"drips": {func(w http.ResponseWriter, r *http.Request) { until(w, r, "a", 20*time.Millisecond) },
+		"drips": {func(w http.ResponseWriter, r *http.Request) { repeat(w, r, "a", 20*time.Millisecond) },
 			logclient.ErrTooSlow},
 		"says nothing": {func(_ http.ResponseWriter, r *http.Request) { <-r.Context().Done() }, logclient.ErrTooSlow},
 		"breaks off":   {func(http.ResponseWriter, *http.Request) { panic(http.ErrAbortHandler) }, logclient.ErrUnreachable},
@@ -130,12 +130,12 @@ func TestRefusesByName(t *testing.T) {
 	} {
 		t.Run(what, func(t *testing.T) {
 			limits := logclient.Limits{Attempts: 2}
-			if of.due == logclient.ErrTooSlow {
+			if of.expected == logclient.ErrTooSlow {
 				limits = quick
 			}
 			c := client(t, http.HandlerFunc(of.answer), logclient.Options{Clock: newClock(), Limits: limits})
-			if content, err := c.Checkpoint(context.Background()); !errors.Is(err, of.due) || content != nil {
-				t.Errorf("%d bytes, %v, and %v is due", len(content), err, of.due)
+			if content, err := c.Checkpoint(context.Background()); !errors.Is(err, of.expected) || content != nil {
+				t.Errorf("%d bytes, %v, expected %v", len(content), err, of.expected)
 			}
 		})
 	}
@@ -148,7 +148,7 @@ func cutOff(w http.ResponseWriter) {
 	}
 }
 
-// bomb answers with a few bytes that are gigabytes after decompression.
+// bomb answers with a few bytes that decompress to gigabytes.
 func bomb(w http.ResponseWriter, r *http.Request) {
 	w.Header().Set("Content-Encoding", "gzip")
 	packed := gzip.NewWriter(w)
@@ -160,7 +160,7 @@ func bomb(w http.ResponseWriter, r *http.Request) {
 	}
 }
 
-// A page in the place of an answer to a call is refused by name.
+// TestRefusesPages checks that a page in place of the answer to a call is refused.
 func TestRefusesPages(t *testing.T) {
 	for _, page := range []string{"<!DOCTYPE html><title>Welcome</title>", "", "[]", "null", `{"entries":`,
 		`{"entries":[]}`, `{"consistency":["AAAA"]}`, `{"audit_path":[]}`} {
@@ -186,8 +186,8 @@ func TestRefusesPages(t *testing.T) {
 
 func third[A, B any](_ A, _ B, err error) error { return err }
 
-// Each request says who asks.
-func TestSaysWhoAsks(t *testing.T) {
+// TestSendsUserAgent checks that each request names the program and its contact.
+func TestSendsUserAgent(t *testing.T) {
 	agent, err := logclient.UserAgent("ctwatch", "1.2.3", "mailto:owner@example.org")
 	if err != nil {
 		t.Fatal(err)
@@ -199,16 +199,17 @@ func TestSaysWhoAsks(t *testing.T) {
 		t.Errorf("the log sees %q, %v", seen, err)
 	}
 	if _, err := logclient.UserAgent("ctwatch", "1", "a\r\nHost: b"); err == nil {
-		t.Error("a contact with a line end is taken")
+		t.Error("a contact with a line end is accepted")
 	}
 }
 
-// The wait that a busy log names is kept: in seconds, or as a date. A failure that passes is tried again.
+// TestWaitsAsTheLogSays checks that the client waits as long as a busy log asks for, in seconds or as a date, and that
+// it tries again after a temporary failure.
 func TestWaitsAsTheLogSays(t *testing.T) {
 	for what, of := range map[string]struct {
-		status int
-		retry  string
-		least  time.Duration
+		status  int
+		retry   string
+		minWait time.Duration
 	}{
 		"seconds":              {http.StatusTooManyRequests, "7", 7 * time.Second},
 		"a date":               {http.StatusServiceUnavailable, "Mon, 01 Mar 2027 12:00:30 GMT", 30 * time.Second},
@@ -218,7 +219,7 @@ func TestWaitsAsTheLogSays(t *testing.T) {
 		"a gateway that fails": {http.StatusBadGateway, "", 0},
 	} {
 		t.Run(what, func(t *testing.T) {
-			at, asked := newClock(), 0
+			testClock, asked := newClock(), 0
 			c := client(t, http.HandlerFunc(func(w http.ResponseWriter, _ *http.Request) {
 				if asked++; asked == 1 {
 					w.Header().Set("Retry-After", of.retry)
@@ -226,33 +227,34 @@ func TestWaitsAsTheLogSays(t *testing.T) {
 					return
 				}
 				fmt.Fprint(w, "the checkpoint")
-			}), logclient.Options{Clock: at})
+			}), logclient.Options{Clock: testClock})
 			content, err := c.Checkpoint(context.Background())
-			if string(content) != "the checkpoint" || err != nil || len(at.waits) != 1 || at.waits[0] < of.least ||
-				at.waits[0] > of.least+time.Second {
-				t.Errorf("%q, %v after waits of %v", content, err, at.waits)
+			if string(content) != "the checkpoint" || err != nil || len(testClock.waits) != 1 ||
+				testClock.waits[0] < of.minWait || testClock.waits[0] > of.minWait+time.Second {
+				t.Errorf("%q, %v after waits of %v", content, err, testClock.waits)
 			}
 		})
 	}
 }
 
-// A log that asks for a long wait is not asked again, and the error says until when.
-func TestLeavesABusyLogAlone(t *testing.T) {
-	at := newClock()
+// TestStopsAtALongWait checks that a log that asks for a long wait is not asked again, and that the error contains the
+// time.
+func TestStopsAtALongWait(t *testing.T) {
+	testClock := newClock()
 	c := client(t, http.HandlerFunc(func(w http.ResponseWriter, _ *http.Request) {
 		w.Header().Set("Retry-After", "7200")
 		w.WriteHeader(http.StatusTooManyRequests)
-	}), logclient.Options{Clock: at})
+	}), logclient.Options{Clock: testClock})
 	_, err := c.Checkpoint(context.Background())
 	var busy *logclient.BusyError
-	if !errors.As(err, &busy) || !busy.Until.Equal(at.now.Add(2*time.Hour)) || len(at.waits) != 0 {
-		t.Errorf("%v after waits of %v", err, at.waits)
+	if !errors.As(err, &busy) || !busy.Until.Equal(testClock.now.Add(2*time.Hour)) || len(testClock.waits) != 0 {
+		t.Errorf("%v after waits of %v", err, testClock.waits)
 	}
 }
 
-// All 30,000 entries are read in one run from a server that refuses one request in five, in order, by either kind of
-// log.
-func TestReadsBehindRefusals(t *testing.T) {
+// TestReadsDespiteRefusals checks that all 30,000 entries are read in order and in one run from a server that refuses
+// one request in five, for either kind of log.
+func TestReadsDespiteRefusals(t *testing.T) {
 	const size = 30_000
 	log := newLog(t, size)
 	var asked, refused atomic.Int64
@@ -269,9 +271,9 @@ func TestReadsBehindRefusals(t *testing.T) {
 	next := uint64(0)
 	err := c.Entries(context.Background(), 0, size, func(page logclient.Page, _ bool) error {
 		for i, entry := range page.Entries {
-			due := testlog.Entry{Timestamp: 1000 + next, Certificate: []byte{0x30, 3, byte(next >> 16), byte(next >> 8),
-				byte(next)}}
-			if page.Start+uint64(i) != next || !slices.Equal(entry.LeafInput, due.MerkleLeaf(next)) {
+			expected := testlog.Entry{Timestamp: 1000 + next,
+				Certificate: []byte{0x30, 3, byte(next >> 16), byte(next >> 8), byte(next)}}
+			if page.Start+uint64(i) != next || !slices.Equal(entry.LeafInput, expected.MerkleLeaf(next)) {
 				return fmt.Errorf("entry %d is %x", next, entry.LeafInput)
 			}
 			next++
@@ -279,7 +281,7 @@ func TestReadsBehindRefusals(t *testing.T) {
 		return nil
 	})
 	if err != nil || next != size || refused.Load() < 20 {
-		t.Errorf("%d entries behind %d refusals: %v", next, refused.Load(), err)
+		t.Errorf("%d entries after %d refusals: %v", next, refused.Load(), err)
 	}
 	refusedByCalls := refused.Load()
 	tiles := uint64(0)
@@ -291,6 +293,6 @@ func TestReadsBehindRefusals(t *testing.T) {
 		return nil
 	})
 	if err != nil || tiles != 118 || refused.Load()-refusedByCalls < 20 {
-		t.Errorf("%d tiles behind %d refusals: %v", tiles, refused.Load()-refusedByCalls, err)
+		t.Errorf("%d tiles after %d refusals: %v", tiles, refused.Load()-refusedByCalls, err)
 	}
 }

@@ -12,8 +12,8 @@ import (
 	"wagtenib/internal/logservice"
 )
 
-// TestReadsTheLargestDataTile reads a full data tile of which each entry has as many bytes as a log of ctserve takes, and
-// as many issuers, and has the library split it.
+// TestReadsTheLargestDataTile reads a full data tile whose entries have as many bytes and as many issuers as a log of
+// ctserve accepts, and splits it by the library.
 func TestReadsTheLargestDataTile(t *testing.T) {
 	var largest []byte
 	for index := range uint64(logclient.TileWidth) {
@@ -31,7 +31,7 @@ func TestReadsTheLargestDataTile(t *testing.T) {
 	read := 0
 	err := c.DataTiles(t.Context(), 0, logclient.TileWidth, func(tile logclient.DataTile, _ bool) error {
 		if !bytes.Equal(tile.Bytes, largest) {
-			t.Errorf("of %d bytes it returns %d, or other ones", len(largest), len(tile.Bytes))
+			t.Errorf("the tile has %d bytes, and %d or other ones are returned", len(largest), len(tile.Bytes))
 		}
 		entries, err := wagtenib.DataTileLeaves(tile.Bytes)
 		read = len(entries)

@@ -8,20 +8,20 @@ import (
 	"time"
 )
 
-// A Clock tells the time, and waits between the attempts of a request.
+// Clock returns the time, and waits between the attempts of a request.
 type Clock interface {
 	Now() time.Time
-	// Wait returns nil after a time, or the error of the context as soon as that ends.
+	// Wait returns nil after a duration, or the error of the context as soon as the context ends.
 	Wait(ctx context.Context, d time.Duration) error
 }
 
 // MachineClock is the clock of this machine.
 type MachineClock struct{}
 
-// Now returns the time.
+// Now returns the current time.
 func (MachineClock) Now() time.Time { return time.Now() }
 
-// Wait returns nil after a time, or the error of the context.
+// Wait returns nil after a duration, or the error of the context.
 func (MachineClock) Wait(ctx context.Context, d time.Duration) error {
 	timer := time.NewTimer(d)
 	defer timer.Stop()
@@ -33,16 +33,16 @@ func (MachineClock) Wait(ctx context.Context, d time.Duration) error {
 	}
 }
 
-// refusals holds back all requests if a log refuses many of them. A log that refuses a request now and then is asked on
-// at once by the other requests.
+// refusals delays all requests if a log refuses many of them. If a log refuses only a few requests, the other requests
+// are not delayed.
 type refusals struct {
 	mutex sync.Mutex
 	score int
 	until time.Time
 }
 
-// A refusal adds to the score, and an answer takes one off. At the highest score all requests wait until the time that
-// the log names. So they wait after six refusals without an answer between them, or if the log goes on refusing more
+// A refusal adds to the score, and an answer subtracts one. At the maximum score all requests wait until the time that
+// the log names. So they wait after six refusals without an answer between them, or if the log continues to refuse more
 // than one request in three.
 const (
 	scoreOfRefusal = 2
@@ -70,8 +70,8 @@ func (r *refusals) wait(now time.Time) time.Duration {
 	return r.until.Sub(now)
 }
 
-// slots are those of the requests in flight. Requests of earlier pieces get one before those of later pieces: after a
-// request was refused, the entries after it can only be used once it has its answer.
+// slots limits the requests in flight. Requests of earlier pieces get a slot before those of later pieces. After a
+// refused request, the entries after it can only be used after that request has its answer.
 type slots struct {
 	mutex   sync.Mutex
 	free    int
@@ -81,11 +81,11 @@ type slots struct {
 // waiter is a request that waits for a slot.
 type waiter struct {
 	order uint64
-	ready chan struct{} // is closed after the waiter has a slot
+	ready chan struct{} // closed after the waiter has a slot
 }
 
-// take returns nil after there is a slot for a request of this order, or the reason for which the context ended.
-func (s *slots) take(ctx context.Context, order uint64) error {
+// acquire returns nil after a request of this order has a slot, or the reason for which the context ended.
+func (s *slots) acquire(ctx context.Context, order uint64) error {
 	s.mutex.Lock()
 	if s.free > 0 {
 		s.free--
@@ -93,14 +93,14 @@ func (s *slots) take(ctx context.Context, order uint64) error {
 		return nil
 	}
 	own := &waiter{order, make(chan struct{})}
-	// (of the same order, the one that came first is first)
-	at, _ := slices.BinarySearchFunc(s.waiting, order, func(one *waiter, order uint64) int {
+	// Among requests of the same order, the first one to arrive is the first.
+	position, _ := slices.BinarySearchFunc(s.waiting, order, func(one *waiter, order uint64) int {
 		if one.order <= order {
 			return -1
 		}
 		return 1
 	})
-	s.waiting = slices.Insert(s.waiting, at, own)
+	s.waiting = slices.Insert(s.waiting, position, own)
 	s.mutex.Unlock()
 	select {
 	case <-own.ready:
@@ -111,21 +111,21 @@ func (s *slots) take(ctx context.Context, order uint64) error {
 	}
 }
 
-// leave takes a waiter out of those that wait. If it has got a slot meanwhile, the slot is given back.
+// leave removes a waiter. If the waiter has received a slot meanwhile, the slot is released.
 func (s *slots) leave(own *waiter) {
 	s.mutex.Lock()
-	at := slices.Index(s.waiting, own)
-	if at >= 0 {
-		s.waiting = slices.Delete(s.waiting, at, at+1)
+	position := slices.Index(s.waiting, own)
+	if position >= 0 {
+		s.waiting = slices.Delete(s.waiting, position, position+1)
 	}
 	s.mutex.Unlock()
-	if at < 0 {
-		s.giveBack()
+	if position < 0 {
+		s.release()
 	}
 }
 
-// giveBack gives a slot to the first waiter, if there is one.
-func (s *slots) giveBack() {
+// release gives a slot to the first waiter, if there is one.
+func (s *slots) release() {
 	s.mutex.Lock()
 	defer s.mutex.Unlock()
 	if len(s.waiting) == 0 {
@@ -136,7 +136,7 @@ func (s *slots) giveBack() {
 	s.waiting = s.waiting[1:]
 }
 
-// jittered returns a random time between half of d and d, so that requests that failed together are not made again
+// jittered returns a random duration between half of d and d, so that requests that failed together are not repeated
 // together.
 func jittered(d time.Duration) time.Duration {
 	return d/2 + rand.N(d/2+1)

@@ -14,31 +14,31 @@ import (
 	"wagtenib/internal/logclient"
 )
 
-// model is a log behind a server, and a clock, in a time of their own: nothing in it takes real time. Its time goes on
+// model is a log behind a server, and a clock, with a simulated time. Nothing in it takes real time. The time advances
 // as soon as the client can do nothing more before the next answer or the end of the next wait.
 type model struct {
-	log      http.Handler
-	latency  time.Duration // of each answer
-	refuses  bool          // one request in five, after the first ones
-	inFlight int           // requests that the client makes at a time
+	log          http.Handler
+	latency      time.Duration // of each answer
+	withRefusals bool          // one request in five, after the first ones
+	inFlight     int           // requests that the client makes at a time
 
 	mutex      sync.Mutex
 	now        time.Time
-	unread     int // pieces that have no answer yet
-	seen       seen
+	unread     int // the number of pieces that have no answer yet
+	observed   observed
 	requesting []event // requests in flight
 	waiting    []event // waits of the client
 }
 
-// seen is what the server saw.
-type seen struct {
-	asked    int
+// observed is what the server observed.
+type observed struct {
+	requests int
 	refusals int
 	refused  map[string]time.Time // by the address, when a request was refused
 	early    int                  // requests that were made again before their second was over
 }
 
-// event is what happens at a time of the model.
+// event is an event at a time of the model.
 type event struct {
 	at   time.Time
 	done chan struct{}
@@ -51,7 +51,7 @@ func (m *model) Now() time.Time {
 	return m.now
 }
 
-// Wait returns after a time of the model.
+// Wait returns after a simulated duration.
 func (m *model) Wait(_ context.Context, d time.Duration) error {
 	m.mutex.Lock()
 	one := event{m.now.Add(d), make(chan struct{})}
@@ -65,11 +65,11 @@ func (m *model) Wait(_ context.Context, d time.Duration) error {
 // RoundTrip answers a request after the latency.
 func (m *model) RoundTrip(r *http.Request) (*http.Response, error) {
 	m.mutex.Lock()
-	m.seen.asked++
-	if at, found := m.seen.refused[r.URL.String()]; found && m.now.Before(at.Add(time.Second)) {
-		m.seen.early++
+	m.observed.requests++
+	if at, found := m.observed.refused[r.URL.String()]; found && m.now.Before(at.Add(time.Second)) {
+		m.observed.early++
 	}
-	refused := m.refuses && m.seen.asked > m.inFlight && m.seen.asked%5 == 0
+	refused := m.withRefusals && m.observed.requests > m.inFlight && m.observed.requests%5 == 0
 	one := event{m.now.Add(m.latency), make(chan struct{})}
 	m.requesting = append(m.requesting, one)
 	m.advance()
@@ -77,8 +77,8 @@ func (m *model) RoundTrip(r *http.Request) (*http.Response, error) {
 	<-one.done
 	if refused {
 		m.mutex.Lock()
-		m.seen.refusals++
-		m.seen.refused[r.URL.String()] = m.now
+		m.observed.refusals++
+		m.observed.refused[r.URL.String()] = m.now
 		m.mutex.Unlock()
 		return &http.Response{StatusCode: http.StatusTooManyRequests, Header: http.Header{"Retry-After": {"1"}},
 			Body: io.NopCloser(strings.NewReader("")), Request: r}, nil
@@ -92,8 +92,8 @@ func (m *model) RoundTrip(r *http.Request) (*http.Response, error) {
 	return recorded.Result(), nil
 }
 
-// advance lets what is next happen, while the client can do nothing before: it has as many requests in flight as it
-// makes at a time, or one for each piece that is not read and does not wait.
+// advance advances the time to the next event if the client can do nothing before. Then the client has the maximum
+// number of requests in flight, or one for each piece that is not read and does not wait.
 func (m *model) advance() {
 	for len(m.requesting) == min(m.inFlight, m.unread-len(m.waiting)) && len(m.requesting)+len(m.waiting) > 0 {
 		next := time.Time{}
@@ -107,7 +107,7 @@ func (m *model) advance() {
 	}
 }
 
-// release ends the events that are due, and returns the others.
+// release ends the events of the current time, and returns the later ones.
 func (m *model) release(events []event) (later []event) {
 	for _, one := range events {
 		if one.at.After(m.now) {
@@ -120,15 +120,15 @@ func (m *model) release(events []event) (later []event) {
 }
 
 // TestRefusalsDoNotDoubleTheTime reads 30,000 entries from a log whose answers take half a second each. If one request
-// in five is refused for a second, the reading takes at most twice the time.
+// in five is refused for a second, the reading must take at most twice the time.
 //
-// This holds in whatever order the requests come. There are 118 pieces, so without refusals it takes the time of 15
-// answers, 7.5 s. With refusals there are at most 148 requests, which take the time of 19 answers. After them, the last
-// pieces wait: at most five, then one, and this one once more. Each time takes the wait and an answer, so all of it
-// takes at most 14.3 s.
+// This holds in every order of the requests. There are 118 pieces, so without refusals it takes the time of 15 answers,
+// 7.5 s. With refusals there are at most 148 requests, which take the time of 19 answers. After them, the last pieces
+// wait: at most five, then one, and this one once more. Each time takes the wait and an answer, so all of it takes at
+// most 14.3 s.
 func TestRefusalsDoNotDoubleTheTime(t *testing.T) {
 	const size, inFlight = 30_000, 8
-	begun, log := newClock().now, newLog(t, size)
+	start, log := newClock().now, newLog(t, size)
 	for kind, read := range map[string]func(c *logclient.Client, use func(first uint64, count int) error) error{
 		"RFC 6962": func(c *logclient.Client, use func(uint64, int) error) error {
 			return c.Entries(context.Background(), 0, size, func(page logclient.Page, _ bool) error {
@@ -141,10 +141,11 @@ func TestRefusalsDoNotDoubleTheTime(t *testing.T) {
 			})
 		},
 	} {
-		took := map[bool]time.Duration{}
-		for _, refuses := range []bool{false, true} {
-			m := &model{log: log, latency: time.Second / 2, refuses: refuses, inFlight: inFlight, now: begun,
-				seen: seen{refused: map[string]time.Time{}}, unread: (size + logclient.TileWidth - 1) / logclient.TileWidth}
+		durations := map[bool]time.Duration{}
+		for _, withRefusals := range []bool{false, true} {
+			m := &model{log: log, latency: time.Second / 2, withRefusals: withRefusals, inFlight: inFlight, now: start,
+				observed: observed{refused: map[string]time.Time{}},
+				unread:   (size + logclient.TileWidth - 1) / logclient.TileWidth}
 			c, err := logclient.New("https://log.example", logclient.Options{Transport: m, Clock: m,
 				Limits: logclient.Limits{InFlight: inFlight}})
 			if err != nil {
@@ -158,20 +159,22 @@ func TestRefusalsDoNotDoubleTheTime(t *testing.T) {
 				next += uint64(count)
 				return nil
 			})
-			if err != nil || next != size || (m.seen.refusals < 20) == refuses {
-				t.Fatalf("%s: %d entries after %d refusals: %v", kind, next, m.seen.refusals, err)
+			if err != nil || next != size || (m.observed.refusals < 20) == withRefusals {
+				t.Fatalf("%s: %d entries after %d refusals: %v", kind, next, m.observed.refusals, err)
 			}
-			if m.seen.early > 0 {
-				t.Errorf("%s: %d requests were made again in less than the second that the log named", kind, m.seen.early)
+			if m.observed.early > 0 {
+				t.Errorf("%s: %d requests were made again in less than the second that the log named", kind,
+					m.observed.early)
 			}
-			took[refuses] = m.now.Sub(begun)
-			t.Logf("%s: %d requests, %d of them refused: %v", kind, m.seen.asked, m.seen.refusals, took[refuses])
+			durations[withRefusals] = m.now.Sub(start)
+			t.Logf("%s: %d requests, %d of them refused: %v", kind, m.observed.requests, m.observed.refusals,
+				durations[withRefusals])
 		}
-		if took[false] != 15*time.Second/2 {
-			t.Errorf("%s: without refusals it takes %v, and 15 times half a second are due", kind, took[false])
+		if durations[false] != 15*time.Second/2 {
+			t.Errorf("%s: without refusals it takes %v, expected 15 times half a second", kind, durations[false])
 		}
-		if took[true] > 2*took[false] {
-			t.Errorf("%s: with refusals it takes %v, and without %v", kind, took[true], took[false])
+		if durations[true] > 2*durations[false] {
+			t.Errorf("%s: with refusals it takes %v, and without %v", kind, durations[true], durations[false])
 		}
 	}
 }

@@ -18,7 +18,8 @@ import (
 	"wagtenib/internal/logclient"
 )
 
-// A log that gives few entries an answer, or cuts answers at its own pages, is read whole.
+// TestReadsSmallPages checks that a log that returns few entries per answer, or cuts answers at its own pages, is read
+// completely.
 func TestReadsSmallPages(t *testing.T) {
 	for _, size := range []int{1, 7, 32, 255, 1000} {
 		log := newLog(t, 1000)
@@ -40,37 +41,38 @@ func TestReadsSmallPages(t *testing.T) {
 	}
 }
 
-// A log that answers each entry by itself, with much around it, cannot fill the memory: the answers for the entries
-// that are handed over at once have a bound together.
-func TestBoundsTheAnswersOfAPage(t *testing.T) {
+// TestLimitsTheAnswersOfAPage checks that a log that returns one entry per answer, with many other bytes, cannot fill
+// the memory. The answers for the entries of one page have a common limit.
+func TestLimitsTheAnswersOfAPage(t *testing.T) {
 	const answer = 1000 // bytes
-	asked := 0
+	requests := 0
 	log := http.HandlerFunc(func(w http.ResponseWriter, _ *http.Request) {
-		asked++
+		requests++
 		fmt.Fprintf(w, "%-*s", answer, `{"entries":[{"leaf_input":"AAAA","extra_data":""}]}`)
 	})
-	for most, due := range map[int64]error{100 * answer: logclient.ErrTooLarge, 255 * answer: logclient.ErrTooLarge,
-		256 * answer: nil} {
-		asked = 0
-		c := client(t, log, logclient.Options{Limits: logclient.Limits{Page: most}})
+	for maxBytes, expected := range map[int64]error{100 * answer: logclient.ErrTooLarge,
+		255 * answer: logclient.ErrTooLarge, 256 * answer: nil} {
+		requests = 0
+		c := client(t, log, logclient.Options{Limits: logclient.Limits{Page: maxBytes}})
 		entries := 0
 		err := c.Entries(context.Background(), 0, 256, func(page logclient.Page, _ bool) error {
 			entries += len(page.Entries)
 			return nil
 		})
-		if !errors.Is(err, due) || err == nil && entries != 256 || asked > int(most/answer)+1 {
-			t.Errorf("with %d bytes: %d entries of %d answers, %v, and %v is due", most, entries, asked, err, due)
+		if !errors.Is(err, expected) || err == nil && entries != 256 || requests > int(maxBytes/answer)+1 {
+			t.Errorf("with %d bytes: %d entries in %d answers, %v, expected %v", maxBytes, entries, requests, err,
+				expected)
 		}
 	}
 }
 
-// With little room to read ahead, tiles are asked for again in their turn: they come in order and whole, and the room
-// is given back.
-func TestReadsWithLittleRoom(t *testing.T) {
+// TestReadsWithASmallBuffer checks that with a small buffer, tiles are requested again when they are the next ones.
+// They must be complete and in order, and the buffer must be released.
+func TestReadsWithASmallBuffer(t *testing.T) {
 	const tile = 1 << 20
-	var asked atomic.Int64
+	var requests atomic.Int64
 	c := client(t, http.HandlerFunc(func(w http.ResponseWriter, r *http.Request) {
-		asked.Add(1)
+		requests.Add(1)
 		number, err := strconv.Atoi(strings.TrimPrefix(r.URL.Path, "/tile/data/"))
 		if err == nil {
 			_, err = w.Write(bytes.Repeat([]byte{byte(number)}, tile))
@@ -92,12 +94,12 @@ func TestReadsWithLittleRoom(t *testing.T) {
 			t.Errorf("round %d: %d tiles, %v", round, next, err)
 		}
 	}
-	if asked.Load() <= 80 {
-		t.Errorf("%d requests: the room was never too little", asked.Load())
+	if requests.Load() <= 80 {
+		t.Errorf("%d requests: the buffer was never too small", requests.Load())
 	}
 }
 
-// What a failure comes after is handed over, in order; nothing after it is.
+// TestStopsAtAFailure checks that what precedes a failure is used, in order, and that nothing after it is.
 func TestStopsAtAFailure(t *testing.T) {
 	log := newLog(t, 2000)
 	log.Intercept(func(w http.ResponseWriter, r *http.Request) bool {
@@ -116,13 +118,16 @@ func TestStopsAtAFailure(t *testing.T) {
 	if !errors.Is(err, logclient.ErrStatus) || next != 5 {
 		t.Errorf("%d tiles, %v", next, err)
 	}
-	own := errors.New("enough")
-	if err := c.DataTiles(context.Background(), 0, 1000, func(logclient.DataTile, bool) error { return own }); err != own {
-		t.Errorf("%v, and the caller's error is due", err)
+	failure := errors.New("enough")
+	if err := c.DataTiles(context.Background(), 0, 1000, func(logclient.DataTile,
+		bool) error {
+		return failure
+	}); err != failure {
+		t.Errorf("%v, expected the caller's error", err)
 	}
 }
 
-// The name of each data tile is that of tlog, and its width.
+// TestDataTileName checks that the name and the width of each data tile are those of tlog.
 func TestDataTileName(t *testing.T) {
 	for _, size := range []uint64{1, 255, 256, 257, 1_000_000, 256_000_000_001} {
 		for _, index := range []uint64{0, 1, 3, 999, 1000, 3905, 999_999, 1_000_000, 1_000_000_000} {
@@ -130,15 +135,16 @@ func TestDataTileName(t *testing.T) {
 				continue
 			}
 			width := int(min(256, size-index*256))
-			due := strings.Replace(tlog.Tile{H: 8, L: -1, N: int64(index), W: width}.Path(), "tile/8/", "tile/", 1)
-			if name, found := logclient.DataTileName(index, size); name != due || found != width {
-				t.Errorf("tile %d of %d is %s with %d entries, and %s with %d is due", index, size, name, found, due, width)
+			expected := strings.Replace(tlog.Tile{H: 8, L: -1, N: int64(index), W: width}.Path(), "tile/8/", "tile/", 1)
+			if name, found := logclient.DataTileName(index, size); name != expected || found != width {
+				t.Errorf("tile %d of %d is %s with %d entries, expected %s with %d", index, size, name, found,
+					expected, width)
 			}
 		}
 	}
 }
 
-// After a partial tile is gone, it is cut from the full one.
+// TestReadsFullTileForPartial checks that a partial tile that no longer exists is cut from the full one.
 func TestReadsFullTileForPartial(t *testing.T) {
 	log := newLog(t, 600)
 	log.Intercept(func(w http.ResponseWriter, r *http.Request) bool {
@@ -170,7 +176,7 @@ func TestReadsFullTileForPartial(t *testing.T) {
 	}
 }
 
-// A tile of another length, and an issuer with another hash, are refused.
+// TestRefusesOtherBytes checks that a tile of another length, and an issuer with another hash, are refused.
 func TestRefusesOtherBytes(t *testing.T) {
 	c := client(t, http.HandlerFunc(func(w http.ResponseWriter, _ *http.Request) { fmt.Fprint(w, "issuer") }),
 		logclient.Options{})
@@ -180,7 +186,7 @@ func TestRefusesOtherBytes(t *testing.T) {
 	if _, err := c.Issuer(context.Background(), [32]byte{1}); !errors.Is(err, logclient.ErrNonsense) {
 		t.Errorf("another issuer: %v", err)
 	}
-	// (the hash was computed by sha256sum)
+	// The hash was computed by sha256sum.
 	fingerprint, err := hex.DecodeString("535c6f8eb511f5d966a1b0725df92ebf27514faba945cbbd698e23ac72c41757")
 	if err != nil {
 		t.Fatal(err)
@@ -191,14 +197,14 @@ func TestRefusesOtherBytes(t *testing.T) {
 	}
 }
 
-// The roots of a log are returned as it has them (RFC 6962, section 4.7).
+// TestRoots checks that the roots of a log are returned unchanged (RFC 6962, section 4.7).
 func TestRoots(t *testing.T) {
 	c := client(t, http.HandlerFunc(func(w http.ResponseWriter, r *http.Request) {
 		if r.URL.Path != "/ct/v1/get-roots" {
 			http.NotFound(w, r)
 			return
 		}
-		fmt.Fprint(w, `{"certificates":["cm9vdA==","b3RoZXI="]}`) // (as base64 writes "root" and "other")
+		fmt.Fprint(w, `{"certificates":["cm9vdA==","b3RoZXI="]}`) // This is base64 of "root" and "other".
 	}), logclient.Options{})
 	roots, err := c.Roots(context.Background())
 	if err != nil || len(roots) != 2 || string(roots[0]) != "root" || string(roots[1]) != "other" {
@@ -211,7 +217,7 @@ func TestRoots(t *testing.T) {
 	}
 }
 
-// A redirect within the log's own host is followed, with the same bounds.
+// TestFollowsItsOwnRedirects checks that a redirect within the log's own host is followed, with the same limits.
 func TestFollowsItsOwnRedirects(t *testing.T) {
 	c := client(t, http.HandlerFunc(func(w http.ResponseWriter, r *http.Request) {
 		if r.URL.Path == "/checkpoint" {

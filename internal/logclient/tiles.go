@@ -12,13 +12,13 @@ import (
 	"wagtenib/bindings/go/wagtenib"
 )
 
-// The bounds of the answers of a tiled log, in bytes.
+// The limits of the answers of a tiled log, in bytes.
 const (
 	// TileWidth is the number of hashes or entries in a full tile (C2SP tlog-tiles).
 	TileWidth = 256
 
 	maxCheckpoint = 64 << 10
-	// (256 entries with certificates of 128 KiB each, and their chains' fingerprints)
+	// This is enough for 256 entries with certificates of 128 KiB each, and the fingerprints of their chains.
 	maxDataTile = 48 << 20
 	maxIssuer   = 1 << 20
 )
@@ -26,21 +26,21 @@ const (
 // partialMark is the text before the width in the name of a partial tile (C2SP tlog-tiles).
 const partialMark = ".p/"
 
-// Checkpoint returns the log's checkpoint, a signed note (C2SP static-ct-api). Nothing of it is verified.
+// Checkpoint returns the log's checkpoint, a signed note (C2SP static-ct-api). It verifies nothing.
 func (c *Client) Checkpoint(ctx context.Context) ([]byte, error) {
 	return c.get(ctx, "checkpoint", nil, maxCheckpoint, nil)
 }
 
-// HashTile returns a tile of hashes by its name, as RootTiles, PathTiles and ProofTiles of the library name it. If a
-// partial tile is gone, it is cut from the full one (C2SP tlog-tiles). The error wraps ErrNonsense if the tile has
-// another length than its name says.
+// HashTile returns a hash tile by its name, which RootTiles, PathTiles or ProofTiles of the library returned. If a
+// partial tile no longer exists, its content is cut from the full tile (C2SP tlog-tiles). The error wraps ErrNonsense
+// if the tile has not as many bytes as its name implies.
 func (c *Client) HashTile(ctx context.Context, name string) ([]byte, error) {
-	const most = TileWidth * wagtenib.HashSize
+	const maxBytes = TileWidth * wagtenib.HashSize
 	full, width := splitName(name)
-	content, err := c.get(ctx, name, nil, most, nil)
+	content, err := c.get(ctx, name, nil, maxBytes, nil)
 	if errors.Is(err, ErrNotFound) && width < TileWidth {
-		content, err = c.get(ctx, full, nil, most, nil)
-		if err == nil && len(content) == most {
+		content, err = c.get(ctx, full, nil, maxBytes, nil)
+		if err == nil && len(content) == maxBytes {
 			content = content[:width*wagtenib.HashSize]
 		}
 	}
@@ -48,13 +48,13 @@ func (c *Client) HashTile(ctx context.Context, name string) ([]byte, error) {
 		return nil, err
 	}
 	if len(content) != width*wagtenib.HashSize {
-		return nil, fmt.Errorf("%s: %w: %d bytes, and %d are expected", name, ErrNonsense, len(content),
+		return nil, fmt.Errorf("%s: %w: it has %d bytes, and %d are expected", name, ErrNonsense, len(content),
 			width*wagtenib.HashSize)
 	}
 	return content, nil
 }
 
-// splitName returns the name of the full tile, and the width that a tile's name says.
+// splitName returns the name of the full tile, and the width in a tile's name.
 func splitName(name string) (full string, width int) {
 	full, text, partial := strings.Cut(name, partialMark)
 	if !partial {
@@ -67,11 +67,11 @@ func splitName(name string) (full string, width int) {
 	return full, width
 }
 
-// DataTile is a tile of entries (C2SP static-ct-api, "Log Entries").
+// DataTile is a data tile (C2SP static-ct-api, "Log Entries").
 type DataTile struct {
 	Index uint64 // of the tile
 	Name  string
-	Width int    // entries
+	Width int    // the number of entries
 	Bytes []byte // the entries, of which there may be more than Width if the partial tile was gone
 }
 
@@ -89,9 +89,9 @@ func DataTileName(index, size uint64) (name string, width int) {
 	return name + partialMark + strconv.Itoa(width), width
 }
 
-// DataTiles reads the data tiles from the one with the entry `start` on, up to a tree of size leaves, and hands them to
-// use in order. `more` says that the next tile has come already. An error of use ends the reading, and is returned as
-// it is.
+// DataTiles reads the data tiles of a tree of size leaves, from the tile with the entry start on, and calls use for
+// each, in order. more is true if the next tile has already been read. An error of use ends the reading, and is
+// returned as it is.
 func (c *Client) DataTiles(ctx context.Context, start, size uint64, use func(tile DataTile, more bool) error) error {
 	index := start / TileWidth
 	next := func() (piece, bool) {
@@ -102,22 +102,22 @@ func (c *Client) DataTiles(ctx context.Context, start, size uint64, use func(til
 		index++
 		return one, true
 	}
-	return inOrder(ctx, c, next, func(ctx context.Context, one piece, held *holding) (DataTile, error) {
-		return c.dataTile(ctx, one.start/TileWidth, size, held)
+	return inOrder(ctx, c, next, func(ctx context.Context, one piece, ahead *reservation) (DataTile, error) {
+		return c.dataTile(ctx, one.start/TileWidth, size, ahead)
 	}, use)
 }
 
-func (c *Client) dataTile(ctx context.Context, index, size uint64, held *holding) (DataTile, error) {
+func (c *Client) dataTile(ctx context.Context, index, size uint64, ahead *reservation) (DataTile, error) {
 	name, width := DataTileName(index, size)
-	content, err := c.get(ctx, name, nil, maxDataTile, held)
+	content, err := c.get(ctx, name, nil, maxDataTile, ahead)
 	if full, _ := splitName(name); errors.Is(err, ErrNotFound) && width < TileWidth {
-		content, err = c.get(ctx, full, nil, maxDataTile, held)
+		content, err = c.get(ctx, full, nil, maxDataTile, ahead)
 	}
 	return DataTile{Index: index, Name: name, Width: width, Bytes: content}, err
 }
 
 // Issuer returns the certificate with this SHA-256 fingerprint, in DER (C2SP static-ct-api, "Issuers"). The error wraps
-// ErrNonsense if it has another fingerprint.
+// ErrNonsense if the answer has another fingerprint.
 func (c *Client) Issuer(ctx context.Context, fingerprint [sha256.Size]byte) ([]byte, error) {
 	name := "issuer/" + hex.EncodeToString(fingerprint[:])
 	content, err := c.get(ctx, name, nil, maxIssuer, nil)

@@ -1,4 +1,4 @@
-// Package testcert makes certificates for tests by crypto/x509, as a CA does: a certificate with its precertificate,
+// Package testcert issues certificates for tests by crypto/x509, as a CA does: a certificate with its precertificate,
 // and certificates with fields that no CA should write.
 package testcert
 
@@ -26,7 +26,7 @@ type Authority struct {
 	last atomic.Int64
 }
 
-// NewAuthority returns a CA with a new key of P-256.
+// NewAuthority returns a CA with a new P-256 key.
 func NewAuthority(t testing.TB) *Authority {
 	t.Helper()
 	key, err := ecdsa.GenerateKey(elliptic.P256(), rand.Reader)
@@ -48,7 +48,7 @@ func (a *Authority) IssuerKeyHash() [32]byte {
 	return sha256.Sum256(der)
 }
 
-// The identifiers of the poison and of the list of SCTs (RFC 6962, sections 3.1 and 3.3), and of a subjectAltName.
+// The object identifiers of the poison and of the list of SCTs (RFC 6962, sections 3.1 and 3.3), and of subjectAltName.
 var (
 	poison = pkix.Extension{Id: asn1.ObjectIdentifier{1, 3, 6, 1, 4, 1, 11129, 2, 4, 3}, Critical: true,
 		Value: []byte{5, 0}}
@@ -56,7 +56,7 @@ var (
 	altName = asn1.ObjectIdentifier{2, 5, 29, 17}
 )
 
-// The tags of names of subjectAltName (RFC 5280, section 4.2.1.6).
+// The tags of names in subjectAltName (RFC 5280, section 4.2.1.6).
 const (
 	Mail    = 1
 	DNS     = 2
@@ -64,7 +64,7 @@ const (
 	Address = 7
 )
 
-// Name is a name of subjectAltName, with any bytes.
+// Name is a name in subjectAltName, with any bytes.
 type Name struct {
 	Tag   int
 	Bytes []byte
@@ -74,10 +74,11 @@ type Name struct {
 type Issued struct {
 	Certificate    *x509.Certificate
 	Precertificate *x509.Certificate
-	TBS            []byte // of the precertificate's entry: without the poison
+	TBS            []byte // of the entry of the precertificate: without the poison
 }
 
-// Issue issues a certificate for these host names, and its precertificate. It is valid from 2026-01-01 to 2126-01-01.
+// Issue issues a certificate for these host names, and its precertificate. They are valid from 2026-01-01 to
+// 2126-01-01.
 func (a *Authority) Issue(hosts ...string) Issued {
 	a.t.Helper()
 	var names []Name
@@ -103,7 +104,7 @@ func (a *Authority) IssueNames(subject pkix.Name, names ...Name) Issued {
 	return Issued{a.sign(template, scts), a.sign(template, poison), tbs}
 }
 
-// altNames returns a subjectAltName with names that crypto/x509 would not write.
+// altNames returns a subjectAltName. Its names may be ones that crypto/x509 would not write.
 func (a *Authority) altNames(names []Name) pkix.Extension {
 	a.t.Helper()
 	var values []asn1.RawValue
@@ -117,19 +118,19 @@ func (a *Authority) altNames(names []Name) pkix.Extension {
 	return pkix.Extension{Id: altName, Value: value}
 }
 
-// sign signs a certificate with one more extension. Its names may be ones that crypto/x509 does not read, so only
-// what an entry of a log needs is set if it does not.
+// sign signs a certificate with one more extension. If crypto/x509 cannot read the names, only the fields that an entry
+// of a log needs are set.
 func (a *Authority) sign(template *x509.Certificate, extension pkix.Extension) *x509.Certificate {
 	a.t.Helper()
-	with := *template
-	with.ExtraExtensions = append(append([]pkix.Extension{}, template.ExtraExtensions...), extension)
-	der, err := x509.CreateCertificate(rand.Reader, &with, a.root, &a.key.PublicKey, a.key)
+	extended := *template
+	extended.ExtraExtensions = append(append([]pkix.Extension{}, template.ExtraExtensions...), extension)
+	der, err := x509.CreateCertificate(rand.Reader, &extended, a.root, &a.key.PublicKey, a.key)
 	if err != nil {
 		a.t.Fatal(err)
 	}
-	read, err := x509.ParseCertificate(der)
+	parsed, err := x509.ParseCertificate(der)
 	if err == nil {
-		return read
+		return parsed
 	}
 	var parts struct {
 		TBS       asn1.RawValue
@@ -142,7 +143,7 @@ func (a *Authority) sign(template *x509.Certificate, extension pkix.Extension) *
 	return &x509.Certificate{Raw: der, RawTBSCertificate: parts.TBS.FullBytes}
 }
 
-// CommonName returns a subject whose common name is a string of this tag of ASN.1, with any bytes.
+// CommonName returns a subject whose common name is a string with this ASN.1 tag and any bytes.
 func CommonName(tag int, value []byte) pkix.Name {
 	return pkix.Name{ExtraNames: []pkix.AttributeTypeAndValue{{Type: asn1.ObjectIdentifier{2, 5, 4, 3},
 		Value: asn1.RawValue{Tag: tag, Bytes: value}}}}

@@ -1,8 +1,8 @@
-// Package testlog has a Certificate Transparency log for tests of what reads logs. It answers the calls of RFC 6962 and
-// those of a tiled log (C2SP static-ct-api), and can be made to lie.
+// Package testlog implements a Certificate Transparency log for tests of programs that read logs. It answers the calls
+// of RFC 6962 and those of a tiled log (C2SP static-ct-api), and can be made to lie.
 //
-// It shares no code with what it tests: its trees are those of golang.org/x/mod/sumdb/tlog, and it writes each format
-// by its specification.
+// It shares no code with the programs that it tests. Its trees are those of golang.org/x/mod/sumdb/tlog, and it writes
+// each format by its specification.
 package testlog
 
 import (
@@ -24,26 +24,26 @@ import (
 	"golang.org/x/mod/sumdb/tlog"
 )
 
-// Entry is what is in the log for one submission.
+// Entry is an entry of the log.
 type Entry struct {
 	Timestamp      uint64 // milliseconds since 1970
 	Certificate    []byte // DER: a certificate, or the TBSCertificate of a precertificate
 	IssuerKeyHash  []byte // of a precertificate, 32 bytes; nil for a certificate
 	Precertificate []byte // DER, of a precertificate
 	Chain          [][]byte
-	Leaf           []byte // in place of the MerkleTreeLeaf that follows from the rest, if it is not nil
+	Leaf           []byte // replaces the MerkleTreeLeaf of the other fields if it is not nil
 	Index          *uint64
 }
 
-// Log is a log. Its methods can be called while it answers requests.
+// Log is a log. Its methods may be called while it answers requests.
 type Log struct {
 	Origin string
 	Key    *ecdsa.PrivateKey
-	// Page is the number of entries of an answer to get-entries at most; 256 if it is 0.
+	// Page is the maximum number of entries of an answer to get-entries. 0 means 256.
 	Page int
 
 	mutex     sync.Mutex
-	before    func(w http.ResponseWriter, r *http.Request) bool
+	intercept func(w http.ResponseWriter, r *http.Request) bool
 	entries   []Entry
 	hashes    []tlog.Hash
 	issuers   map[string][]byte
@@ -51,13 +51,13 @@ type Log struct {
 	requests  map[string]int
 }
 
-// published is the head that the log answers with, and how many entries it covers.
+// published has the head that the log answers, and its size.
 type published struct {
 	checkpoint, sth []byte
 	size            uint64
 }
 
-// New returns an empty log with a new key of P-256.
+// New returns an empty log with a new P-256 key.
 func New(origin string) (*Log, error) {
 	key, err := ecdsa.GenerateKey(elliptic.P256(), rand.Reader)
 	if err != nil {
@@ -70,7 +70,7 @@ func New(origin string) (*Log, error) {
 func (l *Log) PublicKey() []byte {
 	der, err := x509.MarshalPKIXPublicKey(&l.Key.PublicKey)
 	if err != nil {
-		panic(err) // (a key of P-256 can always be written)
+		panic(err) // A P-256 key can always be encoded.
 	}
 	return der
 }
@@ -84,7 +84,7 @@ func (l *Log) Fork(size uint64) *Log {
 	return other
 }
 
-// vector returns bytes with their length before them, of so many bytes.
+// vector returns bytes after their length, which has this number of bytes.
 func vector(length int, content []byte) []byte {
 	size := binary.BigEndian.AppendUint64(nil, uint64(len(content)))
 	return append(size[8-length:], content...)
@@ -109,7 +109,7 @@ func (e Entry) indexOr(index uint64) uint64 {
 	return index
 }
 
-// Extensions returns the CtExtensions with the leaf_index (C2SP static-ct-api), without their length.
+// Extensions returns the CtExtensions with only the leaf_index (C2SP static-ct-api), without their length.
 func Extensions(index uint64) []byte {
 	return append([]byte{0, 0, 5}, binary.BigEndian.AppendUint64(nil, index)[3:]...)
 }
@@ -151,7 +151,7 @@ func (e Entry) extraData() []byte {
 	return append(content, vector(3, chain)...)
 }
 
-// Add appends entries, which no head covers yet.
+// Add appends entries. No head covers them yet.
 func (l *Log) Add(entries ...Entry) {
 	l.mutex.Lock()
 	defer l.mutex.Unlock()
@@ -159,7 +159,7 @@ func (l *Log) Add(entries ...Entry) {
 		index := int64(len(l.entries))
 		stored, err := tlog.StoredHashes(index, e.MerkleLeaf(uint64(index)), l.reader())
 		if err != nil {
-			panic(err) // (the hashes are in memory)
+			panic(err) // The hashes are in memory.
 		}
 		l.hashes = append(l.hashes, stored...)
 		l.entries = append(l.entries, e)
@@ -172,11 +172,11 @@ func (l *Log) Add(entries ...Entry) {
 
 func (l *Log) reader() tlog.HashReader {
 	return tlog.HashReaderFunc(func(indexes []int64) ([]tlog.Hash, error) {
-		found := make([]tlog.Hash, len(indexes))
+		result := make([]tlog.Hash, len(indexes))
 		for i, index := range indexes {
-			found[i] = l.hashes[index]
+			result[i] = l.hashes[index]
 		}
-		return found, nil
+		return result, nil
 	})
 }
 
@@ -200,12 +200,12 @@ func (l *Log) root(size uint64) [32]byte {
 	}
 	root, err := tlog.TreeHash(int64(size), l.reader())
 	if err != nil {
-		panic(err) // (the hashes are in memory)
+		panic(err) // The hashes are in memory.
 	}
 	return root
 }
 
-// Publish signs a head over the first `size` entries, and answers with it from now on.
+// Publish signs a head over the first size entries, and answers with it from now on.
 func (l *Log) Publish(size, timestamp uint64) { l.PublishRoot(size, timestamp, l.Root(size)) }
 
 // PublishRoot signs a head with any root, and answers with it from now on.
@@ -220,26 +220,26 @@ func (l *Log) PublishRoot(size, timestamp uint64, root [32]byte) {
 	sth, err := json.Marshal(map[string]any{"tree_size": size, "timestamp": timestamp, "sha256_root_hash": root[:],
 		"tree_head_signature": signed})
 	if err != nil {
-		panic(err) // (the values are numbers and bytes)
+		panic(err) // The values are numbers and bytes.
 	}
 	l.published.sth = sth
 }
 
-// Checkpoint returns the checkpoint that is published.
+// Checkpoint returns the published checkpoint.
 func (l *Log) Checkpoint() []byte {
 	l.mutex.Lock()
 	defer l.mutex.Unlock()
 	return append([]byte(nil), l.published.checkpoint...)
 }
 
-// SetCheckpoint has the log answer with these bytes as its checkpoint.
+// SetCheckpoint makes the log answer with these bytes as its checkpoint.
 func (l *Log) SetCheckpoint(content []byte) {
 	l.mutex.Lock()
 	defer l.mutex.Unlock()
 	l.published.checkpoint = content
 }
 
-// TreeHead returns the bytes under the signature of a head (RFC 6962, section 3.5).
+// TreeHead returns the bytes that the signature of a head covers (RFC 6962, section 3.5).
 func TreeHead(size, timestamp uint64, root [32]byte) []byte {
 	message := binary.BigEndian.AppendUint64([]byte{0, 1}, timestamp)
 	return append(binary.BigEndian.AppendUint64(message, size), root[:]...)
@@ -250,12 +250,12 @@ func (l *Log) sign(message []byte) []byte {
 	digest := sha256.Sum256(message)
 	signed, err := ecdsa.SignASN1(rand.Reader, l.Key, digest[:])
 	if err != nil {
-		panic(err) // (the key is whole)
+		panic(err) // The key is valid.
 	}
 	return append([]byte{4, 3}, vector(2, signed)...)
 }
 
-// line returns the RFC6962NoteSignature line of a checkpoint (C2SP static-ct-api).
+// line returns the signature line of a checkpoint (RFC6962NoteSignature of C2SP static-ct-api).
 func (l *Log) line(timestamp uint64, signed []byte) string {
 	id := sha256.Sum256(l.PublicKey())
 	key := sha256.Sum256(append([]byte(l.Origin+"\n\x05"), id[:]...))
@@ -263,8 +263,8 @@ func (l *Log) line(timestamp uint64, signed []byte) string {
 	return "— " + l.Origin + " " + base64.StdEncoding.EncodeToString(append(content, signed...)) + "\n"
 }
 
-// SCT returns the signed certificate timestamp of an entry as it is in a certificate's list (RFC 6962, sections 3.2 and
-// 3.3), without its length.
+// SCT returns the SCT of an entry as it occurs in a certificate's list (RFC 6962, sections 3.2 and 3.3), without its
+// length.
 func (l *Log) SCT(e Entry, index uint64) []byte {
 	id := sha256.Sum256(l.PublicKey())
 	sct := append([]byte{0}, id[:]...)
@@ -273,27 +273,27 @@ func (l *Log) SCT(e Entry, index uint64) []byte {
 	return append(sct, l.sign(e.MerkleLeaf(index))...)
 }
 
-// Requests returns how often a path was asked for.
+// Requests returns the number of requests for a path.
 func (l *Log) Requests(path string) int {
 	l.mutex.Lock()
 	defer l.mutex.Unlock()
 	return l.requests[path]
 }
 
-// Intercept has a function called before each answer from now on, which returns true if it has answered. It may be nil.
-func (l *Log) Intercept(before func(w http.ResponseWriter, r *http.Request) bool) {
+// Intercept sets a function that is called before each answer, and returns true if it has answered. It may be nil.
+func (l *Log) Intercept(intercept func(w http.ResponseWriter, r *http.Request) bool) {
 	l.mutex.Lock()
 	defer l.mutex.Unlock()
-	l.before = before
+	l.intercept = intercept
 }
 
-// ServeHTTP answers a request of either kind of log.
+// ServeHTTP answers a request for either kind of log.
 func (l *Log) ServeHTTP(w http.ResponseWriter, r *http.Request) {
 	l.mutex.Lock()
 	l.requests[r.URL.Path]++
-	before := l.before
+	intercept := l.intercept
 	l.mutex.Unlock()
-	if before != nil && before(w, r) {
+	if intercept != nil && intercept(w, r) {
 		return
 	}
 	l.mutex.Lock()
@@ -309,7 +309,7 @@ func (l *Log) ServeHTTP(w http.ResponseWriter, r *http.Request) {
 		http.NotFound(w, r)
 		return
 	}
-	// (a client that is gone is no fault of the log)
+	// If the client has disconnected, that is not a fault of the log.
 	_, _ = w.Write(content)
 }
 
@@ -334,7 +334,7 @@ func (l *Log) answer(path string, number func(string) uint64, hash string) (cont
 	return nil, false
 }
 
-// tile returns a tile, full or partial, of what the newest head covers.
+// tile returns a full or partial tile that the newest head covers.
 func (l *Log) tile(path string) ([]byte, bool) {
 	name := strings.Replace(path, "tile/", "tile/8/", 1)
 	of, err := tlog.ParseTilePath(name)
@@ -387,11 +387,11 @@ func (l *Log) consistency(first, second uint64) ([]byte, bool) {
 }
 
 func bytesOf(hashes []tlog.Hash) [][]byte {
-	found := [][]byte{}
+	result := [][]byte{}
 	for i := range hashes {
-		found = append(found, hashes[i][:])
+		result = append(result, hashes[i][:])
 	}
-	return found
+	return result
 }
 
 func (l *Log) proofByHash(hash string, size uint64) ([]byte, bool) {
@@ -399,8 +399,8 @@ func (l *Log) proofByHash(hash string, size uint64) ([]byte, bool) {
 		return nil, false
 	}
 	for index := range size {
-		found := l.hashes[tlog.StoredHashIndex(0, int64(index))]
-		if base64.StdEncoding.EncodeToString(found[:]) != hash {
+		leafHash := l.hashes[tlog.StoredHashIndex(0, int64(index))]
+		if base64.StdEncoding.EncodeToString(leafHash[:]) != hash {
 			continue
 		}
 		proof, err := tlog.ProveRecord(int64(size), int64(index), l.reader())

@@ -12,22 +12,22 @@ import (
 	"wagtenib/internal/chains"
 )
 
-// ErrTile: bytes are no data tile.
-var ErrTile = errors.New("tile: no data tile")
+// ErrTile means that bytes are not a data tile.
+var ErrTile = errors.New("tile: not a data tile")
 
-// Leaf is an entry of a data tile (TileLeaf). Its parts are the tile's bytes.
+// Leaf is an entry of a data tile (TileLeaf). Its fields share memory with the tile.
 type Leaf struct {
 	// Timestamp is in milliseconds since 1970.
 	Timestamp uint64
 	Type      chains.EntryType
-	// IssuerKeyHash is of a precertificate, 32 bytes; Certificate is a certificate, or a precertificate's
-	// TBSCertificate.
+	// IssuerKeyHash has 32 bytes if the entry is a precertificate. Certificate is the certificate, or the
+	// TBSCertificate of the precertificate.
 	IssuerKeyHash, Certificate []byte
-	// Extensions are those of the timestamp, without their length.
+	// Extensions are the extensions of the SCT, without their length.
 	Extensions []byte
 	// Entry is the TimestampedEntry (RFC 6962, section 3.4), from the timestamp to the extensions.
 	Entry []byte
-	// Precertificate is a precertificate's.
+	// Precertificate is the precertificate, if the entry is one.
 	Precertificate []byte
 	// Chain has the SHA-256 fingerprints of the issuers, 32 bytes each.
 	Chain []byte
@@ -35,14 +35,14 @@ type Leaf struct {
 	length int
 }
 
-// Length returns how many bytes of its tile the leaf takes.
+// Length returns the number of bytes of the leaf in its tile.
 func (l *Leaf) Length() int { return l.length }
 
-// Input returns the bytes of the tree's leaf, a MerkleTreeLeaf: version v1 and the type timestamped_entry, two bytes of
-// zero, before the entry (RFC 6962, section 3.4).
+// Input returns the bytes of the leaf in the tree, a MerkleTreeLeaf. It begins with two zero bytes, the version v1 and
+// the type timestamped_entry, before the entry (RFC 6962, section 3.4).
 func (l *Leaf) Input() []byte { return append([]byte{0, 0}, l.Entry...) }
 
-// Hash is the leaf's (RFC 6962, section 2.1).
+// Hash returns the hash of the leaf (RFC 6962, section 2.1).
 func (l *Leaf) Hash() (hash [32]byte) {
 	of := sha256.New()
 	of.Write([]byte{0, 0, 0})
@@ -51,10 +51,10 @@ func (l *Leaf) Hash() (hash [32]byte) {
 	return hash
 }
 
-// leafIndex begins the one extension leaf_index: its type 0, and two bytes of the length of an index.
+// leafIndex is the beginning of the extension leaf_index: its type 0, and two bytes with the length of an index.
 var leafIndex = []byte{0, 0, 5}
 
-// Index returns the index of the leaf in the log, if its extensions have only that.
+// Index returns the index of the leaf in the log. ok is false unless leaf_index is the only extension.
 func (l *Leaf) Index() (index uint64, ok bool) {
 	if len(l.Extensions) != len(leafIndex)+5 || !bytes.HasPrefix(l.Extensions, leafIndex) {
 		return 0, false
@@ -62,13 +62,13 @@ func (l *Leaf) Index() (index uint64, ok bool) {
 	return binary.BigEndian.Uint64(append([]byte{0, 0, 0}, l.Extensions[len(leafIndex):]...)), true
 }
 
-// Extensions are those that name an index below 2^40 and nothing else.
+// Extensions returns extensions with only the index of a leaf, which must be below 2^40.
 func Extensions(index uint64) []byte {
 	return append(leafIndex[:len(leafIndex):len(leafIndex)], binary.BigEndian.AppendUint64(nil, index)[3:]...)
 }
 
-// ReadData returns the leaves of a data tile, at most Width. The error is ErrTile. A judge of a log from outside
-// (internal/logcheck, cmd/ctfollow) has a reader of its own.
+// ReadData returns the leaves of a data tile, at most Width. The error wraps ErrTile. The programs that check a log
+// from outside (internal/logcheck, cmd/ctfollow) have a reader of their own.
 func ReadData(tile []byte) (leaves []Leaf, err error) {
 	for rest := cryptobyte.String(tile); !rest.Empty(); {
 		leaf, ok := readLeaf(&rest)
@@ -83,7 +83,7 @@ func ReadData(tile []byte) (leaves []Leaf, err error) {
 	return leaves, nil
 }
 
-// readLeaf reads the leaf at the beginning of the bytes, and leaves those after it.
+// readLeaf reads the leaf at the beginning of the bytes, and removes it from them.
 func readLeaf(tile *cryptobyte.String) (leaf Leaf, ok bool) {
 	whole := *tile
 	var certificate, extensions, precertificate, chain cryptobyte.String

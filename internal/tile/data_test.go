@@ -11,8 +11,8 @@ import (
 	"wagtenib/internal/chains"
 )
 
-// A leaf of each type, field by field (C2SP static-ct-api, "Log Entries"; RFC 6962, section 3.4): the timestamp
-// 1,700,000,000,123 ms, the index 0x0102030405.
+// These are a leaf of each type, field by field (C2SP static-ct-api, "Log Entries"; RFC 6962, section 3.4). The
+// timestamp is 1,700,000,000,123 ms, and the index 0x0102030405.
 const (
 	timestamp  = "0000018bcfe5687b"
 	extensions = "0008" + "000005" + "0102030405"
@@ -36,8 +36,8 @@ func TestRead(t *testing.T) {
 	if err != nil || len(leaves) != 2 {
 		t.Fatalf("%d leaves, %v", len(leaves), err)
 	}
-	for i, due := range []struct {
-		of                                                 chains.EntryType
+	for i, expected := range []struct {
+		entryType                                          chains.EntryType
 		keyHash, certificate, precertificate, chain, entry string
 	}{
 		{chains.X509Entry, "", "300141", "", issuer, timestamp + "0000" + "000003" + "300141" + extensions},
@@ -46,24 +46,24 @@ func TestRead(t *testing.T) {
 	} {
 		l := &leaves[i]
 		index, ok := l.Index()
-		if l.Timestamp != 1_700_000_000_123 || l.Type != due.of || index != 0x0102030405 || !ok {
-			t.Errorf("leaf %d is of the moment %d, the type %d and the index %x, %t", i, l.Timestamp, l.Type, index, ok)
+		if l.Timestamp != 1_700_000_000_123 || l.Type != expected.entryType || index != 0x0102030405 || !ok {
+			t.Errorf("leaf %d has the timestamp %d, the type %d and the index %x, %t", i, l.Timestamp, l.Type, index, ok)
 		}
 		for what, it := range map[string]struct {
-			found []byte
-			due   string
+			found    []byte
+			expected string
 		}{
-			"issuer's key hash": {l.IssuerKeyHash, due.keyHash}, "certificate": {l.Certificate, due.certificate},
+			"issuer's key hash": {l.IssuerKeyHash, expected.keyHash}, "certificate": {l.Certificate, expected.certificate},
 			"extensions":     {l.Extensions, extensions[4:]},
-			"precertificate": {l.Precertificate, due.precertificate}, "chain": {l.Chain, due.chain},
-			"entry": {l.Entry, due.entry}, "input": {l.Input(), "0000" + due.entry},
+			"precertificate": {l.Precertificate, expected.precertificate}, "chain": {l.Chain, expected.chain},
+			"entry": {l.Entry, expected.entry}, "input": {l.Input(), "0000" + expected.entry},
 		} {
-			if hex.EncodeToString(it.found) != it.due {
-				t.Errorf("the %s of leaf %d is %x, and not %s", what, i, it.found, it.due)
+			if hex.EncodeToString(it.found) != it.expected {
+				t.Errorf("the %s of leaf %d is %x, expected %s", what, i, it.found, it.expected)
 			}
 		}
-		if l.Hash() != sha256.Sum256(append([]byte{0}, unhex(t, "0000"+due.entry)...)) {
-			t.Errorf("the hash of leaf %d is another", i)
+		if l.Hash() != sha256.Sum256(append([]byte{0}, unhex(t, "0000"+expected.entry)...)) {
+			t.Errorf("the hash of leaf %d is wrong", i)
 		}
 	}
 	// Bytes that are appended to an entry must not change the tile.
@@ -73,13 +73,13 @@ func TestRead(t *testing.T) {
 	}
 }
 
-// TestReadRefuses has each proper beginning of a leaf refused, and what no leaf has.
+// TestReadRefuses checks that incomplete leaves and wrong fields are refused.
 func TestReadRefuses(t *testing.T) {
 	refused := map[string]string{
-		"a type that there isn't":    strings.Replace(plain, timestamp+"0000", timestamp+"0002", 1),
-		"half of a fingerprint":      strings.Replace(plain, "0020"+issuer, "0010"+issuer[:32], 1),
-		"a byte behind the last one": plain + "00",
-		"257 leaves":                 strings.Repeat(plain, Width+1),
+		"an unknown type":           strings.Replace(plain, timestamp+"0000", timestamp+"0002", 1),
+		"half of a fingerprint":     strings.Replace(plain, "0020"+issuer, "0010"+issuer[:32], 1),
+		"a byte after the last one": plain + "00",
+		"257 leaves":                strings.Repeat(plain, Width+1),
 	}
 	for what, text := range refused {
 		if leaves, err := ReadData(unhex(t, text)); !errors.Is(err, ErrTile) || leaves != nil {
@@ -94,7 +94,7 @@ func TestReadRefuses(t *testing.T) {
 		}
 	}
 	if _, err := ReadData(unhex(t, pre+plain+"00")); err == nil || !strings.Contains(err.Error(), "entry 2 ") {
-		t.Errorf("the third entry isn't named: %v", err)
+		t.Errorf("the error does not name the third entry: %v", err)
 	}
 	if leaves, err := ReadData(unhex(t, strings.Repeat(plain, Width))); err != nil || len(leaves) != Width {
 		t.Errorf("a full tile is %d leaves, %v", len(leaves), err)
@@ -119,7 +119,7 @@ func TestIndex(t *testing.T) {
 	}
 }
 
-// A data tile is read whole or not at all, and its entries are its bytes.
+// FuzzRead checks that a data tile is read completely or not at all, and that its entries contain all of its bytes.
 func FuzzRead(f *testing.F) {
 	whole := unhex(f, plain+pre)
 	f.Add(whole)
@@ -129,7 +129,7 @@ func FuzzRead(f *testing.F) {
 		leaves, err := ReadData(content)
 		if err != nil {
 			if leaves != nil {
-				t.Fatal("entries of no tile")
+				t.Fatal("entries are returned with an error")
 			}
 			return
 		}

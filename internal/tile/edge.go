@@ -8,14 +8,14 @@ import (
 	"wagtenib/bindings/go/wagtenib"
 )
 
-// Edge is the right edge of a tree that grows leaf by leaf: the last tile of each level of hash tiles. It hands out
-// each tile as soon as that is full.
+// Edge is the right edge of a tree that grows leaf by leaf: the last tile of each level of hash tiles. It passes each
+// tile to put as soon as the tile is full.
 type Edge struct {
 	levels []lastTile
 	put    Put
 }
 
-// Put gets a hash tile.
+// Put receives a hash tile.
 type Put func(name string, content []byte) error
 
 // lastTile is the last tile of a level.
@@ -24,8 +24,8 @@ type lastTile struct {
 	hashes []wagtenib.Hash
 }
 
-// EdgeAt returns the edge of a tree of so many full data tiles. `partial` returns the hashes of a partial hash tile of
-// that tree, above the lowest level.
+// EdgeAt returns the edge of a tree of this number of full data tiles. partial returns the hashes of a partial hash
+// tile of that tree, above the lowest level.
 func EdgeAt(tiles uint64, partial func(of tlog.Tile) ([]wagtenib.Hash, error), put Put) (*Edge, error) {
 	e := &Edge{levels: []lastTile{{index: tiles}}, put: put}
 	for level := 1; tiles > 0; level++ {
@@ -45,7 +45,7 @@ func EdgeAt(tiles uint64, partial func(of tlog.Tile) ([]wagtenib.Hash, error), p
 	return e, nil
 }
 
-// Push appends a leaf, and puts each tile that is full then.
+// Push appends a leaf, and puts each tile that becomes full.
 func (e *Edge) Push(hash wagtenib.Hash) error {
 	for level := 0; ; level++ {
 		if level == len(e.levels) {
@@ -87,8 +87,8 @@ func (e *Edge) End() (wagtenib.Hash, error) {
 	return wagtenib.SubtreesRoot(e.Subtrees()), nil
 }
 
-// Subtrees returns the roots of the perfect subtrees of the tree, largest first. They are those that its partial tiles
-// are made of (RFC 6962, section 2.1).
+// Subtrees returns the roots of the perfect subtrees of which the tree consists, largest first (RFC 6962, section 2.1).
+// They are computed from the partial tiles.
 func (e *Edge) Subtrees() (subtrees []wagtenib.Hash) {
 	for level := len(e.levels) - 1; level >= 0; level-- {
 		for hashes, bit := e.levels[level].hashes, Width/2; bit > 0; bit /= 2 {
@@ -112,7 +112,8 @@ func PerfectRoot(hashes []wagtenib.Hash) wagtenib.Hash {
 	return row[0]
 }
 
-// HashesIn cuts the content of a hash tile into its hashes. The error is ErrDamaged if it has not exactly the tile's.
+// HashesIn splits the content of a hash tile into its hashes. The error is ErrDamaged if the content has not exactly as
+// many hashes as the tile.
 func HashesIn(of tlog.Tile, content []byte) ([]wagtenib.Hash, error) {
 	if len(content) != of.W*wagtenib.HashSize {
 		return nil, fmt.Errorf("%w: %s has another width (put it back from a backup)", ErrDamaged, Name(of))
@@ -124,8 +125,8 @@ func HashesIn(of tlog.Tile, content []byte) ([]wagtenib.Hash, error) {
 	return hashes, nil
 }
 
-// Overtaken returns the folders of the partial tiles of the tree of the size before, of which the tree now has a full
-// one. Readers take that one (C2SP tlog-tiles).
+// Overtaken returns the folders of the partial tiles of the tree of the size before that have become full in the tree
+// of the size now. Readers use the full tile (C2SP tlog-tiles).
 func Overtaken(before, now uint64) (folders []string) {
 	for level := -1; level <= 0 || Count(level-1, now) > 0; level++ {
 		if Count(level, before) < Count(level, now) {
@@ -135,7 +136,8 @@ func Overtaken(before, now uint64) (folders []string) {
 	return folders
 }
 
-// PartialOnly returns the names of the partial tiles of the tree of the size before that the tree now does not have.
+// PartialOnly returns the names of the partial tiles of the tree of the size before that the tree of the size now does
+// not have.
 func PartialOnly(before, now uint64) (names []string) {
 	for level := -1; level <= 0 || before>>(height*level) > 0; level++ {
 		of := Full(level, Count(level, before))

@@ -10,80 +10,82 @@ import (
 	"golang.org/x/mod/sumdb/tlog"
 )
 
-// The errors of a Prover, beside those of reading the tiles, refusals and ErrReply. Each is found by errors.Is.
+// A Prover returns these errors, in addition to errors of reading the tiles, refusals and ErrReply. Use errors.Is.
 var (
-	// ErrBusy: so many are made already that no more is taken.
+	// ErrBusy means that the maximum number of calls is already running.
 	ErrBusy = errors.New("tile: busy")
-	// ErrWrong: the result is not of the tree with the given root.
+	// ErrWrong means that a result does not belong to the tree with the given root.
 	ErrWrong = errors.New("tile: the tiles are not those of the tree")
 )
 
-// Prover makes audit paths, consistency proofs and roots from the tiles of a log, with the proved functions. If the
-// tiles are wrong, the results are wrong too. A caller that has a root checks them with CheckPath and CheckProof. Its
+// Prover computes audit paths, consistency proofs and roots from the tiles of a log, with the proved functions. If the
+// tiles are wrong, the results are wrong, too. A caller that has a root checks them with CheckPath and CheckProof. The
 // methods may be called concurrently.
 type Prover struct {
 	functions ProofFunctions
 	object    Objects
-	// places has a place for each thing that is being made.
-	places chan struct{}
+	// slots has an element for each call that is running.
+	slots chan struct{}
 }
 
-// maxReading bounds how long one thing is made, the reading of its tiles included.
+// maxReading is the maximum duration of a call, including the reading of its tiles.
 const maxReading = 20 * time.Second
 
-// Objects reads a published object of at most so many bytes.
-type Objects func(ctx context.Context, name string, most int64) ([]byte, error)
+// Objects reads a published object of at most maxBytes bytes.
+type Objects func(ctx context.Context, name string, maxBytes int64) ([]byte, error)
 
-// NewProver takes what reads a published object, and how many things are made at once.
-func NewProver(object Objects, most int) *Prover { return ProverOver(ProvedFunctions(), object, most) }
-
-// ProverOver returns a prover over other functions than the proved ones, for tests.
-func ProverOver(functions ProofFunctions, object Objects, most int) *Prover {
-	return &Prover{functions, object, make(chan struct{}, most)}
+// NewProver returns a Prover that reads published objects by a function, and runs at most maxCalls calls at once.
+func NewProver(object Objects, maxCalls int) *Prover {
+	return ProverOver(ProvedFunctions(), object, maxCalls)
 }
 
-// made is what was asked for.
-type made[T any] struct {
-	what T
-	err  error
+// ProverOver returns a Prover with other functions than the proved ones, for tests.
+func ProverOver(functions ProofFunctions, object Objects, maxCalls int) *Prover {
+	return &Prover{functions, object, make(chan struct{}, maxCalls)}
 }
 
-// within has something made, in its time, if a place is free. It returns once the context ends. A reading that doesn't
-// heed the end of its context keeps its place until it is done.
-func within[T any](ctx context.Context, r *Prover, ask func(context.Context) (T, error)) (what T, err error) {
+// result is the result of a call.
+type result[T any] struct {
+	value T
+	err   error
+}
+
+// within runs a call with a timeout if a slot is free. It returns when the context ends. If the reading of a tile
+// ignores the end of its context, the call occupies its slot until the reading ends.
+func within[T any](ctx context.Context, r *Prover, call func(context.Context) (T, error)) (value T, err error) {
 	if err := ctx.Err(); err != nil {
-		return what, err
+		return value, err
 	}
 	select {
-	case r.places <- struct{}{}:
+	case r.slots <- struct{}{}:
 	default:
-		return what, fmt.Errorf("%w: %d are made", ErrBusy, cap(r.places))
+		return value, fmt.Errorf("%w: %d calls are running", ErrBusy, cap(r.slots))
 	}
-	done := make(chan made[T], 1)
+	done := make(chan result[T], 1)
 	go func() {
-		own, cancel := context.WithTimeout(ctx, maxReading)
+		limited, cancel := context.WithTimeout(ctx, maxReading)
 		defer cancel()
-		what, err := ask(own)
-		// (the place is free before the caller has the answer, so a caller that asks again at once finds it free)
-		<-r.places
-		done <- made[T]{what, err}
+		value, err := call(limited)
+		// The slot is freed before the caller has the answer, so a caller that calls again at once finds it free.
+		<-r.slots
+		done <- result[T]{value, err}
 	}()
 	select {
-	case came := <-done:
-		return came.what, came.err
+	case answer := <-done:
+		return answer.value, answer.err
 	case <-ctx.Done():
-		return what, ctx.Err()
+		return value, ctx.Err()
 	}
 }
 
-// tiles returns the tiles of a tree from those of a tree with `of` leaves. A partial tile is the beginning of a wider
-// one, and only the widest of each tile may exist.
+// tiles returns a reader of the tiles of a tree, from those of the tree with `of` leaves. A partial tile is the
+// beginning of a wider one, and only the widest version of each tile may exist.
 func (r *Prover) tiles(of uint64) tiles {
 	return func(ctx context.Context, name string) ([]byte, error) {
-		// tlog writes the height of tiles, and C2SP doesn't.
+		// The names of tlog contain the height of tiles, and those of C2SP do not.
 		tile, err := tlog.ParseTilePath("tile/8/" + strings.TrimPrefix(name, "tile/"))
 		if err != nil || tile.L < 0 || tile.L > 7 {
-			return nil, fmt.Errorf("%w: %.80q is no tile of hashes", ErrReply, name)
+			return nil, fmt.Errorf("%w: %.80q is not a hash tile", ErrReply, name)
 		}
 		width, hashes, before := tile.W, of>>(8*tile.L), 256*uint64(tile.N)
 		if hashes < before+uint64(width) {
@@ -104,33 +106,31 @@ func (r *Prover) tiles(of uint64) tiles {
 	}
 }
 
-// Path is the audit path of a leaf in the tree of size leaves, made of the tiles of the tree of `of` leaves, at least
-// as many.
+// Path returns the audit path of a leaf in the tree of the first size leaves. It reads the tiles of the tree with `of`
+// leaves, which must have at least as many.
 func (r *Prover) Path(ctx context.Context, index, size, of uint64) ([][32]byte, error) {
 	return within(ctx, r, func(ctx context.Context) ([][32]byte, error) {
-		return r.path(ctx, index, size,
-			r.tiles(of))
+		return r.path(ctx, index, size, r.tiles(of))
 	})
 }
 
-// Proof is the consistency proof from the tree of the first leaves to that of size. From none, and between trees of one
-// size, it is empty.
+// Proof returns the consistency proof from the tree of the first leaves to that of size leaves. It is empty if first is
+// 0 or size.
 func (r *Prover) Proof(ctx context.Context, first, size, of uint64) ([][32]byte, error) {
 	if first == 0 || first == size {
 		return nil, nil
 	}
 	return within(ctx, r, func(ctx context.Context) ([][32]byte, error) {
-		return r.proof(ctx, first, size,
-			r.tiles(of))
+		return r.proof(ctx, first, size, r.tiles(of))
 	})
 }
 
-// Root is the Merkle Tree Hash of the first size leaves.
+// Root returns the Merkle Tree Hash of the first size leaves.
 func (r *Prover) Root(ctx context.Context, size, of uint64) ([32]byte, error) {
 	return within(ctx, r, func(ctx context.Context) ([32]byte, error) { return r.root(ctx, size, r.tiles(of)) })
 }
 
-// CheckPath sees that a path leads from a leaf's hash at an index to the root of a tree of size leaves.
+// CheckPath checks that a path leads from a leaf's hash at an index to the root of a tree of size leaves.
 func CheckPath(path [][32]byte, size uint64, root [32]byte, index uint64, leaf [32]byte) error {
 	proof := make(tlog.RecordProof, len(path))
 	for i := range path {
@@ -142,7 +142,7 @@ func CheckPath(path [][32]byte, size uint64, root [32]byte, index uint64, leaf [
 	return nil
 }
 
-// CheckProof sees that a consistency proof leads from the first root to the second.
+// CheckProof checks that a consistency proof leads from the first root to the second.
 func CheckProof(path [][32]byte, size uint64, root [32]byte, first uint64, firstRoot [32]byte) error {
 	proof := make(tlog.TreeProof, len(path))
 	for i := range path {

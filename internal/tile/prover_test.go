@@ -18,17 +18,17 @@ var must = testutil.Must
 
 func limited(t testing.TB) context.Context { return testutil.Limited(t, testutil.Longest) }
 
-// TestTiles: the widest version of a tile in the tree is read, and the requested hashes are returned. A tile of another
-// length is wrong. No other tiles are read.
+// TestTiles checks that the widest version of a tile in the tree is read, and that the requested hashes are returned. A
+// tile of another length is wrong. No other tiles are read.
 func TestTiles(t *testing.T) {
 	wide := make([]byte, 32*256)
 	for i := range wide {
 		wide[i] = byte(i / 32)
 	}
 	for _, of := range []struct {
-		size        uint64
-		name, asked string
-		has, gives  int
+		size            uint64
+		name, read      string
+		width, expected int
 	}{
 		{300, "tile/0/000", "tile/0/000", 256, 256},
 		{300, "tile/0/000.p/7", "tile/0/000", 256, 7},
@@ -49,26 +49,26 @@ func TestTiles(t *testing.T) {
 		{300, "heads/1", "", 0, 0},
 	} {
 		asked := ""
-		content := wide[:32*of.has]
-		r := NewProver(func(_ context.Context, name string, most int64) ([]byte, error) {
-			if asked = name; most != 32*256 {
-				t.Errorf("%s of %d: at most %d bytes", of.name, of.size, most)
+		content := wide[:32*of.width]
+		r := NewProver(func(_ context.Context, name string, maxBytes int64) ([]byte, error) {
+			if asked = name; maxBytes != 32*256 {
+				t.Errorf("%s of %d: at most %d bytes", of.name, of.size, maxBytes)
 			}
 			return content, nil
 		}, 1)
 		tiles := r.tiles(of.size)
 		read, err := tiles(limited(t), of.name)
-		if of.asked == "" {
+		if of.read == "" {
 			if !errors.Is(err, ErrReply) || asked != "" {
-				t.Errorf("%s of %d: %q is asked for, %v", of.name, of.size, asked, err)
+				t.Errorf("%s of %d: %q is read, %v", of.name, of.size, asked, err)
 			}
 			continue
 		}
-		if err != nil || asked != of.asked || !bytes.Equal(read, wide[:32*of.gives]) {
-			t.Errorf("%s of %d: of %s %d bytes, %v", of.name, of.size, asked, len(read), err)
+		if err != nil || asked != of.read || !bytes.Equal(read, wide[:32*of.expected]) {
+			t.Errorf("%s of %d: %s is read, %d bytes, %v", of.name, of.size, asked, len(read), err)
 		}
-		for _, wrong := range [][]byte{nil, wide[:32*of.has-1], wide[:32*(of.has-1)],
-			append(wide[:32*of.has:32*of.has], 0)} {
+		for _, wrong := range [][]byte{nil, wide[:32*of.width-1], wide[:32*(of.width-1)],
+			append(wide[:32*of.width:32*of.width], 0)} {
 			content = wrong
 			if _, err := tiles(limited(t), of.name); !errors.Is(err, ErrWrong) {
 				t.Errorf("%s of %d has %d bytes: %v", of.name, of.size, len(wrong), err)
@@ -82,9 +82,9 @@ func TestTiles(t *testing.T) {
 	}
 }
 
-// TestReadings reads a tree of three leaves, whose nodes are computed by hand (RFC 6962, section 2.1), out of the tiles
-// of a larger one.
-func TestReadings(t *testing.T) {
+// TestProver reads a tree of three leaves out of the tiles of a larger one. Its nodes are computed by hand (RFC 6962,
+// section 2.1).
+func TestProver(t *testing.T) {
 	ctx := limited(t)
 	leaf := func(i byte) [32]byte { return sha256.Sum256([]byte{0, i}) }
 	node := func(a, b [32]byte) [32]byte { return sha256.Sum256(append(append([]byte{1}, a[:]...), b[:]...)) }
@@ -92,7 +92,7 @@ func TestReadings(t *testing.T) {
 	tile := bytes.Join([][]byte{zero[:], one[:], two[:], three[:]}, nil)
 	r := NewProver(func(_ context.Context, name string, _ int64) ([]byte, error) {
 		if name != "tile/0/000.p/4" {
-			return nil, fmt.Errorf("%s is asked for", name)
+			return nil, fmt.Errorf("%s is read", name)
 		}
 		return tile, nil
 	}, 64)
@@ -113,10 +113,10 @@ func TestReadings(t *testing.T) {
 	if found, err := r.Root(ctx, 1, 4); err != nil || found != zero {
 		t.Errorf("a root of one: %x, %v", found, err)
 	}
-	// Each difference from the tree is wrong.
+	// Each difference from the tree is an error.
 	for what, err := range map[string]error{
 		"a path to another leaf":           CheckPath(path, 3, root, 2, one),
-		"a path of another place":          CheckPath(path, 3, root, 1, two),
+		"a path of another index":          CheckPath(path, 3, root, 1, two),
 		"a path to another root":           CheckPath(path, 3, zero, 2, two),
 		"no path":                          CheckPath(nil, 3, root, 2, two),
 		"no path of one leaf to another":   CheckPath(nil, 1, zero, 0, one),
@@ -130,17 +130,17 @@ func TestReadings(t *testing.T) {
 			t.Errorf("%s: %v", what, err)
 		}
 	}
-	// Nothing is asked for what is empty.
-	nobody := NewProver(nil, 0)
+	// An empty proof needs no tile.
+	empty := NewProver(nil, 0)
 	for _, sizes := range [][2]uint64{{0, 0}, {0, 3}, {3, 3}} {
-		if proof, err := nobody.Proof(ctx, sizes[0], sizes[1], 3); err != nil || len(proof) != 0 {
+		if proof, err := empty.Proof(ctx, sizes[0], sizes[1], 3); err != nil || len(proof) != 0 {
 			t.Errorf("from %d to %d: %x, %v", sizes[0], sizes[1], proof, err)
 		}
 	}
 }
 
-// TestClientGoes: a client that goes away ends the reading for it, and its place is free again after the reading is
-// done. A client that is gone already asks for nothing, and if no place is free no client waits.
+// TestClientGoes checks that a call ends with its context, and that its slot is free after its reading has ended. A
+// call whose context has already ended reads nothing, and if no slot is free no call waits.
 func TestClientGoes(t *testing.T) {
 	asked, tile, done := make(chan context.Context, 4), sha256.Sum256([]byte{0, 0}), make(chan struct{})
 	isThere := false
@@ -153,52 +153,52 @@ func TestClientGoes(t *testing.T) {
 		}
 		return tile[:], nil
 	}, 1)
-	gone, cancel := context.WithCancel(limited(t))
+	ended, cancel := context.WithCancel(limited(t))
 	cancel()
-	if _, err := r.Root(gone, 1, 1); !errors.Is(err, context.Canceled) || len(asked) != 0 || len(r.places) != 0 {
-		t.Errorf("a client that is gone: %v, and %d tiles are asked for", err, len(asked))
+	if _, err := r.Root(ended, 1, 1); !errors.Is(err, context.Canceled) || len(asked) != 0 || len(r.slots) != 0 {
+		t.Errorf("the context has ended: %v, and %d tiles are read", err, len(asked))
 	}
-	goes, cancel := context.WithCancel(limited(t))
-	came := make(chan error, 1)
+	ending, cancel := context.WithCancel(limited(t))
+	errs := make(chan error, 1)
 	go func() {
-		_, err := r.Root(goes, 1, 1)
-		came <- err
+		_, err := r.Root(ending, 1, 1)
+		errs <- err
 	}()
-	own := <-asked
-	if until, isBounded := own.Deadline(); !isBounded || time.Until(until) > maxReading {
-		t.Errorf("the reading has until %v", until)
+	readCtx := <-asked
+	if deadline, hasDeadline := readCtx.Deadline(); !hasDeadline || time.Until(deadline) > maxReading {
+		t.Errorf("the deadline of the reading is %v", deadline)
 	}
 	if _, err := r.Root(limited(t), 1, 1); !errors.Is(err, ErrBusy) {
-		t.Errorf("without a place: %v", err)
+		t.Errorf("without a free slot: %v", err)
 	}
 	cancel()
-	if err := <-came; !errors.Is(err, context.Canceled) {
-		t.Errorf("a client that goes: %v", err)
+	if err := <-errs; !errors.Is(err, context.Canceled) {
+		t.Errorf("the context ends: %v", err)
 	}
-	beside := make(chan error, 1)
+	second := make(chan error, 1)
 	go func() {
 		_, err := r.Root(limited(t), 1, 1)
-		beside <- err
+		second <- err
 	}()
 	select {
-	case err := <-beside:
+	case err := <-second:
 		if !errors.Is(err, ErrBusy) {
-			t.Errorf("beside a reading that is not done: %v", err)
+			t.Errorf("during a reading that has not ended: %v", err)
 		}
 	case <-asked:
-		t.Fatal("the place of a reading that is not done is another one's")
+		t.Fatal("another call has the slot of a reading that has not ended")
 	}
 	close(done)
-	testutil.Eventually(t, "the place is free", func() bool { return len(r.places) == 0 })
+	testutil.Eventually(t, "the slot is free", func() bool { return len(r.slots) == 0 })
 	isThere = true
 	if root, err := r.Root(limited(t), 1, 1); err != nil || root != tlog.Hash(tile) {
 		t.Errorf("after that: %x, %v", root, err)
 	}
 }
 
-// TestOneAfterAnother: if only one proof is made at a time, a caller that asks for the next one directly after an
-// answer or an error is always accepted.
-func TestOneAfterAnother(t *testing.T) {
+// TestSlotIsFreeAfterCall checks that if only one call runs at a time, a caller that calls again directly after an
+// answer or an error never gets ErrBusy.
+func TestSlotIsFreeAfterCall(t *testing.T) {
 	r, ctx, broken := NewProver(nil, 1), limited(t), errors.New("the disk")
 	for i := 0; i < 20000; i++ {
 		var fails error
@@ -207,7 +207,7 @@ func TestOneAfterAnother(t *testing.T) {
 		}
 		if what, err := within(ctx, r, func(context.Context) (int, error) { return i, fails }); what != i ||
 			err != fails {
-			t.Fatalf("thing %d: %d, %v", i, what, err)
+			t.Fatalf("call %d: %d, %v", i, what, err)
 		}
 	}
 }

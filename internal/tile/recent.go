@@ -5,37 +5,37 @@ import (
 	"sync"
 )
 
-// maxRecent is how many bytes of full tiles a Comparer remembers.
+// maxRecent is the maximum number of bytes of full tiles that a Comparer remembers.
 const maxRecent = 32 << 20
 
-// recent remembers full tiles that were compared, with their contents. Those that were not asked for while half of its
-// room was filled are forgotten.
+// recent remembers full tiles that were compared, with their contents. Tiles that were not used while half of its
+// capacity was filled are forgotten.
 type recent struct {
 	mu          sync.Mutex
 	young, aged map[string][]byte
-	// bytes is how many the young ones have.
+	// bytes is the number of bytes in young.
 	bytes int
 }
 
-// has reports whether a tile has a content that was compared.
-func (r *recent) has(name string, content []byte) bool {
+// contains reports whether a tile with this content was compared.
+func (r *recent) contains(name string, content []byte) bool {
 	r.mu.Lock()
-	kept, isYoung := r.young[name]
+	known, isYoung := r.young[name]
 	if !isYoung {
-		kept = r.aged[name]
+		known = r.aged[name]
 	}
 	r.mu.Unlock()
-	if kept == nil || !bytes.Equal(kept, content) {
+	if known == nil || !bytes.Equal(known, content) {
 		return false
 	}
 	if !isYoung {
-		r.keep(name, kept)
+		r.remember(name, known)
 	}
 	return true
 }
 
-// keep remembers a tile, whose content must not change.
-func (r *recent) keep(name string, content []byte) {
+// remember adds a tile, whose content must not change.
+func (r *recent) remember(name string, content []byte) {
 	r.mu.Lock()
 	defer r.mu.Unlock()
 	if r.young == nil || r.bytes+len(content) > maxRecent/2 {

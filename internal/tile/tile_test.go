@@ -11,7 +11,7 @@ import (
 	"wagtenib/internal/stores"
 )
 
-// leafOf writes a TileLeaf of a certificate (C2SP static-ct-api, "Log Entries").
+// leafOf returns a TileLeaf of a certificate (C2SP static-ct-api, "Log Entries").
 func leafOf(index uint64, certificate string) []byte {
 	leaf := binary.BigEndian.AppendUint64(nil, 1800000000000+index)
 	leaf = append(leaf, 0, 0, 0, 0, byte(len(certificate)))
@@ -21,7 +21,7 @@ func leafOf(index uint64, certificate string) []byte {
 	return append(leaf, 0, 0)
 }
 
-// TestReadsPartialTileOutOfFullOne deletes partial tiles, and reads them as the beginning of their full ones.
+// TestReadsPartialTileOutOfFullOne checks that a deleted partial tile is read as the beginning of its full one.
 func TestReadsPartialTileOutOfFullOne(t *testing.T) {
 	var data, partial []byte
 	for i := range uint64(Width) {
@@ -48,13 +48,13 @@ func TestReadsPartialTileOutOfFullOne(t *testing.T) {
 	for name, expected := range map[string][]byte{"tile/data/000.p/3": partial, "tile/0/000.p/2": hashes[:64],
 		"tile/0/001.p/4": hashes} {
 		if content, err := read(context.Background(), name); err != nil || !bytes.Equal(content, expected) {
-			t.Errorf("%s has %d bytes and not %d: %v", name, len(content), len(expected), err)
+			t.Errorf("%s has %d bytes, expected %d: %v", name, len(content), len(expected), err)
 		}
 	}
 	for name, expected := range map[string]error{"tile/0/002.p/1": ErrDamaged, "tile/0/003.p/1": broken,
 		"tile/0/004.p/1": ErrDamaged, "tile/0/004": ErrDamaged, "tile/0/000.p/0": ErrDamaged} {
 		if _, err := read(context.Background(), name); !errors.Is(err, expected) {
-			t.Errorf("%s: %v and not %v", name, err, expected)
+			t.Errorf("%s: %v, expected %v", name, err, expected)
 		}
 	}
 }

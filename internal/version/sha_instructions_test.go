@@ -9,8 +9,8 @@ import (
 )
 
 func TestLineNamesTheSHAInstructions(t *testing.T) {
-	if got, want := version.Line("ctserve"),
-		"ctserve unreleased (commit unknown, with SHA instructions, which are not proved)\n"; got != want {
-		t.Errorf("with the build tag: %q, and %q is due", got, want)
+	if got, expected := version.Line("ctserve"),
+		"ctserve unreleased (commit unknown, with SHA instructions, which are not proved)\n"; got != expected {
+		t.Errorf("with the build tag: %q, expected %q", got, expected)
 	}
 }

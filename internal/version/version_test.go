@@ -5,25 +5,25 @@ package version
 import "testing"
 
 func TestLine(t *testing.T) {
-	if said := Line("ctserve"); said != "ctserve unreleased (commit unknown)\n" {
-		t.Errorf("of a build that wasn't told: %q", said)
+	if line := Line("ctserve"); line != "ctserve unreleased (commit unknown)\n" {
+		t.Errorf("of a build without a version: %q", line)
 	}
 	number, commit = "1.2.3", "0123456789ab"
 	defer func() { number, commit = "", "" }()
-	if said := Line("ctfollow"); said != "ctfollow 1.2.3 (commit 0123456789ab)\n" {
-		t.Errorf("%q", said)
+	if line := Line("ctfollow"); line != "ctfollow 1.2.3 (commit 0123456789ab)\n" {
+		t.Errorf("%q", line)
 	}
 }
 
 func TestAsked(t *testing.T) {
-	for _, words := range [][]string{{"--version"}, {"-version"}, {"-V"}} {
-		if !Asked(words) {
-			t.Errorf("%q isn't taken", words)
+	for _, arguments := range [][]string{{"--version"}, {"-version"}, {"-V"}} {
+		if !Asked(arguments) {
+			t.Errorf("%q is not accepted", arguments)
 		}
 	}
-	for _, words := range [][]string{nil, {"version"}, {"--version", "--create"}, {"--config", "--version"}} {
-		if Asked(words) {
-			t.Errorf("%q is taken", words)
+	for _, arguments := range [][]string{nil, {"version"}, {"--version", "--create"}, {"--config", "--version"}} {
+		if Asked(arguments) {
+			t.Errorf("%q is accepted", arguments)
 		}
 	}
 }

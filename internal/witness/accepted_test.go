@@ -18,11 +18,11 @@ import (
 // everything else by the same names as without a monitor.
 func TestAccepted(t *testing.T) {
 	by, folder := headKey(t, origin), t.TempDir()
-	one, other := grown(t, "a", "b", "c", "d", "e"), grown(t, "a", "b", "c", "x", "y")
+	one, other := leavesOf(t, "a", "b", "c", "d", "e"), leavesOf(t, "a", "b", "c", "x", "y")
 	state := filepath.Join(folder, "monitor")
-	var told []string
+	var events []string
 	s, err := New(Options{Name: "w.example", Key: newKey(t),
-		Tell: func(event string, words ...any) { told = append(told, event) }})
+		Log: func(event string, _ ...any) { events = append(events, event) }})
 	must(t, err)
 	log := Log{Origin: origin, Keys: []note.Verifier{by.key}, State: stateIn(t, folder),
 		Accepted: func() (uint64, [32]byte, error) { return AcceptedBy(state, origin, []note.Verifier{by.key}) }}
@@ -32,19 +32,19 @@ func TestAccepted(t *testing.T) {
 		must(t, os.WriteFile(state, by.sign(checkpoint(origin, size, of.root(t, size))), 0o600))
 	}
 	signed := func(of *leaves, n int64) []byte { return by.sign(checkpoint(origin, n, of.root(t, n))) }
-	asks := func(what string, body []byte, status int, text, tells string) {
+	asks := func(what string, body []byte, status int, text, event string) {
 		t.Helper()
 		before, err := log.State.Read(limited(t))
 		must(t, err)
-		told = nil
-		w := posted(t, s, body)
-		if w.Code != status || !strings.HasPrefix(w.Body.String(), text) || strings.Join(told, " ") != tells {
-			t.Errorf("%s: %d %q, and %q is told", what, w.Code, w.Body, told)
+		events = nil
+		w := post(t, s, body)
+		if w.Code != status || !strings.HasPrefix(w.Body.String(), text) || strings.Join(events, " ") != event {
+			t.Errorf("%s: %d %q, and the log has %q", what, w.Code, w.Body, events)
 		}
 		after, err := log.State.Read(limited(t))
 		must(t, err)
 		if (before != after) != (status == 200) {
-			t.Errorf("%s: the state moved, or not: %s", what, after)
+			t.Errorf("%s: the state changed, or should have: %s", what, after)
 		}
 	}
 	asks("there is no file of a monitor", request(0, nil, signed(one, 3)), 503, "monitor\n", "monitor")

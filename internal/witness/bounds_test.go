@@ -15,48 +15,49 @@ import (
 	"wagtenib/internal/stores"
 )
 
-// bounded is a lock that keeps how long it has for an answer.
-type bounded struct {
+// deadlineLock is a lock that sends the time that remains until the deadline of each read.
+type deadlineLock struct {
 	stores.Lock
-	has chan time.Duration
+	remaining chan time.Duration
 }
 
-func (b bounded) Read(ctx context.Context) (string, error) {
-	until, isBounded := ctx.Deadline()
-	if !isBounded {
-		until = time.Now().Add(24 * time.Hour)
+func (b deadlineLock) Read(ctx context.Context) (string, error) {
+	deadline, hasDeadline := ctx.Deadline()
+	if !hasDeadline {
+		deadline = time.Now().Add(24 * time.Hour)
 	}
-	b.has <- time.Until(until)
+	b.remaining <- time.Until(deadline)
 	return b.Lock.Read(ctx)
 }
 
-// TestRequestHasAnEnd: whoever asks, a request has its time, so that a lock that doesn't answer holds no room for
-// ever.
+// TestRequestHasAnEnd checks that each request has a deadline, so that a lock that does not answer blocks no slot
+// forever.
 func TestRequestHasAnEnd(t *testing.T) {
-	by, one := headKey(t, origin), grown(t, "a", "b", "c")
-	state := bounded{&held{}, make(chan time.Duration, 4)}
+	by, one := headKey(t, origin), leavesOf(t, "a", "b", "c")
+	state := deadlineLock{&memoryLock{}, make(chan time.Duration, 4)}
 	s := witnessOver(t, state, newKey(t), by)
-	// (a start looks at it, too)
-	<-state.has
-	if w := posted(t, s, request(0, nil, by.sign(checkpoint(origin, 3, one.root(t, 3))))); w.Code != 200 {
+	// The check at the start also reads the lock.
+	<-state.remaining
+	if w := post(t, s, request(0, nil, by.sign(checkpoint(origin, 3, one.root(t, 3))))); w.Code != 200 {
 		t.Fatalf("%d %s", w.Code, w.Body)
 	}
-	if has := <-state.has; has > answersWithin || has < answersWithin/2 {
-		t.Errorf("it has %v", has)
+	if remaining := <-state.remaining; remaining > requestTimeout || remaining < requestTimeout/2 {
+		t.Errorf("the deadline is in %v", remaining)
 	}
 }
 
-// TestFromOneEntry: a proof must also lead from a tree of one entry to the next tree.
+// TestFromOneEntry checks that a proof must also lead from a tree of one entry to the next tree.
 func TestFromOneEntry(t *testing.T) {
-	one, other := grown(t, "a", "b", "c"), grown(t, "x", "b", "c")
+	one, other := leavesOf(t, "a", "b", "c"), leavesOf(t, "x", "b", "c")
 	last := wagtenib.WitnessedTree{Root: one.root(t, 1), TreeSize: 1}
-	if err := leads(last, Request{Old: 1, Proof: one.proof(t, 1, 3)}, 3, one.root(t, 3)); err != nil {
+	if err := checkConsistent(last, Request{Old: 1, Proof: one.proof(t, 1, 3)}, 3, one.root(t, 3)); err != nil {
 		t.Error(err)
 	}
 	for what, err := range map[string]error{
-		"a fork":                     leads(last, Request{Old: 1, Proof: other.proof(t, 1, 3)}, 3, other.root(t, 3)),
-		"no proof":                   leads(last, Request{Old: 1}, 3, one.root(t, 3)),
-		"another entry in its place": leads(last, Request{Old: 1}, 1, other.root(t, 1)),
+		"a fork": checkConsistent(last, Request{Old: 1, Proof: other.proof(t, 1, 3)}, 3,
+			other.root(t, 3)),
+		"no proof":                   checkConsistent(last, Request{Old: 1}, 3, one.root(t, 3)),
+		"another entry in its place": checkConsistent(last, Request{Old: 1}, 1, other.root(t, 1)),
 	} {
 		if err == nil {
 			t.Errorf("%s follows", what)
@@ -64,12 +65,12 @@ func TestFromOneEntry(t *testing.T) {
 	}
 }
 
-// TestStatesInOneText: a state is one text, and a name is one word without a plus sign, also where the key's bytes are
-// that name's.
+// TestStatesInOneText checks that each state has exactly one form of text, and that a key's name is one word without a
+// plus sign, even if the key ID matches the name.
 func TestStatesInOneText(t *testing.T) {
 	last, err := readMessage(Message(7, checkpoint(origin, 5, tlog.Hash{9})), origin)
 	must(t, err)
-	for _, of := range []state{noState(origin), last} {
+	for _, of := range []state{emptyState(origin), last} {
 		text, err := of.text()
 		must(t, err)
 		if read, err := readState(text, origin); err != nil || !reflect.DeepEqual(read, of) {

@@ -10,10 +10,10 @@ import (
 	"golang.org/x/mod/sumdb/note"
 )
 
-// maxAnswer is how much of an answer is read.
+// maxAnswer is the maximum number of bytes of an answer that a client reads.
 const maxAnswer = 16 << 10
 
-// Client asks one witness over HTTP, once a call (C2SP tlog-witness).
+// Client sends requests to one witness over HTTP. Each call sends one request (C2SP tlog-witness).
 type Client struct {
 	One
 	HTTP *http.Client
@@ -23,16 +23,16 @@ type Client struct {
 func (c Client) Verifier() note.Verifier { return OfCosigner(c.Name, c.Key) }
 
 // AddCheckpoint posts the body of an add-checkpoint request, and returns the status and the beginning of the answer's
-// body. It waits as long as the context lasts. It returns a redirect as it is: if it followed one, a witness could have
-// the machine of a log ask any address.
+// body. It waits until the context ends. It returns a redirect as it is: if it followed one, a witness could make the
+// log's machine send a request to any address.
 func (c Client) AddCheckpoint(ctx context.Context, body []byte) (status int, answer string, err error) {
-	q, err := http.NewRequestWithContext(ctx, http.MethodPost, c.URL+"/add-checkpoint", bytes.NewReader(body))
+	request, err := http.NewRequestWithContext(ctx, http.MethodPost, c.URL+"/add-checkpoint", bytes.NewReader(body))
 	if err != nil {
 		return 0, "", fmt.Errorf("witness: %s: %w", c.Name, err)
 	}
-	asks := *c.HTTP
-	asks.CheckRedirect = func(*http.Request, []*http.Request) error { return http.ErrUseLastResponse }
-	response, err := asks.Do(q)
+	client := *c.HTTP
+	client.CheckRedirect = func(*http.Request, []*http.Request) error { return http.ErrUseLastResponse }
+	response, err := client.Do(request)
 	if err != nil {
 		return 0, "", fmt.Errorf("witness: %s: %w", c.Name, err)
 	}

@@ -16,10 +16,10 @@ import (
 	"golang.org/x/mod/sumdb/note"
 )
 
-// TestClientAsksOnce has a client ask a witness over HTTP for a size that it did not see, and for the right one, and a
-// witness that does not answer.
+// TestClientAsksOnce checks that each call of a client sends one request: for a size that the witness did not see, for
+// the right size, and to a witness that does not answer.
 func TestClientAsksOnce(t *testing.T) {
-	by, key, log := headKey(t, origin), newKey(t), grown(t, "a", "b", "c")
+	by, key, log := headKey(t, origin), newKey(t), leavesOf(t, "a", "b", "c")
 	over := httptest.NewServer(witnessOf(t, t.TempDir(), key, by))
 	defer over.Close()
 	c := Client{One{URL: over.URL, Name: "w.example", Key: key.Public().(ed25519.PublicKey)}, over.Client()}
@@ -35,7 +35,7 @@ func TestClientAsksOnce(t *testing.T) {
 	}
 	if opened, err := note.Open([]byte(text+"\n"+answer), note.VerifierList(c.Verifier())); err != nil ||
 		len(opened.Sigs) != 1 {
-		t.Errorf("%q is no cosignature of the client's witness: %v", answer, err)
+		t.Errorf("%q is not a cosignature of the client's witness: %v", answer, err)
 	}
 	ended, cancel := context.WithCancel(limited(t))
 	cancel()
@@ -44,7 +44,7 @@ func TestClientAsksOnce(t *testing.T) {
 	}
 }
 
-// TestClientFollowsNoRedirect: a witness that redirects a client has it ask no other address, by no status.
+// TestClientFollowsNoRedirect checks that a client follows no redirect of a witness, whatever its status.
 func TestClientFollowsNoRedirect(t *testing.T) {
 	var asked atomic.Int64
 	elsewhere := httptest.NewServer(http.HandlerFunc(func(http.ResponseWriter, *http.Request) { asked.Add(1) }))
@@ -66,8 +66,8 @@ func TestClientFollowsNoRedirect(t *testing.T) {
 	}
 }
 
-// TestClientReadsWholeAnswers: a response that breaks off is an error. Of a long response the client reads only the
-// beginning.
+// TestClientReadsWholeAnswers checks that an incomplete response is an error, and that a client reads only the
+// beginning of a long response.
 func TestClientReadsWholeAnswers(t *testing.T) {
 	var length int
 	var text string
@@ -89,18 +89,18 @@ func TestClientReadsWholeAnswers(t *testing.T) {
 	}
 }
 
-// TestTimestamps: a cosignature has its witness and its time. No other line has.
+// TestTimestamps checks that TimestampOf reads the witness and the time of a cosignature, and refuses every other line.
 func TestTimestamps(t *testing.T) {
 	by, key := plainKey(t, origin), newKey(t)
-	s, list := witnessOf(t, t.TempDir(), key, by), grown(t, "a", "b", "c")
+	s, list := witnessOf(t, t.TempDir(), key, by), leavesOf(t, "a", "b", "c")
 	signed := by.sign(checkpoint(origin, 3, list.root(t, 3)))
 	before := time.Now().Add(-time.Second)
-	came := strings.TrimSuffix(posted(t, s, request(0, nil, signed)).Body.String(), "\n")
-	if name, at, ok := TimestampOf(came); !ok || name != s.of.Name || at.Before(before) || at.After(time.Now()) {
-		t.Errorf("%q: %s at %v, %v", came, name, at, ok)
+	line := strings.TrimSuffix(post(t, s, request(0, nil, signed)).Body.String(), "\n")
+	if name, at, ok := TimestampOf(line); !ok || name != s.options.Name || at.Before(before) || at.After(time.Now()) {
+		t.Errorf("%q: %s at %v, %v", line, name, at, ok)
 	}
 	public := key.Public().(ed25519.PublicKey)
-	line := strings.TrimSuffix(cosignatureLine("w.example", public, 1234567890, ed25519.Sign(key, []byte("x"))), "\n")
+	line = strings.TrimSuffix(cosignatureLine("w.example", public, 1234567890, ed25519.Sign(key, []byte("x"))), "\n")
 	if name, at, ok := TimestampOf(line); !ok || name != "w.example" || at.Unix() != 1234567890 {
 		t.Errorf("%s at %v, %v", name, at, ok)
 	}

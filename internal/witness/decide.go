@@ -12,13 +12,13 @@ import (
 	"wagtenib/bindings/go/wagtenib"
 )
 
-// refusal is the name of a refusal, with which it is answered and counted, and its status (docs/WITNESS.md).
+// refusal has the name of a refusal, which is answered and counted, and its HTTP status (docs/WITNESS.md).
 type refusal struct {
 	name   string
 	status int
 }
 
-// refusals has each fault of the proved decision that is the client's.
+// refusals maps each error of the proved decision that is the client's fault to its refusal.
 var refusals = map[wagtenib.Code]refusal{
 	wagtenib.ErrNoCheckpoint:  {"no-checkpoint", http.StatusBadRequest},
 	wagtenib.ErrOldAbove:      {"old-above", http.StatusBadRequest},
@@ -32,8 +32,7 @@ var refusals = map[wagtenib.Code]refusal{
 	wagtenib.ErrRootMismatch:  {"inconsistent", http.StatusUnprocessableEntity},
 }
 
-// faults has the names of the faults of a consistency proof, which follow "inconsistent" in an answer
-// (docs/WITNESS.md).
+// faults maps the errors of a consistency proof to the names that follow "inconsistent" in an answer (docs/WITNESS.md).
 var faults = map[wagtenib.Code]string{
 	wagtenib.ErrEmptyPath: "empty-path", wagtenib.ErrPathTooLong: "path-too-long",
 	wagtenib.ErrPathTooShort:  "path-too-short",
@@ -43,19 +42,19 @@ var faults = map[wagtenib.Code]string{
 // decision returns the message to cosign for a request over a state, or an error that is a wagtenib.Code.
 type decision func(last state, r Request, now uint64) (message []byte, err error)
 
-// proved is the decision of the proved library.
-func proved(last state, r Request, now uint64) (message []byte, err error) {
+// provedDecision is the decision of the proved library.
+func provedDecision(last state, r Request, now uint64) (message []byte, err error) {
 	if last.message == nil {
 		return wagtenib.WitnessFirst(last.origin, r.Text, r.Old, r.Proof, now)
 	}
 	return wagtenib.WitnessCosign(last.message, r.Text, r.Old, r.Proof, now)
 }
 
-// next returns the state after a request, or the refusal as an error that is a wagtenib.Code. The message of a decision
-// is believed only if it is that of this timestamp and of the checkpoint, and x/mod's tlog finds, too, that the proof
-// leads to its tree. Otherwise the error is ErrDecision.
+// next returns the state after a request, or the refusal as an error that is a wagtenib.Code. A message that was
+// decided is used only if it is the message of this timestamp and this checkpoint, and x/mod's tlog package also finds
+// that the proof leads to the checkpoint's tree. Otherwise the error is ErrDecision.
 func (s *Server) next(last state, r Request, now uint64) (next state, err error) {
-	message, err := s.decides(last, r, now)
+	message, err := s.decision(last, r, now)
 	if err != nil {
 		return state{}, err
 	}
@@ -67,22 +66,22 @@ func (s *Server) next(last state, r Request, now uint64) (next state, err error)
 		return wrong("the request has no checkpoint of the log")
 	}
 	if !bytes.Equal(message, Message(now, r.Text)) {
-		return wrong("other bytes than a cosignature's")
+		return wrong("the message is not that of this checkpoint and time")
 	}
-	if err := leads(last.tree, r, size, root); err != nil {
+	if err := checkConsistent(last.tree, r, size, root); err != nil {
 		return wrong(err.Error())
 	}
 	return state{origin: last.origin, message: message, tree: wagtenib.WitnessedTree{TreeSize: size, Time: now,
 		Root: root}}, nil
 }
 
-// leads returns an error if a request does not lead from the last tree to its checkpoint's.
-func leads(last wagtenib.WitnessedTree, r Request, size uint64, root [32]byte) error {
+// checkConsistent returns an error if a request does not lead from the last tree to the checkpoint's tree.
+func checkConsistent(last wagtenib.WitnessedTree, r Request, size uint64, root [32]byte) error {
 	switch {
 	case r.Old != last.TreeSize || size < last.TreeSize:
 		return errors.New("the request's old size is not that of the last tree")
 	case size == last.TreeSize && last.Root != root:
-		return errors.New("a fork")
+		return errors.New("the checkpoint is a fork of the last tree")
 	case size == last.TreeSize || last.TreeSize == 0:
 		return nil
 	}
@@ -93,7 +92,7 @@ func leads(last wagtenib.WitnessedTree, r Request, size uint64, root [32]byte) e
 	return tlog.CheckTree(proof, int64(size), root, int64(last.TreeSize), last.Root)
 }
 
-// refused answers an error of a decision.
+// refused returns the answer to an error of a decision.
 func (s *Server) refused(last state, err error) answer {
 	var code wagtenib.Code
 	if !errors.As(err, &code) {

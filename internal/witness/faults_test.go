@@ -27,35 +27,35 @@ import (
 
 var errTried = errors.New("tried")
 
-// TestFaultyLock: if a call of the lock fails, nothing is signed unless its state is stored. After a lost swap
-// the request is decided again. A swap of unknown outcome is repeated.
+// TestFaultyLock checks that if a call of the lock fails, nothing is signed unless its state is stored. After a lost
+// swap the request is decided again. A swap of unknown outcome is repeated.
 func TestFaultyLock(t *testing.T) {
-	by, one := headKey(t, origin), grown(t, "a", "b", "c")
+	by, one := headKey(t, origin), leavesOf(t, "a", "b", "c")
 	body := request(0, nil, by.sign(checkpoint(origin, 3, one.root(t, 3))))
 	for name, test := range map[string]struct {
 		call        string
 		err         error
 		times       int
 		status      int
-		text, tells string
+		text, event string
 		calls, lost int
 	}{
-		"it can't be read":               {"read", errTried, 1, 503, "state\n", "state", 1, 0},
-		"it can't be swapped":            {"swap", errTried, 1, 503, "state\n", "state", 1, 0},
-		"another stands once":            {"swap", stores.ErrLost, 1, 200, "— w.example ", "", 2, 1},
-		"another stands four times":      {"swap", stores.ErrLost, 4, 200, "— w.example ", "", 5, 4},
-		"another stands each time":       {"swap", stores.ErrLost, 99, 503, "busy\n", "", 5, 5},
-		"it isn't known once":            {"swap", stores.ErrUnknown, 1, 200, "— w.example ", "", 2, 0},
-		"it isn't known four times":      {"swap", stores.ErrUnknown, 4, 200, "— w.example ", "", 5, 0},
-		"it is never known":              {"swap", stores.ErrUnknown, 99, 503, "state\n", "state", 5, 0},
-		"it is gone where it is swapped": {"swap", stores.ErrAbsent, 1, 503, "state\n", "state", 1, 0},
+		"it cannot be read":                 {"read", errTried, 1, 503, "state\n", "state", 1, 0},
+		"it cannot be swapped":              {"swap", errTried, 1, 503, "state\n", "state", 1, 0},
+		"another one is there once":         {"swap", stores.ErrLost, 1, 200, "— w.example ", "", 2, 1},
+		"another one is there four times":   {"swap", stores.ErrLost, 4, 200, "— w.example ", "", 5, 4},
+		"another one is there each time":    {"swap", stores.ErrLost, 99, 503, "busy\n", "", 5, 5},
+		"the outcome is unknown once":       {"swap", stores.ErrUnknown, 1, 200, "— w.example ", "", 2, 0},
+		"the outcome is unknown four times": {"swap", stores.ErrUnknown, 4, 200, "— w.example ", "", 5, 0},
+		"the outcome is never known":        {"swap", stores.ErrUnknown, 99, 503, "state\n", "state", 5, 0},
+		"it is gone before the swap":        {"swap", stores.ErrAbsent, 1, 503, "state\n", "state", 1, 0},
 	} {
-		state, calls, told := &held{}, 0, []string{}
+		state, calls, events := &memoryLock{}, 0, []string{}
 		s := witnessOver(t, state, newKey(t), by)
-		s.of.Tell = func(event string, _ ...any) { told = append(told, event) }
+		s.options.Log = func(event string, _ ...any) { events = append(events, event) }
 		before := state.text
 		test := test
-		state.does = func(call string) error {
+		state.hook = func(call string) error {
 			if call != test.call {
 				return nil
 			}
@@ -64,23 +64,23 @@ func TestFaultyLock(t *testing.T) {
 			}
 			return nil
 		}
-		w := posted(t, s, body)
+		w := post(t, s, body)
 		if w.Code != test.status || !strings.HasPrefix(w.Body.String(), test.text) ||
-			strings.Join(told, " ") != test.tells || calls != test.calls {
-			t.Errorf("%s: %d %q behind %d calls, and %q is told", name, w.Code, w.Body, calls, told)
+			strings.Join(events, " ") != test.event || calls != test.calls {
+			t.Errorf("%s: %d %q after %d calls, and the log has %q", name, w.Code, w.Body, calls, events)
 		}
 		if (state.text == before) != (test.status != 200) {
-			t.Errorf("%s: the state moved, or not: %s", name, state.text)
+			t.Errorf("%s: the state changed, or should have: %s", name, state.text)
 		}
-		if line := fmt.Sprintf("ctwitness_lost_swaps_total %d\n", test.lost); !strings.Contains(figures(s), line) {
+		if line := fmt.Sprintf("ctwitness_lost_swaps_total %d\n", test.lost); !strings.Contains(metricsOf(s), line) {
 			t.Errorf("%s: no %s", name, line)
 		}
 	}
-	// The states that a start finds.
-	s := witnessOver(t, &held{}, newKey(t), by)
+	// These are the errors that a start may find.
+	s := witnessOver(t, &memoryLock{}, newKey(t), by)
 	for _, test := range []struct{ err, kind error }{{stores.ErrAbsent, ErrState}, {errTried, errTried}} {
 		of := Log{Origin: origin, Keys: []note.Verifier{by.key},
-			State: &held{does: func(string) error { return test.err }}}
+			State: &memoryLock{hook: func(string) error { return test.err }}}
 		if err := s.Check(limited(t), of); !errors.Is(err, test.kind) || errors.Is(test.kind, errTried) &&
 			errors.Is(err, ErrState) {
 			t.Errorf("%v: %v", test.err, err)
@@ -91,61 +91,61 @@ func TestFaultyLock(t *testing.T) {
 	}
 }
 
-// figures are what Prometheus reads.
-func figures(s *Server) string {
+// metricsOf returns the metrics that Prometheus reads.
+func metricsOf(s *Server) string {
 	w := httptest.NewRecorder()
 	s.Operator().ServeHTTP(w, httptest.NewRequest("GET", "/metrics", nil))
 	return w.Body.String()
 }
 
-// TestKept: the stored state has the tree, the origin and the timestamp. No two swaps have the same text, even for one
-// tree in one second. The metrics count them.
-func TestKept(t *testing.T) {
-	by, one, state := headKey(t, origin), grown(t, "a", "b", "c"), &held{}
+// TestStoredState checks that the stored state has the tree, the origin and the timestamp, that no two swaps have the
+// same text, even for one tree in one second, and that the metrics count them.
+func TestStoredState(t *testing.T) {
+	by, one, state := headKey(t, origin), leavesOf(t, "a", "b", "c"), &memoryLock{}
 	s := witnessOver(t, state, newKey(t), by)
 	s.now = func() uint64 { return 1234567 }
 	signed := by.sign(checkpoint(origin, 3, one.root(t, 3)))
 	texts := map[string]bool{state.text: true}
 	for _, old := range []int64{0, 3, 3} {
-		if w := posted(t, s, request(old, nil, signed)); w.Code != 200 {
+		if w := post(t, s, request(old, nil, signed)); w.Code != 200 {
 			t.Fatalf("%d %s", w.Code, w.Body)
 		}
 		if texts[state.text] {
 			t.Error("two swaps have one text")
 		}
 		texts[state.text] = true
-		kept, err := readState(state.text, origin)
-		if err != nil || kept.tree != (wagtenib.WitnessedTree{TreeSize: 3, Time: 1234567, Root: one.root(t, 3)}) ||
-			string(kept.message) != string(Message(1234567, checkpoint(origin, 3, one.root(t, 3)))) {
+		stored, err := readState(state.text, origin)
+		if err != nil || stored.tree != (wagtenib.WitnessedTree{TreeSize: 3, Time: 1234567, Root: one.root(t, 3)}) ||
+			string(stored.message) != string(Message(1234567, checkpoint(origin, 3, one.root(t, 3)))) {
 			t.Errorf("%s: %v", state.text, err)
 		}
 	}
 	for _, line := range []string{`ctwitness_entries{origin="` + origin + `"} 3`,
 		`ctwitness_last_cosignature_seconds{origin="` + origin + `"} 1.234567e+06`,
 		`ctwitness_cosignatures_total{origin="` + origin + `"} 3`, `ctwitness_requests_total{status="200"} 3`} {
-		if !strings.Contains(figures(s), line+"\n") {
+		if !strings.Contains(metricsOf(s), line+"\n") {
 			t.Errorf("no %s", line)
 		}
 	}
-	// Another process knows it from its start on, and forgets it with the log.
+	// Another process has the metrics from its start on, and deletes them with the log.
 	other := witnessOver(t, state, newKey(t), by)
 	for _, line := range []string{`ctwitness_entries{origin="` + origin + `"} 3`,
 		`ctwitness_last_cosignature_seconds{origin="` + origin + `"} 1.234567e+06`} {
-		if !strings.Contains(figures(other), line+"\n") {
+		if !strings.Contains(metricsOf(other), line+"\n") {
 			t.Errorf("at a start no %s", line)
 		}
 	}
 	other.SetLogs(nil)
-	if text := figures(other); strings.Contains(text, "ctwitness_entries{") ||
+	if text := metricsOf(other); strings.Contains(text, "ctwitness_entries{") ||
 		strings.Contains(text, "ctwitness_last_cosignature_seconds{") {
-		t.Error("a log that isn't witnessed any more has figures")
+		t.Error("a log that is no longer witnessed has metrics")
 	}
 }
 
-// TestAnswers: no answer is kept by caches or taken for a page, each request leaves its room, and a body that breaks
-// off is none.
+// TestAnswers checks that no answer may be cached or taken for a page, that each request frees its slot, and that an
+// incomplete body is refused.
 func TestAnswers(t *testing.T) {
-	s := witnessOver(t, &held{}, newKey(t), plainKey(t, origin))
+	s := witnessOver(t, &memoryLock{}, newKey(t), plainKey(t, origin))
 	for _, body := range []io.Reader{strings.NewReader("x"), iotest.ErrReader(errTried)} {
 		w := httptest.NewRecorder()
 		s.ServeHTTP(w, httptest.NewRequest("POST", "/add-checkpoint", body))
@@ -153,13 +153,13 @@ func TestAnswers(t *testing.T) {
 			w.Header().Get("X-Content-Type-Options") != "nosniff" || w.Header().Get("Retry-After") != "" {
 			t.Errorf("%d %q %s", w.Code, w.Header(), w.Body)
 		}
-		if len(s.room) != 0 {
-			t.Error("a request is over, and its room isn't free")
+		if len(s.slots) != 0 {
+			t.Error("a request is over, and its slot is not free")
 		}
 	}
 	w := httptest.NewRecorder()
 	s.ServeHTTP(w, httptest.NewRequest("POST", "/add-checkpoint", iotest.ErrReader(errTried)))
-	if w.Body.String() != "the body breaks off\n" {
+	if w.Body.String() != "the body is incomplete\n" {
 		t.Errorf("%s", w.Body)
 	}
 	w = httptest.NewRecorder()
@@ -175,7 +175,7 @@ func TestAnswers(t *testing.T) {
 	if at := s.now(); at < uint64(time.Now().Add(-time.Hour).Unix()) || at > uint64(time.Now().Add(time.Hour).Unix()) {
 		t.Errorf("its clock says %d", at)
 	}
-	// Exactly as many bytes and hashes as may be are read.
+	// The maximum numbers of bytes and hashes are accepted.
 	if _, err := ParseRequest([]byte("old 0\n\n" + strings.Repeat("x", MaxBody-7))); !errors.Is(err, ErrRequest) ||
 		strings.Contains(err.Error(), "more than") {
 		t.Errorf("the longest body: %v", err)
@@ -194,27 +194,27 @@ func TestAnswers(t *testing.T) {
 	}
 }
 
-// TestTexts: numbers, hashes and checkpoints are taken in their one text.
+// TestTexts checks that numbers, hashes and checkpoints are accepted in only one form.
 func TestTexts(t *testing.T) {
 	for _, wrong := range []string{"", "+5", "-1", " 5", "5 ", "05", "00", "5\n", "0x5", "1e3", "9223372036854775808",
 		"18446744073709551616"} {
-		if n, err := number(wrong); !errors.Is(err, ErrRequest) {
+		if n, err := parseNumber(wrong); !errors.Is(err, ErrRequest) {
 			t.Errorf("%q is %d", wrong, n)
 		}
 	}
 	for text, n := range map[string]uint64{"0": 0, "5": 5, "9223372036854775807": 1<<63 - 1} {
-		if read, err := number(text); err != nil || read != n {
+		if read, err := parseNumber(text); err != nil || read != n {
 			t.Errorf("%q: %d, %v", text, read, err)
 		}
 	}
 	right := base64.StdEncoding.EncodeToString(make([]byte, 32))
-	if h, err := hash(right); err != nil || h != [32]byte{} {
+	if h, err := parseHash(right); err != nil || h != [32]byte{} {
 		t.Error(err)
 	}
 	for _, wrong := range []string{"", right[:43], right[:42] + "B=", right + "\n", strings.TrimRight(right, "="),
 		base64.StdEncoding.EncodeToString(make([]byte, 31)),
 		base64.StdEncoding.EncodeToString(make([]byte, 33)), "-" + right[1:]} {
-		if _, err := hash(wrong); !errors.Is(err, ErrRequest) {
+		if _, err := parseHash(wrong); !errors.Is(err, ErrRequest) {
 			t.Errorf("%q is a hash", wrong)
 		}
 	}
@@ -229,8 +229,8 @@ func TestTexts(t *testing.T) {
 	}
 }
 
-// TestOtherKeys: keys of another kind, or under another's name, are none, and no signature of any length is one of
-// nothing.
+// TestOtherKeys checks that keys of another kind or with another name are refused, and that zero bytes of any length
+// are not a signature.
 func TestOtherKeys(t *testing.T) {
 	inPEM := func(kind string, der []byte, err error) string {
 		must(t, err)
@@ -264,7 +264,7 @@ func TestOtherKeys(t *testing.T) {
 		t.Errorf("a private key of P-384: %v", err)
 	}
 	public := key.Public().(ed25519.PublicKey)
-	id := idOf("w.example", algCosignature, public)
+	id := keyID("w.example", algCosignature, public)
 	written := func(name string, kind byte) string {
 		return fmt.Sprintf("%s+%08x+%s", name, id, base64.StdEncoding.EncodeToString(append([]byte{kind}, public...)))
 	}
@@ -289,32 +289,33 @@ func TestOtherKeys(t *testing.T) {
 			}
 		}
 	}
-	// A moment is what a cosignature says, and the text is all of it.
+	// A cosignature is over its timestamp and the whole text.
 	signed := ed25519.Sign(key, Message(7, string(text)))
 	blob := append(binary.BigEndian.AppendUint64(nil, 7), signed...)
 	of := OfCosigner("w.example", public)
 	if !of.Verify(text, blob) || of.Verify(text, append(binary.BigEndian.AppendUint64(nil, 8), signed...)) ||
 		of.Verify(text[:len(text)-1], blob) || of.Verify(text, append(blob, 0)) {
-		t.Error("a cosignature is taken for another one")
+		t.Error("a cosignature is accepted for another time or text")
 	}
 }
 
-// TestLeads has the second look at a request, by x/mod's tlog, refuse what does not lead from the last tree to the
-// checkpoint's.
-func TestLeads(t *testing.T) {
-	one := grown(t, "a", "b", "c", "d", "e")
+// TestCheckConsistent checks that the second check of a request, by x/mod's tlog, refuses what does not lead from the
+// last tree to the checkpoint's tree.
+func TestCheckConsistent(t *testing.T) {
+	one := leavesOf(t, "a", "b", "c", "d", "e")
 	of := func(n int64) wagtenib.WitnessedTree {
 		return wagtenib.WitnessedTree{TreeSize: uint64(n), Root: one.root(t, n)}
 	}
 	for old, right := range map[uint64]bool{3: true, 2: false, 4: false} {
-		if err := leads(of(3), Request{Old: old, Proof: one.proof(t, 3, 5)}, 5, one.root(t, 5)); (err == nil) != right {
+		err := checkConsistent(of(3), Request{Old: old, Proof: one.proof(t, 3, 5)}, 5, one.root(t, 5))
+		if (err == nil) != right {
 			t.Errorf("from %d: %v", old, err)
 		}
 	}
-	if err := leads(of(3), Request{Old: 3}, 4, one.root(t, 4)); err == nil {
+	if err := checkConsistent(of(3), Request{Old: 3}, 4, one.root(t, 4)); err == nil {
 		t.Error("one more entry needs no proof")
 	}
-	if err := leads(of(5), Request{Old: 5}, 4, one.root(t, 4)); err == nil {
+	if err := checkConsistent(of(5), Request{Old: 5}, 4, one.root(t, 4)); err == nil {
 		t.Error("a smaller tree follows")
 	}
 }

@@ -27,9 +27,10 @@ import (
 	"wagtenib/internal/testutil"
 )
 
-// grounds are the kinds of locks that keep a witness's states. Each returns an address for a folder and a name that
-// no other test uses. The engines are those that tests/engines.sh started. Their addresses are empty if it did not run.
-func grounds() map[string]func(folder, name string) string {
+// lockKinds returns the kinds of locks that can have a witness's states. Each function returns an address for a folder
+// and a name that no other test uses. The engines are those that tests/engines.sh started. Without it, only files are
+// tested.
+func lockKinds() map[string]func(folder, name string) string {
 	all := map[string]func(folder, name string) string{"file": func(folder,
 		_ string) string {
 		return "file:" + folder
@@ -40,23 +41,24 @@ func grounds() map[string]func(folder, name string) string {
 			all[kind] = func(_, name string) string { return "etcd://" + members + "/" + name }
 		}
 	}
-	words := map[string]string{}
-	for _, word := range strings.Fields(os.Getenv("STORES_POSTGRES")) {
-		key, value, _ := strings.Cut(word, "=")
-		words[key] = value
+	settings := map[string]string{}
+	for _, setting := range strings.Fields(os.Getenv("STORES_POSTGRES")) {
+		key, value, _ := strings.Cut(setting, "=")
+		settings[key] = value
 	}
-	if len(words) > 0 {
+	if len(settings) > 0 {
 		all["postgres"] = func(_, name string) string {
-			return fmt.Sprintf("postgres://%s@%s:%s/%s?sslmode=%s&log=%s", words["user"], words["host"], words["port"],
-				words["dbname"], words["sslmode"], name)
+			return fmt.Sprintf("postgres://%s@%s:%s/%s?sslmode=%s&log=%s", settings["user"], settings["host"],
+				settings["port"],
+				settings["dbname"], settings["sslmode"], name)
 		}
 	}
 	return all
 }
 
-// onEach runs a test on every kind of lock that is there; each call of `anew` gives the address of a new one.
-func onEach(t *testing.T, test func(t *testing.T, anew func() string)) {
-	for kind, address := range grounds() {
+// onEachLock runs a test on every available kind of lock. Each call of newAddress returns the address of a new lock.
+func onEachLock(t *testing.T, test func(t *testing.T, newAddress func() string)) {
+	for kind, address := range lockKinds() {
 		address := address
 		t.Run(kind, func(t *testing.T) {
 			t.Parallel()
@@ -72,52 +74,52 @@ func lockAt(t testing.TB, address string) stores.Lock {
 	return r
 }
 
-// forks are two heads of one size that no list has both, as requests of a witness that cosigned nothing, and once they
-// are its last.
-func forks(t testing.TB, by signing) (first, again [2][]byte) {
-	for i, of := range []*leaves{grown(t, "a", "b", "c", "d", "e"), grown(t, "a", "b", "c", "x", "y")} {
+// forkRequests returns requests to cosign two heads of one size that fork: the first ones are for a witness that
+// cosigned nothing, and the second ones for a witness that already cosigned that head.
+func forkRequests(t testing.TB, by signing) (first, again [2][]byte) {
+	for i, of := range []*leaves{leavesOf(t, "a", "b", "c", "d", "e"), leavesOf(t, "a", "b", "c", "x", "y")} {
 		signed := by.sign(checkpoint(origin, 5, of.root(t, 5)))
 		first[i], again[i] = request(0, nil, signed), request(5, nil, signed)
 	}
 	return first, again
 }
 
-// counted counts the cosignatures of two heads that fork.
-type counted struct {
-	mu    sync.Mutex
-	given [2]int
+// forkCounts counts the cosignatures of two heads that fork.
+type forkCounts struct {
+	mu     sync.Mutex
+	counts [2]int
 }
 
-func (c *counted) add(head int) {
+func (c *forkCounts) add(head int) {
 	c.mu.Lock()
-	c.given[head]++
+	c.counts[head]++
 	c.mu.Unlock()
 }
 
-// one sees that the one was cosigned, and the other never.
-func (c *counted) one(t testing.TB, round int) {
+// checkOnlyOne checks that exactly one of the heads was cosigned.
+func (c *forkCounts) checkOnlyOne(t testing.TB, round int) {
 	t.Helper()
 	c.mu.Lock()
 	defer c.mu.Unlock()
-	if (c.given[0] > 0) == (c.given[1] > 0) {
-		t.Errorf("round %d: the one is cosigned %d times, the other %d", round, c.given[0], c.given[1])
+	if (c.counts[0] > 0) == (c.counts[1] > 0) {
+		t.Errorf("round %d: one head is cosigned %d times, the other %d", round, c.counts[0], c.counts[1])
 	}
 }
 
-// TestRace: of two heads that fork, asked at once of two witnesses with one key over one lock, one is cosigned and
-// the other never.
+// TestRace asks two witnesses with one key over one lock at once for two heads that fork, and checks that only one of
+// the heads is cosigned.
 func TestRace(t *testing.T) {
-	onEach(t, func(t *testing.T, anew func() string) {
+	onEachLock(t, func(t *testing.T, newAddress func() string) {
 		by, key := headKey(t, origin), newKey(t)
-		first, again := forks(t, by)
+		first, again := forkRequests(t, by)
 		for round := 0; round < 10; round++ {
-			at := anew()
+			at := newAddress()
 			witnesses := []*Server{witnessOver(t, lockAt(t, at), key, by),
 				witnessOver(t, lockAt(t, at), key, by)}
 			var all sync.WaitGroup
-			var cosigned counted
+			var cosigned forkCounts
 			ask := func(s *Server, head int, body []byte) {
-				w := posted(t, s, body)
+				w := post(t, s, body)
 				if w.Code == 200 {
 					cosigned.add(head)
 				} else if w.Code != 409 && w.Body.String() != "busy\n" {
@@ -135,31 +137,31 @@ func TestRace(t *testing.T) {
 			for i := 0; i < 4; i++ {
 				ask(witnesses[i/2], i%2, again[i%2])
 			}
-			cosigned.one(t, round)
+			cosigned.checkOnlyOne(t, round)
 		}
 	})
 }
 
-// killedAt is where a process of the tests ends itself, as TestKills has it.
-const killedAt = "WITNESS_TEST_KILLED_AT"
+// killPhase is the environment variable with the phase at which a child process of TestKills kills itself.
+const killPhase = "WITNESS_TEST_KILLED_AT"
 
-// TestKills has a witness killed (-9) between its decision, the swap and the signature. Behind that a fork of what it
-// kept is never cosigned, and what it hadn't kept binds it to nothing.
+// TestKills kills a witness (-9) between its decision, the swap and the signature. If the state was stored, a fork of
+// it is never cosigned afterwards. If it was not stored, a fork may be cosigned.
 func TestKills(t *testing.T) {
-	by, one, other := plainKey(t, origin), grown(t, "a", "b", "c"), grown(t, "x", "y", "z")
+	by, one, other := plainKey(t, origin), leavesOf(t, "a", "b", "c"), leavesOf(t, "x", "y", "z")
 	body := func(of *leaves) []byte { return request(0, nil, by.sign(checkpoint(origin, 3, of.root(t, 3)))) }
-	if at := os.Getenv(killedAt); at != "" {
+	if at := os.Getenv(killPhase); at != "" {
 		beKilled(t, at)
 		return
 	}
-	onEach(t, func(t *testing.T, anew func() string) {
+	onEachLock(t, func(t *testing.T, newAddress func() string) {
 		for phase, fork := range map[string]int{"decided": 200, "kept": 409} {
-			folder, at := t.TempDir(), anew()
+			folder, at := t.TempDir(), newAddress()
 			s := witnessOver(t, lockAt(t, at), newKey(t), by)
 			must(t, os.WriteFile(filepath.Join(folder, "body"), body(one), 0o600))
 			must(t, os.WriteFile(filepath.Join(folder, "key"), []byte(by.text), 0o600))
 			child := exec.Command(os.Args[0], "-test.run", "^TestKills$")
-			child.Env = append(os.Environ(), killedAt+"="+phase, "WITNESS_TEST_FOLDER="+folder,
+			child.Env = append(os.Environ(), killPhase+"="+phase, "WITNESS_TEST_FOLDER="+folder,
 				"WITNESS_TEST_STATE="+at)
 			out, err := child.CombinedOutput()
 			var ended *exec.ExitError
@@ -167,18 +169,18 @@ func TestKills(t *testing.T) {
 				strings.Contains(string(out), "— ") {
 				t.Fatalf("%s: %v %s", phase, err, out)
 			}
-			if w := posted(t, s, body(other)); w.Code != fork {
-				t.Errorf("%s: a fork behind it: %d %s", phase, w.Code, w.Body)
+			if w := post(t, s, body(other)); w.Code != fork {
+				t.Errorf("%s: a fork after it: %d %s", phase, w.Code, w.Body)
 			}
-			if w := posted(t, s, request(3, nil, by.sign(checkpoint(origin, 3, one.root(t, 3))))); fork == 409 &&
+			if w := post(t, s, request(3, nil, by.sign(checkpoint(origin, 3, one.root(t, 3))))); fork == 409 &&
 				w.Code != 200 {
-				t.Errorf("%s: the head itself behind it: %d %s", phase, w.Code, w.Body)
+				t.Errorf("%s: the head itself after it: %d %s", phase, w.Code, w.Body)
 			}
 		}
 	})
 }
 
-// beKilled answers the folder's body, and kills this process at a phase.
+// beKilled answers the request in the folder, and kills this process at a phase.
 func beKilled(t *testing.T, at string) {
 	folder := os.Getenv("WITNESS_TEST_FOLDER")
 	body, err := os.ReadFile(filepath.Join(folder, "body"))
@@ -193,10 +195,10 @@ func beKilled(t *testing.T, at string) {
 	}
 	state := swappedState{lockAt(t, os.Getenv("WITNESS_TEST_STATE")), kill("decided"), kill("kept")}
 	s := witnessOver(t, state, newKey(t), signing{key: keyIn(t, folder)})
-	fmt.Println(posted(t, s, body).Body)
+	fmt.Println(post(t, s, body).Body)
 }
 
-// keyIn reads a log's key that a test left for its child.
+// keyIn reads a log's key that a test stored for its child process.
 func keyIn(t *testing.T, folder string) note.Verifier {
 	text, err := os.ReadFile(filepath.Join(folder, "key"))
 	must(t, err)
@@ -205,35 +207,34 @@ func keyIn(t *testing.T, folder string) note.Verifier {
 	return key
 }
 
-// served is a child process that is a witness over HTTP.
-type served struct {
+// witnessProcess is a child process that serves a witness over HTTP.
+type witnessProcess struct {
 	url  string
-	ends func()
+	kill func()
 }
 
-const servesAt = "WITNESS_TEST_SERVES_AT"
+const servedState = "WITNESS_TEST_SERVES_AT"
 
-// serves starts one over a state, with a key and the log's key in a folder.
-func serves(t testing.TB, folder, state string) served {
+// startWitness starts a witness process over a state. The folder has its key and the log's key.
+func startWitness(t testing.TB, folder, state string) witnessProcess {
 	child := exec.Command(os.Args[0], "-test.run", "^TestKilledAnywhere$")
-	child.Env = append(os.Environ(), servesAt+"="+state, "WITNESS_TEST_FOLDER="+folder)
+	child.Env = append(os.Environ(), servedState+"="+state, "WITNESS_TEST_FOLDER="+folder)
 	child.Stderr = os.Stderr
-	// (its decider ends with its input)
 	out, err := child.StdoutPipe()
 	must(t, err)
 	must(t, child.Start())
-	ends := func() {
+	kill := func() {
 		_ = child.Process.Kill()
 		_ = child.Wait()
 	}
-	t.Cleanup(ends)
+	t.Cleanup(kill)
 	url, err := bufio.NewReader(out).ReadString('\n')
 	must(t, err)
-	return served{strings.TrimSpace(url), ends}
+	return witnessProcess{strings.TrimSpace(url), kill}
 }
 
-// serve is the child: it answers until it is killed.
-func serve(t *testing.T, state string) {
+// runWitness runs in the child process: it serves a witness until the process is killed.
+func runWitness(t *testing.T, state string) {
 	folder := os.Getenv("WITNESS_TEST_FOLDER")
 	text, err := os.ReadFile(filepath.Join(folder, "key.pem"))
 	must(t, err)
@@ -246,12 +247,11 @@ func serve(t *testing.T, state string) {
 	must(t, http.Serve(listener, s))
 }
 
-// TestKilledAnywhere has two processes of one witness answer over one lock. They are asked at once for two heads
-// that fork, while one of them is killed (-9) at a random time and replaced. In each round one of the heads is
-// cosigned, and the other never is.
+// TestKilledAnywhere runs two processes of one witness over one lock. They are asked at once for two heads that fork,
+// while one of them is killed (-9) at a random time and replaced. In each round only one of the heads is ever cosigned.
 func TestKilledAnywhere(t *testing.T) {
-	if state := os.Getenv(servesAt); state != "" {
-		serve(t, state)
+	if state := os.Getenv(servedState); state != "" {
+		runWitness(t, state)
 		return
 	}
 	by, folder := plainKey(t, origin), t.TempDir()
@@ -260,18 +260,18 @@ func TestKilledAnywhere(t *testing.T) {
 	must(t, os.WriteFile(filepath.Join(folder, "key.pem"), pem.EncodeToMemory(&pem.Block{Type: "PRIVATE KEY",
 		Bytes: der}), 0o600))
 	must(t, os.WriteFile(filepath.Join(folder, "key"), []byte(by.text), 0o600))
-	first, again := forks(t, by)
-	onEach(t, func(t *testing.T, anew func() string) {
+	first, again := forkRequests(t, by)
+	onEachLock(t, func(t *testing.T, newAddress func() string) {
 		for round := 0; round < 6; round++ {
-			killedSomewhere(t, round, folder, anew(), first, again)
+			killedSomewhere(t, round, folder, newAddress(), first, again)
 		}
 	})
 }
 
 func killedSomewhere(t *testing.T, round int, folder, state string, first, again [2][]byte) {
-	processes := []served{serves(t, folder, state), serves(t, folder, state)}
-	var cosigned counted
-	ask := func(of served, head int, body []byte) int {
+	processes := []witnessProcess{startWitness(t, folder, state), startWitness(t, folder, state)}
+	var cosigned forkCounts
+	ask := func(of witnessProcess, head int, body []byte) int {
 		answer, err := http.Post(of.url+"/add-checkpoint", "", strings.NewReader(string(body)))
 		if err != nil {
 			return 0
@@ -292,34 +292,34 @@ func killedSomewhere(t *testing.T, round int, folder, state string, first, again
 		}(i)
 	}
 	time.Sleep(time.Duration(rand.Int63n(int64(100 * time.Millisecond))))
-	processes[0].ends()
+	processes[0].kill()
 	all.Wait()
-	processes[0] = serves(t, folder, state)
+	processes[0] = startWitness(t, folder, state)
 	for ctx := limited(t); ; {
 		// After a kill there may be no stored state yet.
-		came := []int{ask(processes[0], 0, first[0]), ask(processes[1], 1, first[1])}
+		statuses := []int{ask(processes[0], 0, first[0]), ask(processes[1], 1, first[1])}
 		for _, of := range processes {
 			for head := range again {
-				came = append(came, ask(of, head, again[head]))
+				statuses = append(statuses, ask(of, head, again[head]))
 			}
 		}
-		if cosigned.given[0]+cosigned.given[1] > 0 {
+		if cosigned.counts[0]+cosigned.counts[1] > 0 {
 			break
 		}
 		if ctx.Err() != nil {
-			t.Fatalf("nothing is cosigned: %v", came)
+			t.Fatalf("nothing is cosigned: %v", statuses)
 		}
 	}
-	cosigned.one(t, round)
+	cosigned.checkOnlyOne(t, round)
 }
 
 // TestEngineDies kills (-9) an engine, and starts it again, while a witness is asked for a log's heads and for forks of
-// them. All that it cosigned is of one list, and the log goes on.
+// them. All that it cosigned is of one list, and the log grows further.
 func TestEngineDies(t *testing.T) {
 	again := strings.Fields(os.Getenv("STORES_AGAIN"))
 	for kind, process := range map[string]string{"etcd": "etcd", "postgres": "postgres"} {
-		address, there := grounds()[kind]
-		if !there || len(again) == 0 {
+		address, isAvailable := lockKinds()[kind]
+		if !isAvailable || len(again) == 0 {
 			continue
 		}
 		t.Run(kind, func(t *testing.T) {
@@ -329,9 +329,9 @@ func TestEngineDies(t *testing.T) {
 	}
 }
 
-func engineDies(t *testing.T, at string, words []string, command string) {
+func engineDies(t *testing.T, address string, arguments []string, command string) {
 	by := headKey(t, origin)
-	s := witnessOver(t, lockAt(t, at), newKey(t), by)
+	s := witnessOver(t, lockAt(t, address), newKey(t), by)
 	ctx, cancel := context.WithTimeout(context.Background(), testutil.Longest)
 	defer cancel()
 	killed := make(chan error, 1)
@@ -339,7 +339,7 @@ func engineDies(t *testing.T, at string, words []string, command string) {
 		var err error
 		for kill := 0; kill < 2 && err == nil; kill++ {
 			time.Sleep(time.Second)
-			if out, failed := exec.CommandContext(ctx, command, words...).CombinedOutput(); failed != nil {
+			if out, failed := exec.CommandContext(ctx, command, arguments...).CombinedOutput(); failed != nil {
 				err = fmt.Errorf("%w: %s", failed, out)
 			}
 		}
@@ -354,21 +354,22 @@ func engineDies(t *testing.T, at string, words []string, command string) {
 		default:
 		}
 		if ctx.Err() != nil {
-			t.Fatalf("it stands at %d entries", last)
+			t.Fatalf("not finished in time: %d entries are cosigned", last)
 		}
 		size := int64(len(texts))
-		one, other := grown(t, texts...), grown(t, append(append([]string{}, texts[:len(texts)-1]...), "fork")...)
+		one := leavesOf(t, texts...)
+		other := leavesOf(t, append(append([]string{}, texts[:len(texts)-1]...), "fork")...)
 		proof := func(of *leaves) [][32]byte {
 			if last == 0 {
 				return nil
 			}
 			return of.proof(t, last, size)
 		}
-		w := posted(t, s, request(last, proof(one), by.sign(checkpoint(origin, size, one.root(t, size)))))
+		w := post(t, s, request(last, proof(one), by.sign(checkpoint(origin, size, one.root(t, size)))))
 		switch {
 		case w.Code == 200 || w.Code == 409 && w.Body.String() == fmt.Sprintf("%d\n", size):
-			// (it is kept, also where the answer to that was lost)
-			if f := posted(t, s, request(last, proof(other),
+			// Status 409 means that the head was stored, and the response was lost.
+			if f := post(t, s, request(last, proof(other),
 				by.sign(checkpoint(origin, size, other.root(t, size))))); f.Code != 409 && f.Code != 503 {
 				t.Errorf("a fork of %d entries: %d %s", size, f.Code, f.Body)
 			}

@@ -9,15 +9,15 @@ import (
 	"github.com/prometheus/client_golang/prometheus/promhttp"
 )
 
-// metrics are what Prometheus reads of a witness. Labels have the origins of the settings, statuses and the names of
-// refusals, and nothing that a client says.
+// metrics are the Prometheus metrics of a witness. Labels contain origins from the settings, statuses and names of
+// refusals, and nothing that a client sends.
 type metrics struct {
-	registry        *prometheus.Registry
-	requests        *prometheus.CounterVec
-	given, refusals *prometheus.CounterVec
-	size, last      *prometheus.GaugeVec
-	lost            prometheus.Counter
-	reloads         *prometheus.CounterVec
+	registry               *prometheus.Registry
+	requests               *prometheus.CounterVec
+	cosignatures, refusals *prometheus.CounterVec
+	entries, lastTime      *prometheus.GaugeVec
+	lostSwaps              prometheus.Counter
+	reloads                *prometheus.CounterVec
 }
 
 func newMetrics() *metrics {
@@ -28,39 +28,40 @@ func newMetrics() *metrics {
 		return prometheus.NewGaugeVec(prometheus.GaugeOpts{Name: name, Help: help}, []string{"origin"})
 	}
 	m := &metrics{
-		registry: prometheus.NewRegistry(),
-		requests: counter("ctwitness_requests_total", "Requests that were answered.", "status"),
-		given:    counter("ctwitness_cosignatures_total", "Cosignatures that were given.", "origin"),
+		registry:     prometheus.NewRegistry(),
+		requests:     counter("ctwitness_requests_total", "Requests that were answered.", "status"),
+		cosignatures: counter("ctwitness_cosignatures_total", "Cosignatures that were given.", "origin"),
 		refusals: counter("ctwitness_refusals_total", "Checkpoints that were refused, by the names of docs/WITNESS.md.",
 			"origin", "refused"),
-		size: gauge("ctwitness_entries", "Entries of the tree that was cosigned last."),
-		last: gauge("ctwitness_last_cosignature_seconds",
+		entries: gauge("ctwitness_entries", "Entries of the tree that was cosigned last."),
+		lastTime: gauge("ctwitness_last_cosignature_seconds",
 			"When the last cosignature was given, in seconds since 1970."),
-		lost: prometheus.NewCounter(prometheus.CounterOpts{Name: "ctwitness_lost_swaps_total",
+		lostSwaps: prometheus.NewCounter(prometheus.CounterOpts{Name: "ctwitness_lost_swaps_total",
 			Help: "Requests that were decided again after another one had changed the log's state."}),
 		reloads: counter("ctwitness_reloads_total", "Reloads of the settings' logs.", "outcome"),
 	}
-	m.registry.MustRegister(m.requests, m.given, m.refusals, m.size, m.last, m.lost, m.reloads,
+	m.registry.MustRegister(m.requests, m.cosignatures, m.refusals, m.entries, m.lastTime, m.lostSwaps, m.reloads,
 		collectors.NewGoCollector(), collectors.NewProcessCollector(collectors.ProcessCollectorOpts{}))
 	return m
 }
 
-func (m *metrics) kept(of state) {
-	m.size.WithLabelValues(of.origin).Set(float64(of.tree.TreeSize))
-	m.last.WithLabelValues(of.origin).Set(float64(of.tree.Time))
+// stored sets the gauges of a log to its stored state.
+func (m *metrics) stored(of state) {
+	m.entries.WithLabelValues(of.origin).Set(float64(of.tree.TreeSize))
+	m.lastTime.WithLabelValues(of.origin).Set(float64(of.tree.Time))
 }
 
-func (m *metrics) cosigned(origin string) { m.given.WithLabelValues(origin).Inc() }
+func (m *metrics) cosigned(origin string) { m.cosignatures.WithLabelValues(origin).Inc() }
 
 func (m *metrics) refused(origin, name string) { m.refusals.WithLabelValues(origin, name).Inc() }
 
-// forget takes a log's gauges away.
+// forget deletes the gauges of a log.
 func (m *metrics) forget(origin string) {
-	m.size.DeleteLabelValues(origin)
-	m.last.DeleteLabelValues(origin)
+	m.entries.DeleteLabelValues(origin)
+	m.lastTime.DeleteLabelValues(origin)
 }
 
-// Reloaded counts a reload of the settings' logs.
+// Reloaded counts a reload of the logs in the settings.
 func (s *Server) Reloaded(err error) {
 	outcome := "done"
 	if err != nil {
@@ -69,7 +70,7 @@ func (s *Server) Reloaded(err error) {
 	s.metrics.reloads.WithLabelValues(outcome).Inc()
 }
 
-// Operator answers an operator: /metrics and /healthz.
+// Operator returns the handler for the operator's calls, /metrics and /healthz.
 func (s *Server) Operator() http.Handler {
 	mux := http.NewServeMux()
 	mux.Handle("/metrics", promhttp.HandlerFor(s.metrics.registry,

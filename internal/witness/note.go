@@ -1,5 +1,5 @@
-// Package witness has both sides of C2SP tlog-witness: a witness over HTTP, whose decisions are proved code
-// (docs/WITNESS.md), and what a log asks several of them.
+// Package witness implements both sides of C2SP tlog-witness: a witness over HTTP, whose decisions are proved code
+// (docs/WITNESS.md), and the requests that a log sends to its witnesses.
 package witness
 
 import (
@@ -24,9 +24,11 @@ import (
 	"wagtenib/internal/signer"
 )
 
-// The bounds, and the types of keys that lines of signatures name (C2SP signed-note, tlog-cosignature, static-ct-api).
+// The limits of a request, and the types of keys in signature lines (C2SP signed-note, tlog-cosignature,
+// static-ct-api).
 const (
-	// MaxBody is how many bytes a request has, and MaxProof how many hashes (C2SP tlog-witness).
+	// MaxBody is the maximum number of bytes of a request, and MaxProof the maximum number of hashes in it (C2SP
+	// tlog-witness).
 	MaxBody  = 64 << 10
 	MaxProof = 63
 
@@ -36,14 +38,14 @@ const (
 
 // The kinds of errors in notes. Use errors.Is.
 var (
-	// ErrRequest: a text isn't a request's, or a note's.
+	// ErrRequest means that a text is neither a request nor a note.
 	ErrRequest = errors.New("witness: not a request")
-	// ErrKey: a text is no key of the kind.
+	// ErrKey means that a text is not a key of the expected kind.
 	ErrKey = errors.New("witness: no such key")
 )
 
-// Request is what add-checkpoint is asked: the size that the proof is from, the proof, and the signed note, whose text
-// is Text.
+// Request is an add-checkpoint request: the size of the tree from which the proof leads, the proof, and the signed
+// note. Text is the text of the note.
 type Request struct {
 	Old   uint64
 	Proof [][32]byte
@@ -51,26 +53,26 @@ type Request struct {
 	Text  string
 }
 
-// Origin is a checkpoint's first line; it may be empty.
+// Origin returns the first line of the checkpoint, which may be empty.
 func (r Request) Origin() string {
 	origin, _, _ := strings.Cut(r.Text, "\n")
 	return origin
 }
 
-// number reads a number as it is written: decimal, without leading zeros, below 2^63.
-func number(text string) (uint64, error) {
+// parseNumber reads a number in decimal, without leading zeros, below 2^63.
+func parseNumber(text string) (uint64, error) {
 	n, err := strconv.ParseUint(text, 10, 63)
 	if err != nil || strconv.FormatUint(n, 10) != text {
-		return 0, fmt.Errorf("%w: no number", ErrRequest)
+		return 0, fmt.Errorf("%w: a size is not a decimal number", ErrRequest)
 	}
 	return n, nil
 }
 
-// hash reads a hash of 32 bytes in base64.
-func hash(text string) (h [32]byte, err error) {
+// parseHash reads a hash of 32 bytes in base64.
+func parseHash(text string) (h [32]byte, err error) {
 	read, err := base64.StdEncoding.DecodeString(text)
 	if err != nil || len(read) != len(h) || base64.StdEncoding.EncodeToString(read) != text {
-		return h, fmt.Errorf("%w: no hash", ErrRequest)
+		return h, fmt.Errorf("%w: a hash is not 32 bytes in base64", ErrRequest)
 	}
 	return *(*[32]byte)(read), nil
 }
@@ -82,17 +84,17 @@ func ParseRequest(body []byte) (r Request, err error) {
 	}
 	head, signed, found := bytes.Cut(body, []byte("\n\n"))
 	if !found {
-		return r, fmt.Errorf("%w: no empty line", ErrRequest)
+		return r, fmt.Errorf("%w: there is no empty line before the note", ErrRequest)
 	}
 	lines := strings.Split(string(head), "\n")
 	if !strings.HasPrefix(lines[0], "old ") || len(lines) > 1+MaxProof {
-		return r, fmt.Errorf("%w: no old size, or more than %d hashes", ErrRequest, MaxProof)
+		return r, fmt.Errorf("%w: it has no old size, or more than %d hashes", ErrRequest, MaxProof)
 	}
-	if r.Old, err = number(strings.TrimPrefix(lines[0], "old ")); err != nil {
+	if r.Old, err = parseNumber(strings.TrimPrefix(lines[0], "old ")); err != nil {
 		return r, err
 	}
 	for _, line := range lines[1:] {
-		h, err := hash(line)
+		h, err := parseHash(line)
 		if err != nil {
 			return r, err
 		}
@@ -112,35 +114,35 @@ func (r Request) Body() []byte {
 	return append(append(body, '\n'), r.Note...)
 }
 
-// TextOf is the text of a signed note, whoever signed it.
+// TextOf returns the text of a signed note. It verifies no signature.
 func TextOf(signed []byte) (string, error) {
 	var unknown *note.UnverifiedNoteError
 	if _, err := note.Open(signed, nil); !errors.As(err, &unknown) {
-		return "", fmt.Errorf("%w: no signed note", ErrRequest)
+		return "", fmt.Errorf("%w: there is no signed note", ErrRequest)
 	}
 	return unknown.Note.Text, nil
 }
 
-// TreeOf is the tree of a checkpoint's text of three lines (C2SP tlog-checkpoint, without extension lines).
+// TreeOf returns the size and the root in a checkpoint of three lines (C2SP tlog-checkpoint, without extension lines).
 func TreeOf(text string) (size uint64, root [32]byte, err error) {
 	lines := strings.Split(text, "\n")
 	if len(lines) != 4 || lines[0] == "" || lines[3] != "" {
-		return 0, root, fmt.Errorf("%w: no checkpoint of three lines", ErrRequest)
+		return 0, root, fmt.Errorf("%w: the note is not a checkpoint of three lines", ErrRequest)
 	}
-	if size, err = number(lines[1]); err != nil {
+	if size, err = parseNumber(lines[1]); err != nil {
 		return 0, root, err
 	}
-	root, err = hash(lines[2])
+	root, err = parseHash(lines[2])
 	return size, root, err
 }
 
-// idOf names a key by its name, its type and its bytes (C2SP signed-note).
-func idOf(name string, kind byte, key []byte) uint32 {
+// keyID returns the ID of a key, which is a hash of its name, its type and its bytes (C2SP signed-note).
+func keyID(name string, kind byte, key []byte) uint32 {
 	sum := sha256.Sum256(append(append([]byte(name+"\n"), kind), key...))
 	return binary.BigEndian.Uint32(sum[:4])
 }
 
-// verifier is a key of a type that x/mod's note doesn't know.
+// verifier is a key of a type that x/mod's note package does not know.
 type verifier struct {
 	name   string
 	id     uint32
@@ -151,12 +153,12 @@ func (v verifier) Name() string                       { return v.name }
 func (v verifier) KeyHash() uint32                    { return v.id }
 func (v verifier) Verify(text, signature []byte) bool { return v.verify(text, signature) }
 
-// OfRFC6962 is the key of a log of RFC 6962 (type 5; a SubjectPublicKeyInfo of P-256 in DER): the signature is over the
-// tree head at the moment that its line says. Origin and extension lines aren't signed, so the one is compared, and of
-// the others there may be none.
+// OfRFC6962 returns the key of a log of RFC 6962 (type 5), which is a SubjectPublicKeyInfo of P-256 in DER. Such a
+// signature is over the tree head at the timestamp in the signature line. It covers neither the origin nor extension
+// lines, so Verify compares the origin and refuses extension lines.
 func OfRFC6962(origin string, der []byte) note.Verifier {
 	logID := sha256.Sum256(der)
-	return verifier{origin, idOf(origin, algRFC6962, logID[:]), func(text, signature []byte) bool {
+	return verifier{origin, keyID(origin, algRFC6962, logID[:]), func(text, signature []byte) bool {
 		size, root, err := TreeOf(string(text))
 		if err != nil || !bytes.HasPrefix(text, []byte(origin+"\n")) || len(signature) <= 8 {
 			return false
@@ -173,7 +175,7 @@ func LogKey(origin, text string) (note.Verifier, error) {
 	if block == nil {
 		key, err := note.NewVerifier(strings.TrimSpace(text))
 		if err != nil {
-			return nil, fmt.Errorf("%w: neither a verifier key of Ed25519 nor one in PEM", ErrKey)
+			return nil, fmt.Errorf("%w: it is neither an Ed25519 verifier key nor a key in PEM", ErrKey)
 		}
 		return key, nil
 	}
@@ -193,31 +195,32 @@ func LogKey(origin, text string) (note.Verifier, error) {
 			return OfRFC6962(origin, block.Bytes), nil
 		}
 	}
-	return nil, fmt.Errorf("%w: it is neither of Ed25519 nor of P-256", ErrKey)
+	return nil, fmt.Errorf("%w: it is neither an Ed25519 nor a P-256 key", ErrKey)
 }
 
-// Message is what a cosignature is over (C2SP tlog-cosignature, "cosignature/v1"): the moment in seconds, and the
-// checkpoint's text.
+// Message returns the bytes that a cosignature signs (C2SP tlog-cosignature, "cosignature/v1"). They contain the
+// timestamp in seconds and the checkpoint's text.
 func Message(seconds uint64, text string) []byte {
 	return []byte("cosignature/v1\ntime " + strconv.FormatUint(seconds, 10) + "\n" + text)
 }
 
-// OfCosigner is a witness's key (type 4): the signature's line says the moment, and the signature is over Message.
+// OfCosigner returns the key of a witness (type 4). The signature line contains the timestamp, and the signature is
+// over Message.
 func OfCosigner(name string, key ed25519.PublicKey) note.Verifier {
-	return verifier{name, idOf(name, algCosignature, key), func(text, signature []byte) bool {
+	return verifier{name, keyID(name, algCosignature, key), func(text, signature []byte) bool {
 		return len(signature) == 8+ed25519.SignatureSize && ed25519.Verify(key,
 			Message(binary.BigEndian.Uint64(signature[:8]), string(text)), signature[8:])
 	}}
 }
 
-// cosignatureLine is a cosignature as a line of a note.
+// cosignatureLine returns a cosignature as a line of a note.
 func cosignatureLine(name string, key ed25519.PublicKey, seconds uint64, signature []byte) string {
-	blob := binary.BigEndian.AppendUint32(nil, idOf(name, algCosignature, key))
+	blob := binary.BigEndian.AppendUint32(nil, keyID(name, algCosignature, key))
 	blob = append(binary.BigEndian.AppendUint64(blob, seconds), signature...)
 	return "— " + name + " " + base64.StdEncoding.EncodeToString(blob) + "\n"
 }
 
-// MomentOf reads whose a cosignature's line is, and its moment; nothing where it is none.
+// TimestampOf returns the name of the witness and the timestamp in a cosignature line. ok is false for any other line.
 func TimestampOf(line string) (name string, at time.Time, ok bool) {
 	name, text, _ := strings.Cut(strings.TrimPrefix(line, "— "), " ")
 	blob, err := base64.StdEncoding.DecodeString(text)
@@ -227,24 +230,24 @@ func TimestampOf(line string) (name string, at time.Time, ok bool) {
 	return name, time.Unix(int64(binary.BigEndian.Uint64(blob[4:12])), 0), true
 }
 
-// VerifierKey writes a witness's key: its name, its key's four bytes in hexadecimal, and base64 of the type and the
-// key.
+// VerifierKey returns a witness's key as text: its name, the four bytes of its key ID in hexadecimal, and base64 of the
+// type and the key.
 func VerifierKey(name string, key ed25519.PublicKey) string {
-	return fmt.Sprintf("%s+%08x+%s", name, idOf(name, algCosignature, key),
+	return fmt.Sprintf("%s+%08x+%s", name, keyID(name, algCosignature, key),
 		base64.StdEncoding.EncodeToString(append([]byte{algCosignature}, key...)))
 }
 
-// ReadVerifierKey reads one.
+// ReadVerifierKey reads the text that VerifierKey returns.
 func ReadVerifierKey(text string) (name string, key ed25519.PublicKey, err error) {
 	name, rest, _ := strings.Cut(text, "+")
 	id, written, _ := strings.Cut(rest, "+")
 	raw, err := base64.StdEncoding.DecodeString(written)
 	if err != nil || len(raw) != 1+ed25519.PublicKeySize || raw[0] != algCosignature || !isName(name) {
-		return "", nil, fmt.Errorf("%w: no verifier key of a witness", ErrKey)
+		return "", nil, fmt.Errorf("%w: it is not a verifier key of a witness", ErrKey)
 	}
 	if given, err := hex.DecodeString(id); err != nil || len(given) != 4 ||
-		binary.BigEndian.Uint32(given) != idOf(name, algCosignature, raw[1:]) {
-		return "", nil, fmt.Errorf("%w: a verifier key of another name or key", ErrKey)
+		binary.BigEndian.Uint32(given) != keyID(name, algCosignature, raw[1:]) {
+		return "", nil, fmt.Errorf("%w: the ID in the verifier key is not that of its name and key", ErrKey)
 	}
 	return name, raw[1:], nil
 }
@@ -255,7 +258,7 @@ func isName(name string) bool {
 		strings.TrimSpace(name) == name
 }
 
-// ReadKey reads a witness's private key out of PEM: Ed25519, as openssl genpkey writes it.
+// ReadKey reads a witness's private key in PEM: an Ed25519 key as openssl genpkey writes it.
 func ReadKey(text []byte) (ed25519.PrivateKey, error) {
 	block, _ := pem.Decode(text)
 	if block == nil || block.Type != "PRIVATE KEY" {

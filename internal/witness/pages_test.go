@@ -6,8 +6,7 @@ import (
 	"wagtenib/internal/testutil"
 )
 
-// TestPageSaysBounds: the bounds that docs/SERVICE.md says of a witness, and of a log with witnesses, are those that
-// are here.
+// TestPageSaysBounds checks that docs/SERVICE.md states the limits of a witness that the code has.
 func TestPageSaysBounds(t *testing.T) {
 	testutil.Says(t, testutil.Page(t, "../../docs/SERVICE.md"), map[string]bool{
 		"A request, `POST /add-checkpoint`, has at most 64 KiB and 63 hashes": MaxBody == 64<<10 &&

@@ -7,17 +7,17 @@ import (
 	"strings"
 )
 
-// ErrQuorum: the quorums of a log's witnesses are impossible, or two of its witnesses are one.
+// ErrQuorum means that the quorums of a log's witnesses are impossible, or that two of its witnesses are the same.
 var ErrQuorum = errors.New("witness: impossible quorums")
 
-// One is a witness that a log asks.
+// One is a witness to which a log sends its heads.
 type One struct {
-	// URL is what comes before /add-checkpoint.
+	// URL is the part before /add-checkpoint.
 	URL, Name string
 	Key       ed25519.PublicKey
 }
 
-// ReadOne reads a witness: its URL, a comma, and its verifier key.
+// ReadOne reads a witness from a text with its URL, a comma, and its verifier key.
 func ReadOne(text string) (one One, err error) {
 	url, key, _ := strings.Cut(text, ",")
 	if !strings.HasPrefix(url, "http://") && !strings.HasPrefix(url, "https://") {
@@ -28,8 +28,8 @@ func ReadOne(text string) (one One, err error) {
 	return one, err
 }
 
-// CheckDistinct returns ErrQuorum if two witnesses have the same name, key or URL. A witness that counts twice is no
-// quorum.
+// CheckDistinct returns ErrQuorum if two witnesses have the same name, key or URL, because one witness must not count
+// twice.
 func CheckDistinct(all []One) error {
 	seen := map[string]bool{}
 	for _, one := range all {
@@ -48,11 +48,11 @@ func CheckDistinct(all []One) error {
 // with which a node starts, and at most Faults are faulty.
 type Quorums struct{ Publish, Start, Faults int }
 
-// IsSafe reports whether any two heads that quorums of so many witnesses cosigned are of one list of entries
-// (docs/WITNESS.md: is_safe).
+// IsSafe reports whether quorums of this many witnesses are safe: any two heads that they cosign belong to one list of
+// entries (docs/WITNESS.md: is_safe).
 func (q Quorums) IsSafe(witnesses int) bool { return witnesses+q.Faults < q.Start+q.Publish }
 
-// Check returns ErrQuorum unless so many witnesses can have these quorums, and the quorums are safe.
+// Check returns ErrQuorum unless this many witnesses can have these quorums, and the quorums are safe.
 func (q Quorums) Check(witnesses int) error {
 	n := witnesses
 	if q.Publish < 1 || q.Start < 1 || q.Faults < 0 || q.Publish > n || q.Start > n || !q.IsSafe(n) {

@@ -16,7 +16,7 @@ import (
 	"wagtenib/internal/stores"
 )
 
-// subsets are those of n witnesses, as bits.
+// subsets returns the subsets of n witnesses, as bits.
 func subsets(n int) (all []uint) {
 	for set := uint(0); set < 1<<n; set++ {
 		all = append(all, set)
@@ -24,25 +24,25 @@ func subsets(n int) (all []uint) {
 	return all
 }
 
-// TestIsSafe: quorums are safe exactly where each two of their sets have one witness more in common than may be faulty,
-// for all small numbers. (laws::quorums and laws::bound of ct_witness are of the same.)
+// TestIsSafe checks, for all small numbers, that quorums are safe exactly if any two of their sets have more witnesses
+// in common than may be faulty. (laws::quorums and laws::bound of ct_witness prove the same.)
 func TestIsSafe(t *testing.T) {
 	for n := 1; n <= 6; n++ {
 		for start := 1; start <= n; start++ {
 			for publish := 1; publish <= n; publish++ {
-				least := n
+				minCommon := n
 				for _, a := range subsets(n) {
 					for _, b := range subsets(n) {
-						if bits.OnesCount(a) == start && bits.OnesCount(b) == publish && bits.OnesCount(a&b) < least {
-							least = bits.OnesCount(a & b)
+						if bits.OnesCount(a) == start && bits.OnesCount(b) == publish && bits.OnesCount(a&b) < minCommon {
+							minCommon = bits.OnesCount(a & b)
 						}
 					}
 				}
 				for faults := 0; faults <= n+1; faults++ {
 					if safe := (Quorums{Publish: publish, Start: start, Faults: faults}).IsSafe(
-						n); safe != (least > faults) {
+						n); safe != (minCommon > faults) {
 						t.Errorf("%d witnesses, %d start, %d publish, %d faulty: %t, and two sets have %d in common", n,
-							start, publish, faults, safe, least)
+							start, publish, faults, safe, minCommon)
 					}
 				}
 			}
@@ -50,23 +50,23 @@ func TestIsSafe(t *testing.T) {
 	}
 }
 
-// held is a lock in memory. Each call first calls `does`, which may change the text, or fail instead of the call.
-type held struct {
+// memoryLock is a lock in memory. Each call first calls hook, which may change the text, or fail instead of the call.
+type memoryLock struct {
 	stores.Lock
 	mu   sync.Mutex
 	text string
-	does func(call string) error
+	hook func(call string) error
 }
 
-func (h *held) begins(call string) error {
-	if h.does == nil {
+func (h *memoryLock) callHook(call string) error {
+	if h.hook == nil {
 		return nil
 	}
-	return h.does(call)
+	return h.hook(call)
 }
 
-func (h *held) Create(_ context.Context, text string) error {
-	if err := h.begins("create"); err != nil {
+func (h *memoryLock) Create(_ context.Context, text string) error {
+	if err := h.callHook("create"); err != nil {
 		return err
 	}
 	h.mu.Lock()
@@ -78,8 +78,8 @@ func (h *held) Create(_ context.Context, text string) error {
 	return nil
 }
 
-func (h *held) Read(context.Context) (string, error) {
-	if err := h.begins("read"); err != nil {
+func (h *memoryLock) Read(context.Context) (string, error) {
+	if err := h.callHook("read"); err != nil {
 		return "", err
 	}
 	h.mu.Lock()
@@ -87,8 +87,8 @@ func (h *held) Read(context.Context) (string, error) {
 	return h.text, nil
 }
 
-func (h *held) Swap(_ context.Context, old, next string) error {
-	if err := h.begins("swap"); err != nil {
+func (h *memoryLock) Swap(_ context.Context, old, next string) error {
+	if err := h.callHook("swap"); err != nil {
 		return err
 	}
 	h.mu.Lock()
@@ -100,10 +100,10 @@ func (h *held) Swap(_ context.Context, old, next string) error {
 	return nil
 }
 
-func (h *held) Close() error { return nil }
+func (h *memoryLock) Close() error { return nil }
 
-// stands sets a witness's state to a head of a log.
-func (h *held) stands(t testing.TB, of *leaves, size int64) {
+// setHead sets a witness's state to a head of a log.
+func (h *memoryLock) setHead(t testing.TB, of *leaves, size int64) {
 	last, err := readMessage(Message(1, checkpoint(origin, size, of.root(t, size))), origin)
 	must(t, err)
 	text, err := last.text()
@@ -113,118 +113,119 @@ func (h *held) stands(t testing.TB, of *leaves, size int64) {
 	h.mu.Unlock()
 }
 
-// shown is the list of entries of a log, with the key by which it signs heads.
-type shown struct {
+// signedList is the list of entries of a log, with the key that signs its heads.
+type signedList struct {
 	by signing
 	of *leaves
 }
 
-// parties are three witnesses with their states, and a log that had five entries and was rolled back to three: its head
-// then, and one of a fork.
-type parties struct {
+// rollback is a log that had five entries and was rolled back to three, and three witnesses with their states. It has
+// the log's head then, and a head of a fork.
+type rollback struct {
 	all    []*Server
-	states []*held
-	// lying are the witnesses that cosign whatever they are shown, as bits.
+	states []*memoryLock
+	// lying has the witnesses that cosign whatever they are shown, as bits.
 	lying     uint
 	one       *leaves
-	old, fork shown
+	old, fork signedList
 }
 
-// TestNoQuorumStartsAnOldLog: three witnesses have cosigned a head of 5 entries, and some of them are then rolled back
-// to 3 entries, or lie. A log that was rolled back to 3 entries as a whole does not start, whichever witnesses answer.
-// A log that forked after these 3 entries does not start either. If one witness more is faulty than allowed, it can
-// start.
+// TestNoQuorumStartsAnOldLog checks quorums of three witnesses, some of which cosigned a head of 5 entries. Some of
+// them are then rolled back to 3 entries, or lie. A log that was rolled back to 3 entries does not start, whichever
+// witnesses answer. A log that forked after these 3 entries does not start either. If one witness more is faulty than
+// allowed, an old log can start.
 func TestNoQuorumStartsAnOldLog(t *testing.T) {
 	by := headKey(t, origin)
-	p := &parties{one: grown(t, "a", "b", "c", "d", "e")}
-	p.old, p.fork = shown{by, p.one}, shown{by, grown(t, "a", "b", "c", "x", "y", "z")}
+	p := &rollback{one: leavesOf(t, "a", "b", "c", "d", "e")}
+	p.old, p.fork = signedList{by, p.one}, signedList{by, leavesOf(t, "a", "b", "c", "x", "y", "z")}
 	for i := 1; i <= 3; i++ {
 		s, err := New(Options{Name: fmt.Sprintf("w%d.example", i), Key: newKey(t)})
 		must(t, err)
-		state := &held{}
+		state := &memoryLock{}
 		s.SetLogs([]Log{{Origin: origin, Keys: []note.Verifier{by.key}, State: state}})
 		p.all, p.states = append(p.all, s), append(p.states, state)
 	}
 	for publish := 1; publish <= 3; publish++ {
 		for start := 1; start <= 3; start++ {
-			most := publish + start - 4
-			for faults := 0; faults <= most; faults++ {
-				if began := p.starts(t, Quorums{publish, start, faults}); began > 0 {
+			maxFaults := publish + start - 4
+			for faults := 0; faults <= maxFaults; faults++ {
+				if starts := p.countStarts(t, Quorums{publish, start, faults}); starts > 0 {
 					t.Errorf("%d publish, %d start, %d faulty: an old log started %d times", publish,
-						start, faults, began)
+						start, faults, starts)
 				}
 			}
-			if most >= -1 && p.starts(t, Quorums{publish, start, most + 1}) == 0 {
+			if maxFaults >= -1 && p.countStarts(t, Quorums{publish, start, maxFaults + 1}) == 0 {
 				t.Errorf("%d publish, %d start, %d faulty: the bound is not exact: no old log started",
-					publish, start, most+1)
+					publish, start, maxFaults+1)
 			}
 		}
 	}
 }
 
-// starts counts how often an old log starts, over all sets of witnesses that cosigned the newest head, are faulty, and
-// answer.
-func (p *parties) starts(t *testing.T, q Quorums) (began int) {
+// countStarts returns how often an old log starts, over all sets of witnesses that cosigned the newest head, are
+// faulty, and answer.
+func (p *rollback) countStarts(t *testing.T, q Quorums) (starts int) {
 	for _, cosigned := range subsets(3) {
 		for _, faulty := range subsets(3) {
 			if bits.OnesCount(cosigned) != q.Publish || bits.OnesCount(faulty) != q.Faults {
 				continue
 			}
 			for _, p.lying = range []uint{0, faulty} {
-				began += p.begins(t, q, cosigned&^faulty)
+				starts += p.countStartsWith(t, q, cosigned&^faulty)
 			}
 		}
 	}
-	return began
+	return starts
 }
 
-// startsAgain has a witness know its stored state only, as one that was restored and started again. A witness that runs
+// forgetSeen makes a witness know only its stored state, as if it was restored and started again. A running witness
 // would refuse the older state.
-func (s *Server) startsAgain() {
+func (s *Server) forgetSeen() {
 	s.mu.Lock()
 	defer s.mu.Unlock()
 	s.seen = map[string]state{}
 }
 
-// begins counts how often an old log starts, over all sets of witnesses that may answer. Those that know better have
-// the newest head, and the others the old one. As in the node, enough must cosign, and none may say that it saw more.
-func (p *parties) begins(t *testing.T, q Quorums, know uint) (began int) {
+// countStartsWith returns how often an old log starts, over all sets of witnesses that may answer. The witnesses in
+// know have the newest head, and the others the old one. As in the node, enough must cosign, and none may answer that
+// it saw more entries.
+func (p *rollback) countStartsWith(t *testing.T, q Quorums, know uint) (starts int) {
 	for _, answering := range subsets(3) {
-		for size, old := range map[int64]shown{3: p.old, 6: p.fork} {
+		for size, old := range map[int64]signedList{3: p.old, 6: p.fork} {
 			given := 0
 			for i, s := range p.all {
-				p.states[i].stands(t, p.one, 3+2*int64(know>>i&1))
-				s.startsAgain()
+				p.states[i].setHead(t, p.one, 3+2*int64(know>>i&1))
+				s.forgetSeen()
 				if answering>>i&1 == 1 && (p.lying>>i&1 == 1 || cosigns(t, s, old, size)) {
 					given++
 				}
 			}
 			if given >= q.Start && given == bits.OnesCount(answering) {
-				began++
+				starts++
 			}
 		}
 	}
-	return began
+	return starts
 }
 
-// cosigns reports whether a witness cosigns a head. It is asked from no entries, and then from the size that it
-// answers.
-func cosigns(t *testing.T, s *Server, of shown, size int64) bool {
+// cosigns reports whether a witness cosigns a head. The witness is asked from no entries, and then from the size that
+// it answers.
+func cosigns(t *testing.T, s *Server, of signedList, size int64) bool {
 	signed := of.by.sign(checkpoint(origin, size, of.of.root(t, size)))
-	w := posted(t, s, request(0, nil, signed))
+	w := post(t, s, request(0, nil, signed))
 	if w.Code == http.StatusConflict {
-		seen, err := number(strings.TrimSuffix(w.Body.String(), "\n"))
+		seen, err := parseNumber(strings.TrimSuffix(w.Body.String(), "\n"))
 		must(t, err)
 		if seen > uint64(size) {
 			return false
 		}
-		w = posted(t, s, request(int64(seen), of.of.proof(t, int64(seen), size), signed))
+		w = post(t, s, request(int64(seen), of.of.proof(t, int64(seen), size), signed))
 	}
 	return w.Code == http.StatusOK
 }
 
-// TestQuorums: quorums are refused if no honest witness is in all of them, and two witnesses are refused if they are
-// one.
+// TestQuorums checks that quorums are refused if no honest witness is in all of them, and that two witnesses are
+// refused if they have the same name, key or URL.
 func TestQuorums(t *testing.T) {
 	var ones []One
 	for i := 0; i < 4; i++ {

@@ -17,29 +17,30 @@ import (
 )
 
 const (
-	// maxTries is how often a request is decided where others move the state, and how often a swap of unknown outcome
-	// is made.
+	// maxTries is the maximum number of decisions for one request while other requests change the state, and the
+	// maximum number of tries of a swap of unknown outcome.
 	maxTries = 5
-	// maxAtOnce is how many requests are taken at once, and answersWithin how long one may take.
-	maxAtOnce     = 64
-	answersWithin = 20 * time.Second
-	// maxLag is the number of seconds that the clock may be behind the last cosignature's time. The next cosignature
-	// then has that time.
+	// maxConcurrent is the maximum number of requests that are answered at once, and requestTimeout the time that one
+	// may take.
+	maxConcurrent  = 64
+	requestTimeout = 20 * time.Second
+	// maxLag is the maximum number of seconds by which the clock may be behind the last cosignature's timestamp. The
+	// next cosignature then has that timestamp.
 	maxLag = 60
 )
 
 // The kinds of errors of a witness. Use errors.Is.
 var (
-	// ErrState: a log's state is missing, or isn't one of this log.
+	// ErrState means that a log's state is missing, or is not a state of this log.
 	ErrState = errors.New("witness: no state of the log")
-	// ErrDecision is the error of a decision that is not one of the request.
+	// ErrDecision means that a decision does not match its request.
 	ErrDecision = errors.New("witness: not a decision of the request")
-	// ErrClock: the clock is earlier than the last cosignature.
+	// ErrClock means that the clock is earlier than the last cosignature.
 	ErrClock = errors.New("witness: the clock went back")
 )
 
-// Log is a log to cosign. It has the keys of its notes and the lock of its state. If Accepted is not nil, the
-// witness cosigns only the tree that it returns, which a monitor accepted last.
+// Log is a log to cosign, with the keys that sign its notes and the lock that has its state. If Accepted is not nil, it
+// returns the tree that a monitor accepted last, and the witness cosigns only that tree.
 type Log struct {
 	Origin   string
 	Keys     []note.Verifier
@@ -47,9 +48,9 @@ type Log struct {
 	Accepted func() (size uint64, root [32]byte, err error)
 }
 
-// Create makes the state of a log that this witness never saw; stores.ErrExists where there is one.
+// Create stores the first state of a log that this witness never saw. It returns stores.ErrExists if there is a state.
 func (l Log) Create(ctx context.Context) error {
-	text, err := noState(l.Origin).text()
+	text, err := emptyState(l.Origin).text()
 	if err != nil {
 		return err
 	}
@@ -59,53 +60,54 @@ func (l Log) Create(ctx context.Context) error {
 	return nil
 }
 
-// Options are what a witness is.
+// Options has the settings of a witness.
 type Options struct {
 	Name string
 	Key  ed25519.PrivateKey
-	// Tell logs something that an operator must look at. A nil Tell logs nothing.
-	Tell func(event string, words ...any)
+	// Log logs an event that an operator must look at. A nil Log logs nothing.
+	Log func(event string, arguments ...any)
 }
 
-// Server is a witness. Its decisions are those of proved code, which keeps nothing: the last message goes in with each
-// request, and the next one comes out. It is kept, by a swap from the state that was read, before it is signed.
+// Server is a witness. Proved code makes its decisions and keeps no state: it receives the last message with each
+// request, and returns the next one. The next message is stored, by a swap that replaces the state that was read,
+// before it is signed.
 type Server struct {
-	of      Options
-	public  ed25519.PublicKey
-	decides decision // only tests have another one than the proved one
-	room    chan struct{}
-	metrics *metrics
-	// now is the clock, in seconds.
+	options  Options
+	public   ed25519.PublicKey
+	decision decision      // the proved one, except in tests
+	slots    chan struct{} // each request that is being answered has one
+	metrics  *metrics
+	// now returns the time in seconds since 1970.
 	now func() uint64
 
 	mu   sync.Mutex
 	logs map[string]*Log
-	// seen has the newest state of each origin that this process read or stored. The lock must not be older while
-	// the process runs.
+	// seen has the newest state of each origin that this process read or stored. While the process runs, the lock must
+	// not return an older one.
 	seen map[string]state
 }
 
-// New makes a witness of no logs.
-func New(of Options) (*Server, error) {
-	if !isName(of.Name) {
+// New returns a witness of no logs.
+func New(options Options) (*Server, error) {
+	if !isName(options.Name) {
 		return nil, fmt.Errorf("%w: a witness's name has neither spaces nor a plus sign", ErrKey)
 	}
-	if of.Tell == nil {
-		of.Tell = func(string, ...any) {}
+	if options.Log == nil {
+		options.Log = func(string, ...any) {}
 	}
 	s := &Server{
-		of: of, decides: proved, public: of.Key.Public().(ed25519.PublicKey), room: make(chan struct{}, maxAtOnce),
-		logs: map[string]*Log{}, seen: map[string]state{},
+		options: options, decision: provedDecision, public: options.Key.Public().(ed25519.PublicKey),
+		slots: make(chan struct{}, maxConcurrent), logs: map[string]*Log{}, seen: map[string]state{},
 		now: func() uint64 { return uint64(time.Now().Unix()) },
 	}
 	s.metrics = newMetrics()
 	return s, nil
 }
 
-// VerifierKey is what clients know the witness by.
-func (s *Server) VerifierKey() string { return VerifierKey(s.of.Name, s.public) }
+// VerifierKey returns the key by which clients verify the witness's cosignatures.
+func (s *Server) VerifierKey() string { return VerifierKey(s.options.Name, s.public) }
 
-// Check sees that a log's state is there, and is one of this log.
+// Check returns an error if a log's state is missing, or is not a state of this log.
 func (s *Server) Check(ctx context.Context, log Log) error {
 	text, err := log.State.Read(ctx)
 	if errors.Is(err, stores.ErrAbsent) {
@@ -116,12 +118,12 @@ func (s *Server) Check(ctx context.Context, log Log) error {
 	}
 	last, err := readState(text, log.Origin)
 	if err == nil {
-		s.metrics.kept(last)
+		s.metrics.stored(last)
 	}
 	return err
 }
 
-// SetLogs has these logs witnessed, and no others.
+// SetLogs sets the logs that are witnessed, in place of those before.
 func (s *Server) SetLogs(logs []Log) {
 	s.mu.Lock()
 	defer s.mu.Unlock()
@@ -143,25 +145,25 @@ func (s *Server) log(origin string) *Log {
 	return s.logs[origin]
 }
 
-// answer is a status, the type of what is answered with it, and its bytes.
+// answer is an HTTP response: its status, its media type and its text.
 type answer struct {
 	status int
 	kind   string
 	text   string
 }
 
-// textPlain is the type of all answers but a 409's.
+// textPlain is the media type of all answers except 409.
 const textPlain = "text/plain; charset=utf-8"
 
 func plain(status int, text string) answer { return answer{status, textPlain, text} }
 
-// failed answers with an error that is not the client's fault, and logs it.
-func (s *Server) failed(what, origin string, err error) answer {
-	s.of.Tell(what, "origin", origin, "fault", err)
-	return plain(http.StatusServiceUnavailable, what+"\n")
+// failed answers an error that is not the client's fault, and logs it.
+func (s *Server) failed(event, origin string, err error) answer {
+	s.options.Log(event, "origin", origin, "fault", err)
+	return plain(http.StatusServiceUnavailable, event+"\n")
 }
 
-// add answers add-checkpoint.
+// add answers an add-checkpoint request.
 func (s *Server) add(ctx context.Context, body []byte) answer {
 	r, err := ParseRequest(body)
 	if err != nil {
@@ -175,32 +177,33 @@ func (s *Server) add(ctx context.Context, body []byte) answer {
 		return plain(http.StatusForbidden, "no signature of a key of the log\n")
 	}
 	for try := 0; try < maxTries; try++ {
-		// Other requests may change the state, but it must never become older than what was seen before it is read.
+		// Other requests may change the state, but what is read here must not be older than what was seen before.
 		before := s.newestSeen(log.Origin)
 		text, err := log.State.Read(ctx)
 		if err != nil {
 			return s.failed("state", log.Origin, err)
 		}
-		came, again := s.decide(ctx, log, text, before, r)
+		reply, again := s.decide(ctx, log, text, before, r)
 		if !again {
-			return came
+			return reply
 		}
-		s.metrics.lost.Inc()
+		s.metrics.lostSwaps.Inc()
 	}
 	return plain(http.StatusServiceUnavailable, "busy\n")
 }
 
-// decide decides from a state that was read after `before` had been seen, and keeps the next one. It returns again if
-// the lock held another one by then.
-func (s *Server) decide(ctx context.Context, log *Log, text string, before state, r Request) (came answer, again bool) {
+// decide decides a request over a state that was read after `before` had been seen, and stores the next state. It
+// returns again if the lock has another state meanwhile.
+func (s *Server) decide(ctx context.Context, log *Log, text string, before state,
+	r Request) (reply answer, again bool) {
 	last, err := readState(text, log.Origin)
 	if err == nil {
-		err = checkNotBehind(last, before)
+		err = checkNotOlder(last, before)
 	}
 	if err != nil {
 		return s.failed("state", log.Origin, err), false
 	}
-	s.see(last)
+	s.remember(last)
 	now := s.now()
 	if now < last.tree.Time {
 		if now+maxLag < last.tree.Time {
@@ -213,8 +216,8 @@ func (s *Server) decide(ctx context.Context, log *Log, text string, before state
 	if err != nil {
 		return s.refused(last, err), false
 	}
-	if came, isUnread := s.unread(log, next.tree); isUnread {
-		return came, false
+	if reply, isUnread := s.unread(log, next.tree); isUnread {
+		return reply, false
 	}
 	switch err := swap(ctx, log.State, text, next); {
 	case errors.Is(err, stores.ErrLost):
@@ -222,13 +225,14 @@ func (s *Server) decide(ctx context.Context, log *Log, text string, before state
 	case err != nil:
 		return s.failed("state", log.Origin, err), false
 	}
-	s.see(next)
-	s.metrics.kept(next)
+	s.remember(next)
+	s.metrics.stored(next)
 	s.metrics.cosigned(log.Origin)
-	return plain(http.StatusOK, cosignatureLine(s.of.Name, s.public, now, ed25519.Sign(s.of.Key, next.message))), false
+	return plain(http.StatusOK, cosignatureLine(s.options.Name, s.public, now,
+		ed25519.Sign(s.options.Key, next.message))), false
 }
 
-// swap stores the next state. If the outcome is unknown it repeats the swap, which settles it.
+// swap stores the next state. If the outcome is unknown it repeats the swap, which determines the outcome.
 func swap(ctx context.Context, lock stores.Lock, old string, next state) error {
 	text, err := next.text()
 	if err != nil {
@@ -244,30 +248,30 @@ func swap(ctx context.Context, lock stores.Lock, old string, next state) error {
 
 // ServeHTTP answers POST /add-checkpoint.
 func (s *Server) ServeHTTP(w http.ResponseWriter, q *http.Request) {
-	came := s.take(w, q)
-	s.metrics.requests.WithLabelValues(strconv.Itoa(came.status)).Inc()
-	w.Header().Set("Content-Type", came.kind)
+	reply := s.respond(w, q)
+	s.metrics.requests.WithLabelValues(strconv.Itoa(reply.status)).Inc()
+	w.Header().Set("Content-Type", reply.kind)
 	w.Header().Set("Cache-Control", "no-store")
 	w.Header().Set("X-Content-Type-Options", "nosniff")
-	if came.status == http.StatusServiceUnavailable {
+	if reply.status == http.StatusServiceUnavailable {
 		w.Header().Set("Retry-After", "1")
 	}
-	w.WriteHeader(came.status)
-	// A client that left before its response asks again.
-	_, _ = io.WriteString(w, came.text)
+	w.WriteHeader(reply.status)
+	// A client that disconnected before its response asks again.
+	_, _ = io.WriteString(w, reply.text)
 }
 
-func (s *Server) take(w http.ResponseWriter, q *http.Request) answer {
+func (s *Server) respond(w http.ResponseWriter, q *http.Request) answer {
 	switch {
 	case q.URL.Path != "/add-checkpoint":
 		return plain(http.StatusNotFound, "no such call\n")
 	case q.Method != http.MethodPost:
 		w.Header().Set("Allow", http.MethodPost)
-		return plain(http.StatusMethodNotAllowed, "it takes POST\n")
+		return plain(http.StatusMethodNotAllowed, "only POST is allowed\n")
 	}
 	select {
-	case s.room <- struct{}{}:
-		defer func() { <-s.room }()
+	case s.slots <- struct{}{}:
+		defer func() { <-s.slots }()
 	default:
 		return plain(http.StatusServiceUnavailable, "busy\n")
 	}
@@ -277,9 +281,9 @@ func (s *Server) take(w http.ResponseWriter, q *http.Request) answer {
 		return plain(http.StatusRequestEntityTooLarge, "too long\n")
 	}
 	if err != nil {
-		return plain(http.StatusBadRequest, "the body breaks off\n")
+		return plain(http.StatusBadRequest, "the body is incomplete\n")
 	}
-	ctx, cancel := context.WithTimeout(q.Context(), answersWithin)
+	ctx, cancel := context.WithTimeout(q.Context(), requestTimeout)
 	defer cancel()
 	return s.add(ctx, body)
 }

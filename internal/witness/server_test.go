@@ -33,7 +33,7 @@ func limited(t testing.TB) context.Context { return testutil.Limited(t, testutil
 
 const origin = "log.example/1"
 
-// leaves are a list of leaves with its hashes, as x/mod keeps them.
+// leaves is a list of leaves with its hashes, in the order in which x/mod stores them.
 type leaves struct {
 	n      int64
 	hashes []tlog.Hash
@@ -46,8 +46,8 @@ func (l *leaves) ReadHashes(indexes []int64) (found []tlog.Hash, err error) {
 	return found, nil
 }
 
-// grown are leaves of these texts.
-func grown(t testing.TB, texts ...string) *leaves {
+// leavesOf returns the leaves with these texts.
+func leavesOf(t testing.TB, texts ...string) *leaves {
 	l := &leaves{}
 	for _, text := range texts {
 		hashes, err := tlog.StoredHashes(l.n, []byte(text), l)
@@ -75,7 +75,7 @@ func (l *leaves) proof(t testing.TB, from, to int64) (all [][32]byte) {
 	return all
 }
 
-// signing is a log's key: it signs a checkpoint's text.
+// signing is a log's key with a function that signs a checkpoint's text.
 type signing struct {
 	key note.Verifier
 	// text is the verifier key, if there is one.
@@ -87,7 +87,7 @@ func checkpoint(origin string, size int64, root tlog.Hash) string {
 	return fmt.Sprintf("%s\n%d\n%s\n", origin, size, base64.StdEncoding.EncodeToString(root[:]))
 }
 
-// plainKey signs notes as x/mod does (type 1).
+// plainKey returns a key that signs notes as x/mod does (type 1).
 func plainKey(t testing.TB, origin string) signing {
 	private, public, err := note.GenerateKey(rand.Reader, origin)
 	must(t, err)
@@ -102,7 +102,7 @@ func plainKey(t testing.TB, origin string) signing {
 	}}
 }
 
-// headKey signs tree heads (type 5).
+// headKey returns a key that signs tree heads (type 5).
 func headKey(t testing.TB, origin string) signing {
 	private, err := ecdsa.GenerateKey(elliptic.P256(), rand.Reader)
 	must(t, err)
@@ -134,12 +134,12 @@ func stateIn(t testing.TB, folder string) stores.Lock {
 	return r
 }
 
-// witnessOf is a witness of one log, whose state is in a folder.
+// witnessOf returns a witness of one log, whose state is in a folder.
 func witnessOf(t testing.TB, folder string, key ed25519.PrivateKey, by signing) *Server {
 	return witnessOver(t, stateIn(t, folder), key, by)
 }
 
-// witnessOver is one whose state is in this lock.
+// witnessOver returns a witness of one log, whose state is in a lock.
 func witnessOver(t testing.TB, state stores.Lock, key ed25519.PrivateKey, by signing) *Server {
 	s, err := New(Options{Name: "w.example", Key: key})
 	must(t, err)
@@ -152,8 +152,8 @@ func witnessOver(t testing.TB, state stores.Lock, key ed25519.PrivateKey, by sig
 	return s
 }
 
-// posted posts a body over HTTP.
-func posted(t testing.TB, s http.Handler, body []byte) *httptest.ResponseRecorder {
+// post sends a request to a witness, and returns the response.
+func post(t testing.TB, s http.Handler, body []byte) *httptest.ResponseRecorder {
 	w := httptest.NewRecorder()
 	s.ServeHTTP(w, httptest.NewRequest(http.MethodPost, "/add-checkpoint", strings.NewReader(string(body))))
 	return w
@@ -163,16 +163,16 @@ func request(old int64, proof [][32]byte, signed []byte) []byte {
 	return Request{Old: uint64(old), Proof: proof, Note: signed}.Body()
 }
 
-// cosignatureIn finds the witness's cosignature in an answer.
+// cosignatureIn checks that a line is the witness's cosignature of a text.
 func cosignatureIn(t testing.TB, s *Server, text, line string) {
 	t.Helper()
-	opened, err := note.Open([]byte(text+"\n"+line), note.VerifierList(OfCosigner(s.of.Name, s.public)))
+	opened, err := note.Open([]byte(text+"\n"+line), note.VerifierList(OfCosigner(s.options.Name, s.public)))
 	if err != nil || len(opened.Sigs) != 1 || len(opened.UnverifiedSigs) != 0 || opened.Text != text {
 		t.Fatalf("%q is no cosignature of %q: %v", line, text, err)
 	}
 }
 
-// TestAddCheckpoint has each status that a witness answers, for both types of keys.
+// TestAddCheckpoint checks each status that a witness answers, for both types of keys.
 func TestAddCheckpoint(t *testing.T) {
 	for kind, by := range map[string]signing{"plain": plainKey(t, origin), "head": headKey(t, origin)} {
 		by := by
@@ -181,7 +181,7 @@ func TestAddCheckpoint(t *testing.T) {
 }
 
 func addsCheckpoints(t *testing.T, by signing) {
-	one, other := grown(t, "a", "b", "c", "d", "e", "f", "g"), grown(t, "a", "b", "c", "x", "y", "z", "w")
+	one, other := leavesOf(t, "a", "b", "c", "d", "e", "f", "g"), leavesOf(t, "a", "b", "c", "x", "y", "z", "w")
 	head := func(of *leaves, n int64) string { return checkpoint(origin, n, of.root(t, n)) }
 	signed := func(of *leaves, n int64) []byte { return by.sign(head(of, n)) }
 	s := witnessOf(t, t.TempDir(), newKey(t), by)
@@ -194,7 +194,7 @@ func addsCheckpoints(t *testing.T, by signing) {
 	} else {
 		damaged[at] = 'A'
 	}
-	// Each is asked in order, and changes the state where it is 200.
+	// The requests are sent in this order. Only status 200 changes the state.
 	for _, test := range []struct {
 		name   string
 		body   []byte
@@ -206,7 +206,7 @@ func addsCheckpoints(t *testing.T, by signing) {
 		{"the first", request(0, nil, signed(one, 3)), 200, ""},
 		{"the same once more", request(3, nil, signed(one, 3)), 200, ""},
 		{"a proof between two that are one", request(3, some, signed(one, 3)), 422, "proof-not-empty\n"},
-		{"from nothing, behind the first", request(0, nil, signed(one, 5)), 409, "3\n"},
+		{"from nothing, after the first", request(0, nil, signed(one, 5)), 409, "3\n"},
 		{"without a proof", request(3, nil, signed(one, 5)), 422, "inconsistent "},
 		{"a proof of another list", request(3, other.proof(t, 3, 6), signed(one, 5)), 422, "inconsistent "},
 		{"grown", request(3, one.proof(t, 3, 5), signed(one, 5)), 200, ""},
@@ -229,7 +229,7 @@ func addsCheckpoints(t *testing.T, by signing) {
 			[]byte(strings.Replace(string(signed(one, 5)), head(one, 5), head(other, 5), 1))), 403, "no signature"},
 		{"grown once more", request(5, one.proof(t, 5, 7), signed(one, 7)), 200, ""},
 	} {
-		w := posted(t, s, test.body)
+		w := post(t, s, test.body)
 		kind := textPlain
 		if test.status == 409 {
 			kind = "text/x.tlog.size"
@@ -247,10 +247,10 @@ func addsCheckpoints(t *testing.T, by signing) {
 	}
 }
 
-// TestExtensionLines: below a signature of type 5 they aren't signed (403), and below one of type 1 there is no such
-// checkpoint here (400).
+// TestExtensionLines checks that extension lines are refused: a signature of type 5 does not cover them (403), and a
+// checkpoint with them and a signature of type 1 is not supported (400).
 func TestExtensionLines(t *testing.T) {
-	one := grown(t, "a", "b")
+	one := leavesOf(t, "a", "b")
 	text := checkpoint(origin, 2, one.root(t, 2))
 	head, plain := headKey(t, origin), plainKey(t, origin)
 	for _, test := range []struct {
@@ -262,19 +262,19 @@ func TestExtensionLines(t *testing.T) {
 		{403, head, []byte(strings.Replace(string(head.sign(text)), "\n\n", "\n\nmore\n\n", 1))},
 		{400, plain, plain.sign(text + "more\n")},
 	} {
-		if w := posted(t, witnessOf(t, t.TempDir(), newKey(t), test.by),
+		if w := post(t, witnessOf(t, t.TempDir(), newKey(t), test.by),
 			request(0, nil, test.signed)); w.Code != test.status {
-			t.Errorf("%d, and not %d: %s", w.Code, test.status, w.Body)
+			t.Errorf("status %d, expected %d: %s", w.Code, test.status, w.Body)
 		}
 	}
-	// The origin is not signed for types below 5, so a key belongs to one log.
+	// A signature of type 5 does not cover the origin, so the key compares it.
 	other := strings.Replace(string(head.sign(text)), origin, "other.example", 1)
 	if _, err := note.Open([]byte(other), note.VerifierList(head.key)); err == nil {
-		t.Error("a head of another log is taken")
+		t.Error("a head of another log is accepted")
 	}
 }
 
-// TestCalls: other calls than add-checkpoint and requests that are too long are refused.
+// TestCalls checks that requests to other paths, with other methods, and too long or too many requests are refused.
 func TestCalls(t *testing.T) {
 	s := witnessOf(t, t.TempDir(), newKey(t), plainKey(t, origin))
 	for _, test := range []struct {
@@ -289,28 +289,28 @@ func TestCalls(t *testing.T) {
 		w := httptest.NewRecorder()
 		s.ServeHTTP(w, httptest.NewRequest(test.method, test.path, strings.NewReader(test.body)))
 		if w.Code != test.status {
-			t.Errorf("%s %s: %d, and not %d", test.method, test.path, w.Code, test.status)
+			t.Errorf("%s %s: status %d, expected %d", test.method, test.path, w.Code, test.status)
 		}
 	}
-	for i := 0; i < maxAtOnce; i++ {
-		s.room <- struct{}{}
+	for i := 0; i < maxConcurrent; i++ {
+		s.slots <- struct{}{}
 	}
-	if w := posted(t, s, nil); w.Code != 503 || w.Header().Get("Retry-After") == "" {
+	if w := post(t, s, nil); w.Code != 503 || w.Header().Get("Retry-After") == "" {
 		t.Errorf("too many at once: %d", w.Code)
 	}
 }
 
-// TestOpenssl: openssl finds the cosignature right, over bytes and a key that are put together here.
+// TestOpenssl checks a cosignature by openssl, over a message and a key ID that this test builds itself.
 func TestOpenssl(t *testing.T) {
 	command, err := exec.LookPath("openssl")
 	if err != nil {
-		t.Skip("for want of openssl")
+		t.Skip("openssl is missing")
 	}
-	folder, by, one := t.TempDir(), headKey(t, origin), grown(t, "a", "b", "c")
+	folder, by, one := t.TempDir(), headKey(t, origin), leavesOf(t, "a", "b", "c")
 	pem := filepath.Join(folder, "key.pem")
-	run := func(words ...string) []byte {
+	run := func(arguments ...string) []byte {
 		t.Helper()
-		out, err := exec.Command(command, words...).Output()
+		out, err := exec.Command(command, arguments...).Output()
 		must(t, err)
 		return out
 	}
@@ -322,14 +322,14 @@ func TestOpenssl(t *testing.T) {
 	s := witnessOf(t, folder, key, by)
 	s.now = func() uint64 { return 1234567890 }
 	head := checkpoint(origin, 3, one.root(t, 3))
-	w := posted(t, s, request(0, nil, by.sign(head)))
-	words := strings.Fields(w.Body.String())
-	if w.Code != 200 || len(words) != 3 || words[0] != "—" || words[1] != "w.example" {
+	w := post(t, s, request(0, nil, by.sign(head)))
+	fields := strings.Fields(w.Body.String())
+	if w.Code != 200 || len(fields) != 3 || fields[0] != "—" || fields[1] != "w.example" {
 		t.Fatalf("%d %q", w.Code, w.Body)
 	}
-	blob, err := base64.StdEncoding.DecodeString(words[2])
+	blob, err := base64.StdEncoding.DecodeString(fields[2])
 	must(t, err)
-	// The key's four bytes, by the page of the field: SHA-256(NAME || 0x0A || 4 || key).
+	// C2SP signed-note defines the four bytes of the key ID: SHA-256(NAME || 0x0A || 4 || key).
 	public := run("pkey", "-in", pem, "-pubout", "-outform", "DER")
 	raw := public[len(public)-32:]
 	named := filepath.Join(folder, "named")
@@ -347,7 +347,7 @@ func TestOpenssl(t *testing.T) {
 	}
 }
 
-// swappedState is a state with something done before each swap, and after each that went well.
+// swappedState is a lock that calls functions before each swap, and after each swap that succeeded.
 type swappedState struct {
 	stores.Lock
 	before, after func()
@@ -362,47 +362,50 @@ func (s swappedState) Swap(ctx context.Context, old, new string) error {
 	return err
 }
 
-// TestStaleReader: a request that was decided with an outdated state signs nothing, even if it has the same tree.
+// TestStaleReader checks that a request that was decided over an outdated state signs nothing, even if the state has
+// the same tree.
 func TestStaleReader(t *testing.T) {
 	by, key, folder := headKey(t, origin), newKey(t), t.TempDir()
-	one := grown(t, "a", "b", "c", "d", "e")
+	one := leavesOf(t, "a", "b", "c", "d", "e")
 	signed := func(n int64) []byte { return by.sign(checkpoint(origin, n, one.root(t, n))) }
 	fast, once := witnessOf(t, folder, key, by), sync.Once{}
-	// Between the slow one's decision and its swap the fast one cosigns a later head.
+	// Between the decision and the swap of the slow witness, the fast one cosigns a later head.
 	state := swappedState{stateIn(t, folder), func() {
 		once.Do(func() {
-			if w := posted(t, fast, request(3, one.proof(t, 3, 5), signed(5))); w.Code != 200 {
+			if w := post(t, fast, request(3, one.proof(t, 3, 5), signed(5))); w.Code != 200 {
 				t.Errorf("%d %s", w.Code, w.Body)
 			}
 		})
 	}, func() {}}
 	slow := witnessOver(t, state, key, by)
-	if w := posted(t, fast, request(0, nil, signed(3))); w.Code != 200 {
+	if w := post(t, fast, request(0, nil, signed(3))); w.Code != 200 {
 		t.Fatalf("%d %s", w.Code, w.Body)
 	}
-	if w := posted(t, slow, request(3, nil, signed(3))); w.Code != 409 || w.Body.String() != "5\n" {
+	if w := post(t, slow, request(3, nil, signed(3))); w.Code != 409 || w.Body.String() != "5\n" {
 		t.Errorf("an older head is cosigned late: %d %s", w.Code, w.Body)
 	}
 }
 
-// TestStatePutBack has a log's state be put back below a running witness, as by a restored backup: it must cosign
-// neither a fork from there nor anything else until the newer state is back, and it must say why.
-func TestStatePutBack(t *testing.T) {
+// TestRefusesRolledBackState rolls a log's state back while a witness runs, as a restored backup does. The witness must
+// cosign neither a fork nor anything else until the newer state is back, and it must log the reason.
+func TestRefusesRolledBackState(t *testing.T) {
 	by, ctx, state := headKey(t, origin), limited(t), stateIn(t, t.TempDir())
-	one, fork := grown(t, "a", "b", "c", "d", "e"), grown(t, "a", "b", "c", "another", "e")
+	one, fork := leavesOf(t, "a", "b", "c", "d", "e"), leavesOf(t, "a", "b", "c", "another", "e")
 	signed := func(of *leaves, n int64) []byte { return by.sign(checkpoint(origin, n, of.root(t, n))) }
 	s := witnessOver(t, state, newKey(t), by)
-	var told []string
-	s.of.Tell = func(event string, words ...any) { told = append(told, fmt.Sprint(append([]any{event}, words...)...)) }
+	var logged []string
+	s.options.Log = func(event string, arguments ...any) {
+		logged = append(logged, fmt.Sprint(append([]any{event}, arguments...)...))
+	}
 	cosigns := func(old, n int64, of *leaves) int {
 		t.Helper()
-		w := posted(t, s, request(old, of.proof(t, old, n), signed(of, n)))
+		w := post(t, s, request(old, of.proof(t, old, n), signed(of, n)))
 		if w.Code == 503 && w.Body.String() != "state\n" {
 			t.Errorf("%s", w.Body)
 		}
 		return w.Code
 	}
-	if w := posted(t, s, request(0, nil, signed(one, 3))); w.Code != 200 {
+	if w := post(t, s, request(0, nil, signed(one, 3))); w.Code != 200 {
 		t.Fatalf("%d %s", w.Code, w.Body)
 	}
 	older, err := state.Read(ctx)
@@ -415,17 +418,17 @@ func TestStatePutBack(t *testing.T) {
 	must(t, state.Swap(ctx, newer, older))
 	for _, of := range []*leaves{fork, one} {
 		if status := cosigns(3, 4, of); status != 503 {
-			t.Errorf("over a state that was put back: %d", status)
+			t.Errorf("over a state that was rolled back: %d", status)
 		}
 	}
-	if len(told) != 2 || !strings.Contains(told[0], "it was put back") {
-		t.Errorf("it says %q", told)
+	if len(logged) != 2 || !strings.Contains(logged[0], "it was rolled back") {
+		t.Errorf("it logs %q", logged)
 	}
-	// At the newest size it must be the same tree, and the state must not be one of a log that was never cosigned.
-	never, err := noState(origin).text()
+	// Another tree of the newest size and the state of a log that was never cosigned are also refused.
+	never, err := emptyState(origin).text()
 	must(t, err)
 	must(t, state.Swap(ctx, older, never))
-	if w := posted(t, s, request(0, nil, signed(fork, 3))); w.Code != 503 {
+	if w := post(t, s, request(0, nil, signed(fork, 3))); w.Code != 503 {
 		t.Errorf("over the state of a log that was never cosigned: %d", w.Code)
 	}
 	last, err := readMessage(Message(s.now(), checkpoint(origin, 4, fork.root(t, 4))), origin)
@@ -438,6 +441,6 @@ func TestStatePutBack(t *testing.T) {
 	}
 	must(t, state.Swap(ctx, forked, newer))
 	if status := cosigns(4, 5, one); status != 200 {
-		t.Errorf("once the newer state is back: %d", status)
+		t.Errorf("after the newer state is back: %d", status)
 	}
 }

@@ -1,10 +1,11 @@
-// Client submits certificates to a log over HTTP by Google's library for clients of Certificate Transparency logs, and checks what is
-// answered: the signature of each signed certificate timestamp and tree head, each certificate's audit path, and that the head from
-// before its submission is of a beginning of the log.
+// Command client submits certificates to a log over HTTP with Google's client library for Certificate Transparency
+// logs, and checks the answers: the signature of each SCT and tree head, the audit path of each certificate, and that
+// the log before the submissions is a beginning of the log after them.
 //
 //	client -key FILE BASE CERTIFICATE..
 //
-// BASE is the log's address with a slash at its end; each CERTIFICATE is a file in DER, and FILE has the log's public key in PEM.
+// BASE is the log's address with a slash at its end. Each CERTIFICATE is a DER file. FILE has the log's public key in
+// PEM.
 package main
 
 import (
@@ -27,24 +28,25 @@ import (
 	"github.com/transparency-dev/merkle/rfc6962"
 )
 
-// Ends the program where it isn't as it has to be.
-func hold(right bool, what ...interface{}) {
-	if !right {
-		fmt.Fprintln(os.Stderr, append([]interface{}{"client:"}, what...)...)
+// check ends the program with a message unless a condition is true.
+func check(condition bool, message ...interface{}) {
+	if !condition {
+		fmt.Fprintln(os.Stderr, append([]interface{}{"client:"}, message...)...)
 		os.Exit(1)
 	}
 }
 
+// ok ends the program if there is an error.
 func ok(err error) {
-	hold(err == nil, err)
+	check(err == nil, err)
 }
 
-// Reads what is answered to a GET into value.
+// get reads the answer to a GET request into value.
 func get(address string, value interface{}) {
 	response, err := http.Get(address)
 	ok(err)
 	defer response.Body.Close()
-	hold(response.StatusCode == 200, address, response.Status)
+	check(response.StatusCode == 200, address, response.Status)
 	ok(json.NewDecoder(response.Body).Decode(value))
 }
 
@@ -53,19 +55,19 @@ func digest(data []byte) []byte {
 	return sum[:]
 }
 
-// The checks' own data, for one log.
+// checker checks one log.
 type checker struct {
 	base      string
 	log       *client.LogClient
 	signature *ct.SignatureVerifier
 }
 
-// The log at base, by the key in a file.
+// open returns the checker of the log at base, whose key is in a file.
 func open(base, file string) checker {
 	text, err := os.ReadFile(file)
 	ok(err)
 	block, _ := pem.Decode(text)
-	hold(block != nil, file, "is no key in PEM")
+	check(block != nil, file, "is not a key in PEM")
 	key, err := x509.ParsePKIXPublicKey(block.Bytes)
 	ok(err)
 	signature, err := ct.NewSignatureVerifier(key)
@@ -75,18 +77,18 @@ func open(base, file string) checker {
 	return checker{base, log, signature}
 }
 
-// The head that is answered, with its signature checked; over another size it doesn't hold.
+// head returns the log's tree head after verifying its signature, which must not be valid for another size.
 func (c checker) head() *ct.SignedTreeHead {
 	head, err := c.log.GetSTH(context.Background())
 	ok(err)
 	ok(c.signature.VerifySTHSignature(*head))
 	other := *head
 	other.TreeSize++
-	hold(c.signature.VerifySTHSignature(other) != nil, "a tree head's signature holds for another size")
+	check(c.signature.VerifySTHSignature(other) != nil, "a tree head's signature is valid for another size")
 	return head
 }
 
-// Submits a certificate, checks the signature of its timestamp, and gives its leaf.
+// submit submits a certificate, verifies the signature of its SCT, and returns its leaf.
 func (c checker) submit(certificate []byte) []byte {
 	timestamp, err := c.log.AddChain(context.Background(), []ct.ASN1Cert{{Data: certificate}})
 	ok(err)
@@ -95,14 +97,15 @@ func (c checker) submit(certificate []byte) []byte {
 	ok(c.signature.VerifySCTSignature(*timestamp, entry))
 	other := *timestamp
 	other.Timestamp++
-	hold(c.signature.VerifySCTSignature(other, entry) != nil, "a timestamp's signature holds for another moment")
+	check(c.signature.VerifySCTSignature(other, entry) != nil, "an SCT's signature is valid for another timestamp")
 	// The signed bytes are those of the leaf: version 0, then 0 for the type of both (RFC 6962, sections 3.2 and 3.4).
 	leaf, err := ct.SerializeSCTSignatureInput(*timestamp, entry)
 	ok(err)
 	return leaf
 }
 
-// Checks the audit path of a leaf to the head, and gives the leaf's index. It leads to no other root.
+// include checks the audit path of a leaf to the head, and returns the leaf's index. The path must not lead to another
+// root.
 func (c checker) include(leaf []byte, head *ct.SignedTreeHead) uint64 {
 	var answer struct {
 		LeafIndex uint64   `json:"leaf_index"`
@@ -113,11 +116,12 @@ func (c checker) include(leaf []byte, head *ct.SignedTreeHead) uint64 {
 	index, size, root := answer.LeafIndex, head.TreeSize, head.SHA256RootHash
 	ok(proof.VerifyInclusion(rfc6962.DefaultHasher, index, size, hash, answer.AuditPath, root[:]))
 	root[0] ^= 1
-	hold(proof.VerifyInclusion(rfc6962.DefaultHasher, index, size, hash, answer.AuditPath, root[:]) != nil, "an audit path leads to another root")
+	check(proof.VerifyInclusion(rfc6962.DefaultHasher, index, size, hash, answer.AuditPath, root[:]) != nil,
+		"an audit path leads to another root")
 	return index
 }
 
-// Checks that the first head is of a beginning of the second one's leaves.
+// extends checks that the first head's tree is the beginning of the second one's.
 func (c checker) extends(first, second *ct.SignedTreeHead) {
 	var answer struct {
 		Consistency [][]byte `json:"consistency"`
@@ -126,22 +130,24 @@ func (c checker) extends(first, second *ct.SignedTreeHead) {
 	one, two := first.SHA256RootHash, second.SHA256RootHash
 	ok(proof.VerifyConsistency(rfc6962.DefaultHasher, first.TreeSize, second.TreeSize, answer.Consistency, one[:], two[:]))
 	one[0] ^= 1
-	hold(proof.VerifyConsistency(rfc6962.DefaultHasher, first.TreeSize, second.TreeSize, answer.Consistency, one[:], two[:]) != nil,
+	check(proof.VerifyConsistency(rfc6962.DefaultHasher, first.TreeSize, second.TreeSize, answer.Consistency, one[:],
+		two[:]) != nil,
 		"a consistency proof shows another root")
 }
 
-// Checks that the entry at this index is the certificate.
+// read checks that the entry at this index is the certificate.
 func (c checker) read(index uint64, certificate []byte) {
 	entries, err := c.log.GetEntries(context.Background(), int64(index), int64(index))
 	ok(err)
-	hold(len(entries) == 1, "not one entry at index", index)
-	hold(string(entries[0].Leaf.TimestampedEntry.X509Entry.Data) == string(certificate), "another certificate at index", index)
+	check(len(entries) == 1, "there is not exactly one entry at index", index)
+	check(string(entries[0].Leaf.TimestampedEntry.X509Entry.Data) == string(certificate),
+		"another certificate at index", index)
 }
 
 func main() {
 	file := flag.String("key", "", "the log's public key in PEM")
 	flag.Parse()
-	hold(flag.NArg() > 1 && *file != "", "-key FILE BASE CERTIFICATE..")
+	check(flag.NArg() > 1 && *file != "", "-key FILE BASE CERTIFICATE..")
 	c := open(flag.Arg(0), *file)
 	var certificates, leaves [][]byte
 	before := c.head()
@@ -155,7 +161,8 @@ func main() {
 	for i, leaf := range leaves {
 		c.read(c.include(leaf, head), certificates[i])
 	}
-	hold(before.TreeSize > 0 && before.TreeSize < head.TreeSize, "the log didn't grow from", before.TreeSize, "to", head.TreeSize)
+	check(before.TreeSize > 0 && before.TreeSize < head.TreeSize, "the log did not grow from", before.TreeSize, "to",
+		head.TreeSize)
 	c.extends(before, head)
 	fmt.Printf("Google's client library took %d timestamps and audit paths and the heads of %d and, from there, of %d entries.\n",
 		len(leaves), before.TreeSize, head.TreeSize)

@@ -16,7 +16,7 @@ import "fmt"
 // Field is the number of a field of a certificate (RFC 5280, section 4.1), as wagtenib.h numbers them.
 type Field uint32
 
-// issuerField is what the number of a field of the issuer's certificate is greater by.
+// issuerField is added to the number of a field of the issuer's certificate.
 const issuerField = 16
 
 var fieldNames = [...]string{
@@ -25,7 +25,7 @@ var fieldNames = [...]string{
 	11: "subjectPublicKeyInfo", 12: "issuerUniqueID", 13: "subjectUniqueID", 14: "extensions", 15: "subjectAltName",
 }
 
-// String returns the name of the field, and whose certificate it is of.
+// String returns the name of the field, and whether the certificate is that of the issuer.
 func (f Field) String() string {
 	of, number := "the certificate", f
 	if f > issuerField {
@@ -37,23 +37,23 @@ func (f Field) String() string {
 	return fmt.Sprintf("%s of %s", fieldNames[number], of)
 }
 
-// CertificateError is the error of a certificate that gives no entry and no leaf: the first reason that reading meets,
-// and the field in which it is. It wraps the Code, so errors.Is finds the reason.
+// CertificateError is the error of a certificate from which no entry or leaf can be computed. It has the first reason
+// in reading order, and the field that causes it. It wraps the Code, so errors.Is finds the reason.
 type CertificateError struct {
 	Code  Code
 	Field Field
 }
 
-// Error returns the reason and the field in words.
+// Error returns a sentence with the reason and the field.
 func (e *CertificateError) Error() string { return fmt.Sprintf("%v (in %v)", e.Code, e.Field) }
 
 // Unwrap returns the reason.
 func (e *CertificateError) Unwrap() error { return e.Code }
 
-// IsDER reports whether the reason is that a field is not as DER requires.
+// IsDER reports whether the reason is that a field is not correct DER.
 func (e *CertificateError) IsDER() bool { return e.Code >= ErrDERTruncated && e.Code <= ErrDERTrailing }
 
-// certificateResult returns the error of an answer over certificates.
+// certificateResult returns the error of an answer about certificates.
 func certificateResult(code C.uint32_t, field C.uint32_t) error {
 	if code >= C.WAGTENIB_DER_TRUNCATED && code <= C.WAGTENIB_TBS_TOO_LONG {
 		return &CertificateError{Code(code), Field(field)}
@@ -61,8 +61,8 @@ func certificateResult(code C.uint32_t, field C.uint32_t) error {
 	return result(code)
 }
 
-// output makes a call that writes bytes of a length that only the call knows, with so much room at first. If they have
-// no room, it calls once more.
+// output makes a call that writes bytes of a length that only the call knows. The first call has this much room. If
+// that is too little, output calls once more.
 func output(room int, call func(out *C.uint8_t, room C.size_t, length *C.uint64_t) C.uint32_t) ([]byte, C.uint32_t) {
 	out := make([]byte, room)
 	var length C.uint64_t
@@ -91,7 +91,7 @@ func PrecertificateEntry(tbs []byte) ([]byte, error) {
 	return entry, certificateResult(code, field)
 }
 
-// Promise is a timestamp in a certificate: what a log promised (RFC 6962, section 3).
+// Promise is an SCT in a certificate: the promise of a log (RFC 6962, section 3).
 type Promise struct {
 	Certificate []byte // the certificate, in DER
 	Issuer      []byte // the certificate of its issuer, in DER
@@ -99,8 +99,8 @@ type Promise struct {
 	Extensions  []byte // the CtExtensions, without their length
 }
 
-// PromisedLeaf returns the leaf (MerkleTreeLeaf, RFC 6962, section 3.4) that the timestamp promises: of the certificate
-// without its list of timestamps, and of SHA-256 of its issuer's key. The log signs these bytes (section 3.2).
+// PromisedLeaf returns the leaf (MerkleTreeLeaf, RFC 6962, section 3.4) that the SCT promises. It is computed from the
+// certificate without its list of SCTs, and from SHA-256 of its issuer's key. The log signs these bytes (section 3.2).
 //
 // The error is nil, a *CertificateError, ErrExtensionsTooLong or ErrMemory. A *CertificateError is one of
 // ErrDERTruncated to ErrDERTrailing, ErrNoExtension, ErrSecondExtension and ErrTBSTooLong.
@@ -115,11 +115,11 @@ func PromisedLeaf(p Promise) ([]byte, error) {
 	return leaf, certificateResult(code, field)
 }
 
-// CheckPromise checks that the leaf that the timestamp promises is in a tree. It returns nil exactly if the audit path
-// leads from that leaf at index to the root of a tree of size leaves. So the leaf is in every list of leaves with this
-// root (assuming no SHA-256 collision).
+// CheckPromise checks that the leaf that the SCT promises is in a tree. It returns nil exactly if the audit path leads
+// from that leaf at index to the root of a tree of size leaves. So the leaf is in every list of leaves with this root
+// (assuming no SHA-256 collision).
 //
-// Otherwise it returns an error of PromisedLeaf, or the first fault of the path, as VerifyInclusion does.
+// Otherwise it returns an error of PromisedLeaf, or the first error of the path, as VerifyInclusion does.
 func CheckPromise(p Promise, index, size uint64, path []Hash, root Hash) error {
 	var field C.uint32_t
 	code := C.wagtenib_check_promise(ofBytes(p.Certificate), C.size_t(len(p.Certificate)), ofBytes(p.Issuer),

@@ -24,7 +24,7 @@ var (
 	poison    = pkix.Extension{Id: oidPoison, Critical: true, Value: []byte{5, 0}}
 )
 
-// authority issues certificates that differ only in their extensions, by crypto/x509.
+// authority is a CA of crypto/x509. It issues certificates that differ only in their extensions.
 type authority struct {
 	key  *ecdsa.PrivateKey
 	root *x509.Certificate
@@ -64,8 +64,8 @@ func (a *authority) issue(t testing.TB, extensions ...pkix.Extension) *x509.Cert
 	return certificate
 }
 
-// TestEntriesAreTheFinalCertificates: crypto/x509 issues a precertificate and, otherwise the same, the certificate. The
-// entry is the certificate's TBSCertificate.
+// TestEntriesAreTheFinalCertificates checks that the entry of a precertificate is the TBSCertificate of the final
+// certificate. crypto/x509 issues both with the same fields.
 func TestEntriesAreTheFinalCertificates(t *testing.T) {
 	a := newAuthority(t)
 	other := pkix.Extension{Id: asn1.ObjectIdentifier{1, 2, 3}, Value: bytes.Repeat([]byte{9}, 300)}
@@ -78,7 +78,7 @@ func TestEntriesAreTheFinalCertificates(t *testing.T) {
 	}
 }
 
-// TestRefusesPrecertificates finds each refusal by its name, with its field.
+// TestRefusesPrecertificates checks each error of a precertificate, with its field.
 func TestRefusesPrecertificates(t *testing.T) {
 	a := newAuthority(t)
 	precertificate := a.issue(t, poison).RawTBSCertificate
@@ -114,14 +114,14 @@ func TestRefusesPrecertificates(t *testing.T) {
 	}
 }
 
-// promisedOf is the MerkleTreeLeaf of a precertificate's entry (RFC 6962, section 3.4), by the standard library.
+// promisedOf returns the MerkleTreeLeaf of a precertificate's entry (RFC 6962, section 3.4), by the standard library.
 func promisedOf(issuer *x509.Certificate, tbs []byte, timestamp uint64, extensions []byte) []byte {
 	hash := sha256.Sum256(issuer.RawSubjectPublicKeyInfo)
 	return leafOf(timestamp, 1, append(hash[:], opaque(3, tbs)...), extensions)
 }
 
-// TestPromisedLeaves: the leaf of a certificate with a list of timestamps is that of the certificate without it, and is
-// found in a tree of tlog's.
+// TestPromisedLeaves checks that the leaf of a certificate with a list of SCTs is that of the certificate without it,
+// and is found in a tree of tlog.
 func TestPromisedLeaves(t *testing.T) {
 	a := newAuthority(t)
 	without := a.issue(t).RawTBSCertificate

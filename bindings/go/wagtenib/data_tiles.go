@@ -18,11 +18,11 @@ import (
 // entriesOfTile is the number of entries of a full data tile (C2SP static-ct-api).
 const entriesOfTile = 256
 
-// numbersOfEntry is the number of bytes that the library writes of an entry beside its leaf: the length of the
-// leaf, and two places with their lengths.
+// numbersOfEntry is the number of bytes that the library writes for an entry in addition to its leaf: the length of the
+// leaf, and two positions with their lengths.
 const numbersOfEntry = 5 * sizeOfLength
 
-// TileEntry holds an entry of a data tile. Its slices are parts of the tile and of one buffer, and must not be changed.
+// TileEntry is an entry of a data tile. Its slices share memory with the tile and one buffer, and must not be changed.
 type TileEntry struct {
 	Leaf           []byte    // the MerkleTreeLeaf (RFC 6962, section 3.4): the bytes that are hashed
 	Timestamp      uint64    // milliseconds since 1970
@@ -33,24 +33,24 @@ type TileEntry struct {
 	Issuers        []Hash    // the SHA-256 fingerprints of the issuers, in the order of the chain
 }
 
-// TileError is the error of bytes that are no data tile: the first entry that is none, and its first fault. It wraps
-// the Code, so errors.Is finds the fault.
+// TileError is the error of bytes that are not a data tile. It has the first malformed entry, and its first error. It
+// wraps the Code, so errors.Is finds the error.
 type TileError struct {
 	Code  Code
 	Entry uint64 // index in the tile
 }
 
-// Error returns the fault and the index in words.
+// Error returns a sentence with the error and the index.
 func (e *TileError) Error() string {
 	return fmt.Sprintf("%v (entry %d of the data tile, counted from 0)", e.Code, e.Entry)
 }
 
-// Unwrap returns the fault.
+// Unwrap returns the Code.
 func (e *TileError) Unwrap() error { return e.Code }
 
 // DataTileLeaves returns the entries of a data tile (C2SP static-ct-api, "Log Entries"), in order. It reads any number
-// of entries, also none, and does not look at the extensions of an entry. CompareDataTile compares the entries with the
-// tile's name.
+// of entries, including none, and does not check the extensions of an entry. CompareDataTile compares the entries with
+// the tile's name.
 //
 // The error is nil, ErrMemory, or a *TileError of ErrTruncated, ErrBadEntryType, ErrEmptyVector or
 // ErrPartialFingerprint.
@@ -81,14 +81,13 @@ func DataTileLeaves(tile []byte) ([]TileEntry, error) {
 }
 
 // CompareDataTile compares a data tile with its name ("tile/data/.."), for a reader that has the entries of the log
-// before the index next. The error is nil if it is the data tile of this name, has as many entries as the name says and
-// the entry at next, and if each entry from that one on names exactly its own index in its extensions (leaf_index, C2SP
-// static-ct-api).
+// before the index next. The error is nil if the tile is the data tile of this name, has as many entries as the name
+// says and the entry at next, and if the extensions of each entry from that one on contain exactly its own index
+// (leaf_index, C2SP static-ct-api).
 //
 // Otherwise the error is the first of these: ErrNoDataTile, ErrTileAfter, ErrTileBefore; ErrTruncated, ErrBadEntryType,
-// ErrEmptyVector or ErrPartialFingerprint, and index is the index in the tile of the entry that is none;
-// ErrOtherEntries, and index is the number of entries; ErrWrongIndex, and index is the first wrong one in the log. Or
-// it is ErrMemory.
+// ErrEmptyVector or ErrPartialFingerprint, with the index in the tile of the malformed entry; ErrOtherEntries, with the
+// number of entries as index; ErrWrongIndex, with the index in the log of the first wrong entry. Or it is ErrMemory.
 func CompareDataTile(name string, next uint64, tile []byte) (index uint64, err error) {
 	bytes, found := []byte(name), C.uint64_t(0)
 	err = result(C.wagtenib_compare_data_tile(ofBytes(bytes), C.size_t(len(bytes)), C.uint64_t(next), ofBytes(tile),
@@ -96,7 +95,7 @@ func CompareDataTile(name string, next uint64, tile []byte) (index uint64, err e
 	return uint64(found), err
 }
 
-// tileEntry returns the entry of a tile that has this leaf, and at these places what was submitted and the
+// tileEntry returns the entry of a tile that has this leaf. At these positions the tile has what was submitted and the
 // fingerprints of the issuers.
 func tileEntry(tile, leaf, places []byte) (TileEntry, error) {
 	fields, err := DecodeLeaf(leaf)
@@ -120,7 +119,7 @@ func tileEntry(tile, leaf, places []byte) (TileEntry, error) {
 	return entry, nil
 }
 
-// partAt returns the part of a tile whose place and length are written here.
+// partAt returns the part of a tile whose position and length are in numbers.
 func partAt(tile, numbers []byte) []byte {
 	start := binary.BigEndian.Uint64(numbers)
 	end := start + binary.BigEndian.Uint64(numbers[sizeOfLength:])

@@ -12,8 +12,8 @@ import (
 	"wagtenib/bindings/go/wagtenib"
 )
 
-// tileLeaf returns a TileLeaf (C2SP static-ct-api, "Log Entries") of a MerkleTreeLeaf. The precertificate is nil beside
-// a certificate.
+// tileLeaf returns a TileLeaf (C2SP static-ct-api, "Log Entries") of a MerkleTreeLeaf. The precertificate is nil for a
+// certificate.
 func tileLeaf(leaf, precertificate []byte, issuers ...wagtenib.Hash) []byte {
 	text := bytes.Clone(leaf[2:])
 	if precertificate != nil {
@@ -94,7 +94,7 @@ func TestFaultyDataTilesAreRefusedByNameAndEntry(t *testing.T) {
 	}
 }
 
-// readTileLeaf reads the TileLeaf that comes next, and returns the first fault from the left.
+// readTileLeaf reads the next TileLeaf, and returns the first error from the left.
 func readTileLeaf(s *cryptobyte.String) (entry wagtenib.TileEntry, err error) {
 	text := *s
 	var timestamp uint64
@@ -140,8 +140,8 @@ func readTileLeaf(s *cryptobyte.String) (entry wagtenib.TileEntry, err error) {
 	return entry, nil
 }
 
-// FuzzDataTileLeaves compares the entries of a tile, or the first fault and its entry, with a reader that is written
-// here from C2SP static-ct-api.
+// FuzzDataTileLeaves compares the entries of a tile, or the first error and its entry, with a reader that this file
+// implements from C2SP static-ct-api.
 func FuzzDataTileLeaves(f *testing.F) {
 	second := tileLeaf(precertificateLeaf, []byte("poisoned"), wagtenib.Hash{})
 	whole := append(tileLeaf(certificateLeaf, nil, wagtenib.Hash{}), second...)
@@ -183,7 +183,7 @@ func FuzzDataTileLeaves(f *testing.F) {
 	})
 }
 
-// indexed returns the entry of a data tile that names this index of the log in its extensions (leaf_index, C2SP
+// indexed returns an entry of a data tile whose extensions contain this index of the log (leaf_index, C2SP
 // static-ct-api).
 func indexed(index byte) []byte {
 	return tileLeaf(leafOf(7, 0, opaque(3, []byte("DER")), []byte{0, 0, 5, 0, 0, 0, 0, index}), nil)

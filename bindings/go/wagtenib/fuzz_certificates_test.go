@@ -18,29 +18,29 @@ const (
 	extensionsTag = asn1.Tag(0xa3)
 )
 
-// poisonBytes are the poison extension in its one form (RFC 6962, section 3.1).
+// poisonBytes has the poison extension in its only form (RFC 6962, section 3.1).
 var poisonBytes = []byte("\x30\x13\x06\x0a\x2b\x06\x01\x04\x01\xd6\x79\x02\x04\x03\x01\x01\xff\x04\x02\x05\x00")
 
-// The names of the poison and of the list of timestamps, as OBJECT IDENTIFIERs without their headers.
+// The object identifiers of the poison and of the list of SCTs, without their headers.
 var (
 	poisonName = poisonBytes[4:14]
 	listName   = append(bytes.Clone(poisonName[:9]), 2)
 )
 
-// tbsRead holds a TBSCertificate (RFC 5280, section 4.1): its fields before the extensions, its subjectPublicKeyInfo,
-// and its extensions.
+// tbsRead is a TBSCertificate (RFC 5280, section 4.1): its fields before the extensions, its subjectPublicKeyInfo, and
+// its extensions.
 type tbsRead struct {
 	before, key []byte
 	extensions  [][2][]byte // the name of each, and all its bytes
 }
 
-// onlyElement returns the content of an element with this tag, if the bytes are one, by cryptobyte.
+// onlyElement returns the content of an element with this tag, if all bytes are one such element, by cryptobyte.
 func onlyElement(der []byte, tag asn1.Tag) (content cryptobyte.String, ok bool) {
 	s := cryptobyte.String(der)
 	return content, s.ReadASN1(&content, tag) && s.Empty()
 }
 
-// readExtensions reads the extensions of a TBSCertificate, each a name, perhaps a BOOLEAN, and an OCTET STRING.
+// readExtensions reads the extensions of a TBSCertificate. Each has a name, possibly a BOOLEAN, and an OCTET STRING.
 func readExtensions(der []byte) (found [][2][]byte, ok bool) {
 	inner, ok := onlyElement(der, extensionsTag)
 	listed, isList := onlyElement(inner, asn1.SEQUENCE)
@@ -62,7 +62,7 @@ func readExtensions(der []byte) (found [][2][]byte, ok bool) {
 	return found, true
 }
 
-// readTBS reads the fields of a TBSCertificate up to its key, and if `whole` is set, all of it.
+// readTBS reads the fields of a TBSCertificate up to its key, or all fields if whole is true.
 func readTBS(der []byte, whole bool) (tbs tbsRead, ok bool) {
 	all, ok := onlyElement(der, asn1.SEQUENCE)
 	rest := all
@@ -84,7 +84,7 @@ func readTBS(der []byte, whole bool) (tbs tbsRead, ok bool) {
 	return tbs, ok
 }
 
-// readCertificate returns the TBSCertificate of a certificate (RFC 5280, section 4.1), all its bytes.
+// readCertificate returns the TBSCertificate of a certificate (RFC 5280, section 4.1) if all bytes are one certificate.
 func readCertificate(der []byte) (tbs []byte, ok bool) {
 	fields, ok := onlyElement(der, asn1.SEQUENCE)
 	var element, signature cryptobyte.String
@@ -93,14 +93,14 @@ func readCertificate(der []byte) (tbs []byte, ok bool) {
 	return element, ok
 }
 
-// element returns an element of DER (X.690, section 10.1), by cryptobyte.
+// element returns a DER element (X.690, section 10.1), by cryptobyte.
 func element(tag asn1.Tag, parts ...[]byte) []byte {
 	var b cryptobyte.Builder
 	b.AddASN1(tag, func(b *cryptobyte.Builder) { b.AddBytes(bytes.Join(parts, nil)) })
 	return b.BytesOrPanic()
 }
 
-// without returns the TBSCertificate without the extension of this name, and how many of them it has.
+// without returns the TBSCertificate without the extension of this name, and the number of extensions with this name.
 func (tbs tbsRead) without(name []byte) (der, found []byte, count int) {
 	var kept []byte
 	for _, one := range tbs.extensions {
@@ -116,7 +116,7 @@ func (tbs tbsRead) without(name []byte) (der, found []byte, count int) {
 	return element(asn1.SEQUENCE, tbs.before), found, count
 }
 
-// extensionsFault returns why a TBSCertificate with so many extensions of a name gives nothing.
+// extensionsFault returns the expected error of a TBSCertificate with this number of extensions of a name.
 func extensionsFault(count int) error {
 	switch count {
 	case 0:
@@ -127,7 +127,7 @@ func extensionsFault(count int) error {
 	return wagtenib.ErrSecondExtension
 }
 
-// isUnread fails the test unless the error is a fault of DER in a field of this document.
+// isUnread fails the test unless the error is a DER error in a field of this document.
 func isUnread(t *testing.T, err error, ofIssuer bool) {
 	t.Helper()
 	var unfit *wagtenib.CertificateError
@@ -171,7 +171,7 @@ func FuzzPrecertificateEntry(f *testing.F) {
 	})
 }
 
-// tinyFields returns the fields of a TBSCertificate before its extensions, each as short as can be.
+// tinyFields returns the fields of a TBSCertificate before its extensions, each in its shortest form.
 func tinyFields() []byte {
 	return append([]byte{2, 1, 7}, bytes.Repeat([]byte{0x30, 0}, 5)...)
 }

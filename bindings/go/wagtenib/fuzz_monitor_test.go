@@ -14,13 +14,13 @@ import (
 	"wagtenib/bindings/go/wagtenib"
 )
 
-// subtreesOf holds the perfect subtrees of a state: a number of leaves, and the roots, largest first.
+// subtreesOf has the perfect subtrees in a state: a number of leaves, and the roots, largest first.
 type subtreesOf struct {
 	size  uint64
 	roots []wagtenib.Hash
 }
 
-// root returns the hash to which the subtrees lead (RFC 6962, section 2.1).
+// root returns the root of the tree of these subtrees (RFC 6962, section 2.1).
 func (s subtreesOf) root() wagtenib.Hash {
 	if len(s.roots) == 0 {
 		return sha256.Sum256(nil)
@@ -45,7 +45,7 @@ func readHead(s *cryptobyte.String) (head *wagtenib.TreeHead, ok bool) {
 	return head, s.ReadUint64(&head.TreeSize) && s.ReadUint64(&head.Timestamp) && s.CopyBytes(head.Root[:])
 }
 
-// readSubtrees reads a number of leaves, and the roots as bytes with their length in 8 bytes.
+// readSubtrees reads a number of leaves, and the roots as bytes after their length in 8 bytes.
 func readSubtrees(s *cryptobyte.String) (found subtreesOf, ok bool) {
 	var length uint64
 	var text []byte
@@ -62,7 +62,7 @@ func readSubtrees(s *cryptobyte.String) (found subtreesOf, ok bool) {
 }
 
 // isState reports whether these bytes and their hash are a monitor's state: they have the version 1, two heads and two
-// lists of subtrees, and these fit one another.
+// lists of subtrees, and these are consistent with each other.
 func isState(parts []byte) bool {
 	s := cryptobyte.String(parts)
 	var version uint8
@@ -99,8 +99,8 @@ func isState(parts []byte) bool {
 	return later && all.size < waiting.TreeSize && (sure.size < all.size || same)
 }
 
-// FuzzMonitorState reads the bytes of a state with their right hash. A state must be written again as it was read, and
-// everything else must be refused.
+// FuzzMonitorState reads the bytes of a state with their correct hash. A state must be written again as it was read,
+// and everything else must be refused.
 func FuzzMonitorState(f *testing.F) {
 	log := &madeLog{}
 	for i := range 9 {

@@ -85,7 +85,7 @@ func threeLeaves(t testing.TB) (log *steppedLog, contents [][]byte) {
 	return log, contents
 }
 
-// edgeFault returns why a step refuses an edge, by the contents that are right.
+// edgeFault returns the expected error of a step with these contents of an edge, if the correct contents are right.
 func edgeFault(contents, right [][]byte) error {
 	switch {
 	case len(contents) != len(right) || !bytes.Equal(contents[0], right[0]):
@@ -96,7 +96,7 @@ func edgeFault(contents, right [][]byte) error {
 	return nil
 }
 
-// FuzzStep has a log of three leaves make a step of any batch with any edge.
+// FuzzStep makes a step of a log with three leaves, with any batch and any edge.
 func FuzzStep(f *testing.F) {
 	log, right := threeLeaves(f)
 	edge, one := log.edge(f), batchOf(f, submissionAt(9))
@@ -136,8 +136,8 @@ func FuzzStep(f *testing.F) {
 	})
 }
 
-// stepIsOf fails the test unless the step has a receipt and a leaf for each submission, one for those that are equal,
-// and the root that tlog makes.
+// stepIsOf fails the test unless the step has a receipt and a leaf for each submission, only one leaf for equal
+// submissions, and the root that tlog computes.
 func stepIsOf(t *testing.T, log *steppedLog, step *wagtenib.Step, submissions []wagtenib.Submission) {
 	t.Helper()
 	grown := madeLog{append([][]byte{}, log.leaves...), append(storedHashes{}, log.stored...)}
@@ -172,7 +172,7 @@ func stepIsOf(t *testing.T, log *steppedLog, step *wagtenib.Step, submissions []
 	}
 }
 
-// FuzzClaim has a log of three leaves claim an entry for any bytes.
+// FuzzClaim claims an entry of a log with three leaves for any bytes.
 func FuzzClaim(f *testing.F) {
 	log, _ := threeLeaves(f)
 	for i := range 4 {

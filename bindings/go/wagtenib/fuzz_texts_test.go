@@ -17,10 +17,10 @@ import (
 	"wagtenib/bindings/go/wagtenib"
 )
 
-// These targets compare each call that reads bytes with a reader that is written here from the standard. `cmd/build.sh
-// fuzz` runs them on random bytes, and `go test` on their seeds only.
+// These targets compare each call that reads bytes with a reader that this file implements from the standard.
+// `cmd/build.sh fuzz` runs them on random bytes, and `go test` only on their seeds.
 
-// leafRead reads a MerkleTreeLeaf as RFC 6962, section 3.4, has it, and returns the first fault from the left.
+// leafRead reads a MerkleTreeLeaf by RFC 6962, section 3.4, and returns the first error from the left.
 func leafRead(text []byte) (leaf wagtenib.Leaf, err error) {
 	s := cryptobyte.String(text)
 	var version, leafType uint8
@@ -82,7 +82,7 @@ func FuzzDecodeLeaf(f *testing.F) {
 	})
 }
 
-// decimalRead returns the number that a text is in decimal, without a zero in front.
+// decimalRead returns the number in a decimal text without leading zeros.
 func decimalRead(text string) (uint64, bool) {
 	number, err := strconv.ParseUint(text, 10, 64)
 	return number, err == nil && strconv.FormatUint(number, 10) == text
@@ -112,7 +112,7 @@ func messageRead(message []byte) (origin string, tree wagtenib.WitnessedTree, ok
 	return origin, tree, ok && isCut && isTime && version == "cosignature/v1" && strings.HasPrefix(time, "time ")
 }
 
-// addTexts adds texts of checkpoints, right and damaged.
+// addTexts adds correct and damaged texts of checkpoints.
 func addTexts(add func(text string)) {
 	text := checkpointOf(witnessed, 12, wagtenib.Hash{7})
 	add(text)
@@ -178,7 +178,7 @@ func FuzzWitnessState(f *testing.F) {
 	})
 }
 
-// signedRead reads a TreeHeadSignature as RFC 6962, section 3.5, has it.
+// signedRead reads a TreeHeadSignature by RFC 6962, section 3.5.
 func signedRead(state []byte) (head wagtenib.TreeHead, ok bool) {
 	s := cryptobyte.String(state)
 	var version, kind uint8
@@ -263,7 +263,7 @@ func FuzzStepState(f *testing.F) {
 	})
 }
 
-// lockRead reads a lock's text as docs/NODE.md has it: the size, and the state.
+// lockRead reads a lock's text by docs/NODE.md: the size, and the state.
 func lockRead(text []byte) (size uint64, state wagtenib.NodeState, ok bool) {
 	const line, before, behind = 295, len("\nnode "), len("\nsalt ") + 33
 	if len(text) < line+before+behind {

@@ -15,8 +15,8 @@ import (
 
 const fuzzedLeaves = 700
 
-// FuzzTiles reads roots, paths and proofs out of the tiles of a log, of which one may be changed or cut: at the byte
-// `at` it is changed by `by`, or cut there if that is 0. It has a seed for each way.
+// FuzzTiles computes roots, paths and proofs from the tiles of a log, one of which is changed. Its byte with the index
+// `at` is XORed with `by`, or the tile is cut there if `by` is 0. There is a seed for each way.
 func FuzzTiles(f *testing.F) {
 	var log madeLog
 	for i := range fuzzedLeaves {
@@ -51,7 +51,7 @@ func FuzzTiles(f *testing.F) {
 	})
 }
 
-// known fails the test unless tlog has a tile of each name in the tree of so many leaves.
+// known fails the test unless tlog has a tile of each name in the tree of size leaves.
 func known(t *testing.T, names []string, size uint64) {
 	t.Helper()
 	all := map[string]bool{}
@@ -65,8 +65,8 @@ func known(t *testing.T, names []string, size uint64) {
 	}
 }
 
-// is fails the test unless a result is the one that is due: ErrBadTile if a tile is cut, and otherwise tlog's exactly
-// if the tiles that it is made of are tlog's.
+// is fails the test unless a result is the expected one: ErrBadTile if a tile is cut, and otherwise that of tlog
+// exactly if the tiles from which it is computed are those of tlog.
 func is[T any](t *testing.T, got, want T, err error, isCut, isSame bool) {
 	t.Helper()
 	if isCut {

@@ -20,18 +20,18 @@ import "unsafe"
 // TreeHeadBytes is the number of bytes of a TreeHeadSignature (RFC 6962, section 3.5).
 const TreeHeadBytes = 50
 
-// TreeHead holds a tree head without its signature (RFC 6962, section 3.5).
+// TreeHead is a tree head without its signature (RFC 6962, section 3.5).
 type TreeHead struct {
 	TreeSize  uint64 // leaves
 	Timestamp uint64 // milliseconds since 1970
 	Root      Hash
 }
 
-// SignedBytes holds the bytes that a log signs for a tree head, its TreeHeadSignature. After they are signed, they are
-// the guard's state.
+// SignedBytes has the bytes that a log signs for a tree head, its TreeHeadSignature. After they are signed, they are
+// the state of the guard.
 type SignedBytes = [TreeHeadBytes]byte
 
-// inC returns the head as the library takes it.
+// inC returns the head in the form of the library.
 func (h TreeHead) inC() (head C.struct_wagtenib_head) {
 	head.tree_size, head.timestamp = C.uint64_t(h.TreeSize), C.uint64_t(h.Timestamp)
 	*(*Hash)(unsafe.Pointer(&head.root)) = h.Root
@@ -52,16 +52,16 @@ func GuardFirstHead(head, named TreeHead) (signed SignedBytes, err error) {
 }
 
 // GuardHead decides whether head may be signed after the head that was signed last, whose signed bytes are last. The
-// proof is the consistency proof from the last head to this one (RFC 6962, section 2.1.2), and is not read if their
+// proof is the consistency proof from the last head to this one (RFC 6962, section 2.1.2). It is not read if their
 // sizes are equal or the last size is 0.
 //
 // It returns the bytes to sign exactly if head is the last head again, or its timestamp is later, by at most maxAhead
-// milliseconds, and its tree contains the last one's by the proof. Otherwise it returns the first reason of ErrState,
-// ErrTimestampTooFar, ErrSizeFalls, ErrTimestampNotLater, ErrFork, ErrEmptyPath, ErrPathTooLong, ErrPathTooShort,
-// ErrFirstMismatch and ErrRootMismatch.
+// milliseconds, and the proof shows that its tree contains the last one. Otherwise it returns the first reason of
+// ErrState, ErrTimestampTooFar, ErrSizeFalls, ErrTimestampNotLater, ErrFork, ErrEmptyPath, ErrPathTooLong,
+// ErrPathTooShort, ErrFirstMismatch and ErrRootMismatch.
 //
-// Before the caller signs the bytes, it must store them in place of last, in a place that one process at a time can
-// change.
+// Before the caller signs the bytes, it must store them in place of last, where only one process at a time can change
+// them.
 func GuardHead(last []byte, head TreeHead, proof []Hash, maxAhead uint64) (signed SignedBytes, err error) {
 	next := head.inC()
 	err = result(C.wagtenib_guard_head(ofBytes(last), C.size_t(len(last)), &next, ofHashes(proof), C.size_t(len(proof)),

@@ -16,7 +16,7 @@ import (
 
 const hour = 3_600_000 // milliseconds
 
-// madeLog is a made-up log: its leaves, and the tree that x/mod's tlog makes of them.
+// madeLog is a generated log: its leaves, and the tree that x/mod's tlog computes of them.
 type madeLog struct {
 	leaves [][]byte
 	stored storedHashes
@@ -43,7 +43,7 @@ func (l *madeLog) root(t testing.TB, size uint64) wagtenib.Hash {
 	return wagtenib.Hash(root)
 }
 
-// proof returns tlog's consistency proof, or none where there is none.
+// proof returns tlog's consistency proof, or nil if there is none.
 func (l *madeLog) proof(t testing.TB, first, second uint64) []wagtenib.Hash {
 	t.Helper()
 	if first == 0 || first >= second {
@@ -56,7 +56,7 @@ func (l *madeLog) proof(t testing.TB, first, second uint64) []wagtenib.Hash {
 	return ofTlog(proof)
 }
 
-// path returns tlog's audit path, or none where there is none.
+// path returns tlog's audit path, or nil if there is none.
 func (l *madeLog) path(t testing.TB, index, size uint64) []wagtenib.Hash {
 	t.Helper()
 	if index >= size {
@@ -92,7 +92,7 @@ func nodeHash(left, right wagtenib.Hash) wagtenib.Hash {
 }
 
 // rootsByProof returns the first and the second root to which SUBPROOF(m, D[n], whole) of RFC 6962, section 2.1.2,
-// leads, or false if it has another length.
+// leads. ok is false if the proof has another length.
 func rootsByProof(m, n uint64, known wagtenib.Hash, proof []wagtenib.Hash,
 	whole bool) (first, second wagtenib.Hash, ok bool) {
 	if m == n && whole {
@@ -114,8 +114,8 @@ func rootsByProof(m, n uint64, known wagtenib.Hash, proof []wagtenib.Hash,
 	return nodeHash(last, first), nodeHash(last, second), ok
 }
 
-// rootByPath returns the root to which PATH(m, D[n]) of RFC 6962, section 2.1.1, leads from a leaf hash, or false if it
-// has another length.
+// rootByPath returns the root to which PATH(m, D[n]) of RFC 6962, section 2.1.1, leads from a leaf hash. ok is false if
+// the path has another length.
 func rootByPath(m, n uint64, hash wagtenib.Hash, path []wagtenib.Hash) (root wagtenib.Hash, ok bool) {
 	if n == 1 || len(path) == 0 {
 		return hash, n == 1 && len(path) == 0
@@ -129,7 +129,7 @@ func rootByPath(m, n uint64, hash wagtenib.Hash, path []wagtenib.Hash) (root wag
 	return nodeHash(last, root), ok
 }
 
-// longOrShort returns the fault of a proof that has not the length of the right one.
+// longOrShort returns the expected error of a proof with a wrong length.
 func longOrShort(got, due int) error {
 	if got > due {
 		return wagtenib.ErrPathTooLong
@@ -137,7 +137,7 @@ func longOrShort(got, due int) error {
 	return wagtenib.ErrPathTooShort
 }
 
-// proofFault returns why a consistency proof between two sizes is refused.
+// proofFault returns the expected error of a consistency proof between two sizes.
 func (l *madeLog) proofFault(t *testing.T, last, head wagtenib.TreeHead, proof []wagtenib.Hash) error {
 	t.Helper()
 	if len(proof) == 0 {
@@ -155,7 +155,7 @@ func (l *madeLog) proofFault(t *testing.T, last, head wagtenib.TreeHead, proof [
 	return nil
 }
 
-// headFault returns why a head may not be signed after the last one.
+// headFault returns the expected error if a head may not be signed after the last one.
 func (l *madeLog) headFault(t *testing.T, last, head wagtenib.TreeHead, proof []wagtenib.Hash, maxAhead uint64) error {
 	t.Helper()
 	switch {
@@ -186,7 +186,7 @@ func indexExtension(index uint64) []byte {
 	return append([]byte{0, 0, 5}, binary.BigEndian.AppendUint64(nil, index)[3:]...)
 }
 
-// receiptFault returns why an SCT of a leaf that is well formed may not be signed after the last head.
+// receiptFault returns the expected error if an SCT of a well-formed leaf may not be signed after the last head.
 func (l *madeLog) receiptFault(t *testing.T, last wagtenib.TreeHead, leaf []byte, index uint64,
 	path []wagtenib.Hash) error {
 	t.Helper()
@@ -207,7 +207,7 @@ func (l *madeLog) receiptFault(t *testing.T, last wagtenib.TreeHead, leaf []byte
 	return nil
 }
 
-// wantsSigned fails the test unless a call returned the due bytes, or the due refusal and no bytes.
+// wantsSigned fails the test unless a call returned the expected bytes, or the expected error and no bytes.
 func wantsSigned(t *testing.T, what string, head wagtenib.TreeHead, signed wagtenib.SignedBytes, err, due error) {
 	t.Helper()
 	if !errors.Is(err, due) {
@@ -218,7 +218,7 @@ func wantsSigned(t *testing.T, what string, head wagtenib.TreeHead, signed wagte
 	}
 }
 
-// guarded is a history of the guard's calls for one log and a fork of it.
+// guarded is a history of calls of the guard for one log and a fork of it.
 type guarded struct {
 	chance    *rand.Rand
 	log, fork madeLog
@@ -252,7 +252,7 @@ func (g *guarded) leaf(index uint64) []byte {
 	return leafOf(uint64(g.chance.Intn(2000)), 0, opaque(3, certificate), extensions)
 }
 
-// damaged returns hashes that are right, or wrong in one way.
+// damaged returns the hashes unchanged, or changed in one way.
 func (g *guarded) damaged(hashes []wagtenib.Hash) []wagtenib.Hash {
 	hashes = append([]wagtenib.Hash(nil), hashes...)
 	switch how := g.chance.Intn(9); {
@@ -269,7 +269,7 @@ func (g *guarded) damaged(hashes []wagtenib.Hash) []wagtenib.Hash {
 	return hashes
 }
 
-// state returns the guard's state, or bytes that are none.
+// state returns the guard's state, or bytes that are not a state.
 func (g *guarded) state() (state []byte, isOne bool) {
 	signed := signedBytes(g.last)
 	wrong := bytes.Clone(signed[:])
@@ -304,7 +304,7 @@ func (g *guarded) headCall(t *testing.T) {
 	if due == nil {
 		g.last = head
 	}
-	// (the log comes to its end soon: now and then it begins again)
+	// A log has few leaves, so the history begins again at random.
 	if g.chance.Intn(30) == 0 {
 		size := uint64(g.chance.Intn(4))
 		g.last = wagtenib.TreeHead{TreeSize: size, Timestamp: 900, Root: g.log.root(t, size)}
@@ -350,7 +350,7 @@ func (g *guarded) stateCall(t *testing.T) {
 	g.seen[due]++
 }
 
-// TestGuardAgreesWithAModel has the guard judge random histories of heads, receipts and states, and compares each call
+// TestGuardAgreesWithAModel lets the guard judge random histories of heads, receipts and states, and compares each call
 // with a model.
 func TestGuardAgreesWithAModel(t *testing.T) {
 	seen := map[error]int{}

@@ -10,7 +10,7 @@ import (
 	"wagtenib/bindings/go/wagtenib"
 )
 
-// publishedTiles has tlog read the tiles that a log published.
+// publishedTiles is a reader for tlog of the tiles that a log published.
 type publishedTiles map[string][]byte
 
 func (publishedTiles) Height() int                         { return 8 }
@@ -19,7 +19,7 @@ func (publishedTiles) SaveTiles(_ []tlog.Tile, _ [][]byte) {}
 func (p publishedTiles) ReadTiles(tiles []tlog.Tile) ([][]byte, error) {
 	var all [][]byte
 	for _, tile := range tiles {
-		// (tlog has the height in front of the level, and names of tlog-tiles do not)
+		// The names of tlog contain the height before the level, and names of C2SP tlog-tiles do not.
 		name := strings.Replace(tile.Path(), "tile/8/", "tile/", 1)
 		content, ok := p[name]
 		if !ok || len(content) != tile.W*tlog.HashSize {
@@ -30,8 +30,8 @@ func (p publishedTiles) ReadTiles(tiles []tlog.Tile) ([][]byte, error) {
 	return all, nil
 }
 
-// TestLargeLog grows a log past a full tile of level 1. tlog reads its tiles, each of which it checks against the root,
-// and proves leaves and older trees from them. It refuses each proof of another leaf or root.
+// TestLargeLog grows a log past a full tile of level 1. tlog reads its tiles, checks each of them against the root, and
+// proves leaves and older trees with them. It must refuse each proof of another leaf or root.
 func TestLargeLog(t *testing.T) {
 	const batch, steps, samples = 4096, 17, 500
 	log := steppedLog{objects: map[string][]byte{}}

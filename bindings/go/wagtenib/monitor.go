@@ -25,8 +25,8 @@ import (
 	"unsafe"
 )
 
-// maxMonitorState is the largest number of bytes of a monitor's state: the version, two heads, two times 64 hashes, and
-// the hash of all of it.
+// maxMonitorState is the maximum number of bytes of a monitor's state: the version, two heads, two times 64 hashes, and
+// the hash of all of these.
 const maxMonitorState = 1 + 2*49 + 2*(16+64*HashSize) + HashSize
 
 // Verdict is a verdict of a monitor on an answer of a log.
@@ -34,27 +34,27 @@ type Verdict uint32
 
 // The verdicts of a monitor.
 const (
-	// the waiting head is that of all leaves that were read, and is accepted
+	// VerdictAccepted means that the waiting head is that of all leaves that were read, and is accepted.
 	VerdictAccepted Verdict = C.WAGTENIB_ACCEPTED
-	// the waiting head has more leaves than were read
+	// VerdictPending means that the waiting head has more leaves than were read.
 	VerdictPending Verdict = C.WAGTENIB_PENDING
-	// the size and the root of a known head again
+	// VerdictAgain means that the head has the size and the root of a known head.
 	VerdictAgain Verdict = C.WAGTENIB_AGAIN
-	// fewer leaves than a known head has, and an earlier timestamp
+	// VerdictStale means that the head has fewer leaves than a known head, and an earlier timestamp.
 	VerdictStale Verdict = C.WAGTENIB_STALE
-	// fewer leaves than a known head has, and not an earlier timestamp
+	// VerdictShrunk means that the head has fewer leaves than a known head, and no earlier timestamp.
 	VerdictShrunk Verdict = C.WAGTENIB_SHRUNK
-	// the size of a known head, and another root
+	// VerdictForked means that the head has the size of a known head, and another root.
 	VerdictForked Verdict = C.WAGTENIB_FORKED
-	// more leaves than a known head has, and not a later timestamp
+	// VerdictNotLater means that the head has more leaves than a known head, and no later timestamp.
 	VerdictNotLater Verdict = C.WAGTENIB_HEAD_NOT_LATER
-	// the waiting head has another root than the leaves that were read
+	// VerdictOtherRoot means that the waiting head has another root than the leaves that were read.
 	VerdictOtherRoot Verdict = C.WAGTENIB_OTHER_ROOT
-	// the entries begin elsewhere, or no head waits, or there are no two heads for a proof
+	// VerdictGap means that the entries begin at another index, or no head waits, or there are no two heads for a proof.
 	VerdictGap Verdict = C.WAGTENIB_GAP
-	// the proof leads from the accepted head to the waiting one
+	// VerdictConsistent means that the proof leads from the accepted head to the waiting one.
 	VerdictConsistent Verdict = C.WAGTENIB_CONSISTENT
-	// the proof does not lead there
+	// VerdictInconsistent means that the proof does not lead from the accepted head to the waiting one.
 	VerdictInconsistent Verdict = C.WAGTENIB_INCONSISTENT
 )
 
@@ -80,7 +80,7 @@ func (v Verdict) String() string {
 	return fmt.Sprintf("verdict %d", uint32(v))
 }
 
-// Accuses reports whether a verdict speaks against the log.
+// Accuses reports whether a verdict says that the log did wrong.
 func (v Verdict) Accuses() bool {
 	switch v {
 	case VerdictShrunk, VerdictForked, VerdictNotLater, VerdictOtherRoot, VerdictInconsistent:
@@ -89,7 +89,7 @@ func (v Verdict) Accuses() bool {
 	return false
 }
 
-// Judgement holds a verdict of a monitor, and the numbers of the state after it.
+// Judgement is a verdict of a monitor, with the numbers of the state after it.
 type Judgement struct {
 	Verdict  Verdict
 	Fault    error    // the fault of an inconsistent proof, otherwise nil
@@ -100,20 +100,20 @@ type Judgement struct {
 	Wanted   uint64   // leaves of the waiting head, or Read if no head waits
 }
 
-// LaterEntry holds an entry that is later than the head of its tree.
+// LaterEntry is an entry that is later than the head of its tree.
 type LaterEntry struct {
 	Index     uint64
 	Timestamp uint64 // milliseconds since 1970
 }
 
-// FaultyEntry holds an entry that is no leaf.
+// FaultyEntry is an entry that is not a leaf.
 type FaultyEntry struct {
 	Index uint64
 	Fault error // as of DecodeLeaf
 }
 
-// EntryReport holds the timestamp of the head that waited for the entries (0 if none waited), the first entry that is
-// later than that head, and the first that is no leaf. Each entry is nil if there is none.
+// EntryReport has the timestamp of the head that waited for the entries (0 if none waited), the first entry that is
+// later than that head, and the first that is not a leaf. Each entry is nil if there is none.
 type EntryReport struct {
 	HeadTimestamp uint64 // in milliseconds
 	Later         *LaterEntry
@@ -138,7 +138,7 @@ func judged(call func(verdict *C.struct_wagtenib_monitor_verdict, out *C.uint8_t
 		Wanted: uint64(verdict.leaves_wanted)}, state, nil
 }
 
-// MonitorBegin returns the state of a monitor that was handed nothing. The error is nil or ErrMemory. It must never be
+// MonitorBegin returns the state of a monitor that has read nothing. The error is nil or ErrMemory. It must never be
 // called because a state is missing.
 func MonitorBegin() (state []byte, err error) {
 	state, code := output(maxMonitorState, func(out *C.uint8_t, room C.size_t, length *C.uint64_t) C.uint32_t {
@@ -147,12 +147,13 @@ func MonitorBegin() (state []byte, err error) {
 	return state, result(code)
 }
 
-// MonitorStart returns the state of a monitor that is told to trust a head: it counts as accepted, and reading goes on
-// from the leaf with the index head.TreeSize. The caller must have checked the head's signature. The subtrees are the
-// roots of the perfect subtrees of the head's leaves, largest first, as Push keeps them. LastSubtrees returns them.
+// MonitorStart returns the state of a monitor that trusts a head. The head counts as accepted, and reading continues
+// from the leaf with the index head.TreeSize. The caller must have verified the head's signature. The subtrees are the
+// roots of the perfect subtrees of the head's leaves, largest first, in the form of Push. LastSubtrees returns them.
 //
-// If the head is that of a list of leaves, each head that is accepted later is that of a beginning of one list, which
-// begins with these leaves (assuming no SHA-256 collision). Nothing is said of these leaves, because no one read them.
+// If the head belongs to a list of leaves, each head that is accepted later belongs to a beginning of one list, which
+// begins with these leaves (assuming no SHA-256 collision). The monitor reports nothing about these leaves, because it
+// has not read them.
 //
 // The error is nil, ErrOtherCount, ErrRootMismatch or ErrMemory.
 func MonitorStart(head TreeHead, subtrees []Hash) (state []byte, err error) {
@@ -164,7 +165,7 @@ func MonitorStart(head TreeHead, subtrees []Hash) (state []byte, err error) {
 }
 
 // LastSubtrees returns the roots of the perfect subtrees of a tree, largest first, from the leaf hash of its last leaf
-// and that leaf's audit path (RFC 6962, section 2.1.1). It checks nothing: MonitorStart does. The error is
+// and that leaf's audit path (RFC 6962, section 2.1.1). It does not check them, but MonitorStart does. The error is
 // ErrPathTooShort if the path has fewer hashes than the smallest subtree has levels, otherwise nil.
 func LastSubtrees(leafHash Hash, size uint64, path []Hash) ([]Hash, error) {
 	if size == 0 {
@@ -183,9 +184,9 @@ func LastSubtrees(leafHash Hash, size uint64, path []Hash) ([]Hash, error) {
 	return subtrees, nil
 }
 
-// MonitorHead judges a tree head over a state. The head is compared with the accepted head and with the one that waits
-// for its entries. If it is larger and later than both, it waits from then on (unless another one waits already), and
-// is compared with the leaves that were read.
+// MonitorHead judges a tree head over a state. It compares the head with the accepted head and with the one that waits
+// for its entries. If the head is larger and later than both, it waits from then on (unless another one already waits),
+// and is compared with the leaves that were read.
 //
 // It returns the verdict and the next state. The error is nil, ErrState or ErrMemory. The caller must store the next
 // state before it acts on the verdict.
@@ -197,9 +198,9 @@ func MonitorHead(state []byte, head TreeHead) (found Judgement, next []byte, err
 	})
 }
 
-// MonitorEntries judges the leaves (MerkleTreeLeaf, RFC 6962, section 3.4) from the index start on. As many are read as
-// the waiting head has, and that head is compared with all leaves that were read. Entries that are not read are not in
-// the report. The rest is as of MonitorHead.
+// MonitorEntries judges the leaves (MerkleTreeLeaf, RFC 6962, section 3.4) from the index start on. It reads at most as
+// many as the waiting head has, and compares that head with all leaves that were read. Entries that it does not read
+// are not in the report. The next state and the errors are those of MonitorHead.
 func MonitorEntries(state []byte, start uint64, leaves [][]byte) (found Judgement, report EntryReport, next []byte,
 	err error) {
 	contents, lengths, count := joined(leaves)
@@ -220,7 +221,7 @@ func MonitorEntries(state []byte, start uint64, leaves [][]byte) (found Judgemen
 }
 
 // MonitorProof judges a consistency proof (RFC 6962, section 2.1.2) from the accepted head to the waiting one. The
-// state stays the same. The rest is as of MonitorHead.
+// state does not change. The results are those of MonitorHead.
 func MonitorProof(state []byte, proof []Hash) (found Judgement, next []byte, err error) {
 	return judged(func(verdict *C.struct_wagtenib_monitor_verdict, out *C.uint8_t, room C.size_t,
 		length *C.uint64_t) C.uint32_t {
@@ -229,9 +230,9 @@ func MonitorProof(state []byte, proof []Hash) (found Judgement, next []byte, err
 	})
 }
 
-// MonitorEntry judges one leaf (MerkleTreeLeaf, RFC 6962, section 3.4) beside a tree head with this timestamp. It
-// returns the timestamp of the leaf. All timestamps are in milliseconds. The error is nil if the leaf is no later than
-// the head, ErrLaterEntry if it is, which speaks against the log, or that of DecodeLeaf.
+// MonitorEntry judges one leaf (MerkleTreeLeaf, RFC 6962, section 3.4) by the timestamp of a tree head. It returns the
+// timestamp of the leaf. All timestamps are in milliseconds. The error is nil if the leaf is no later than the head,
+// ErrLaterEntry if it is later, which means that the log did wrong, or an error of DecodeLeaf.
 func MonitorEntry(headTimestamp uint64, leaf []byte) (timestamp uint64, err error) {
 	var found C.uint64_t
 	err = result(C.wagtenib_monitor_entry(C.uint64_t(headTimestamp), ofBytes(leaf), C.size_t(len(leaf)), &found))

@@ -12,14 +12,14 @@ import (
 	"wagtenib/bindings/go/wagtenib"
 )
 
-// watched is a model of a monitor: the accepted head, the leaves of the log that are accepted, the head that waits, and
-// the leaves that were read after those.
+// watched is a model of a monitor: the accepted head, the accepted leaves of the log, the head that waits, and the
+// leaves that were read after the accepted ones.
 type watched struct {
 	accepted, waiting *wagtenib.TreeHead
 	sure, read        uint64
 }
 
-// beside returns the verdict on a head beside a known one, or 0 if it is larger and later.
+// beside returns the verdict on a head compared with a known one, or 0 if it is larger and later.
 func beside(known *wagtenib.TreeHead, head wagtenib.TreeHead) wagtenib.Verdict {
 	switch {
 	case known == nil:
@@ -38,7 +38,7 @@ func beside(known *wagtenib.TreeHead, head wagtenib.TreeHead) wagtenib.Verdict {
 	return wagtenib.VerdictForked
 }
 
-// settle returns the verdict on the waiting head beside the leaves that were read, all of which are those of the log.
+// settle returns the verdict on the waiting head after the leaves were read. All of these are leaves of the log.
 func (w *watched) settle(t *testing.T, log *madeLog) wagtenib.Verdict {
 	t.Helper()
 	if w.read != w.waiting.TreeSize {
@@ -184,7 +184,8 @@ func TestMonitorReportsEntries(t *testing.T) {
 	}
 }
 
-// A report names the first entries only. With its timestamp, each entry gets a verdict of its own.
+// TestMonitorEntryJudgesEachEntry checks that each entry gets a verdict of its own, with the timestamp in the report.
+// The report itself has only the first entries.
 func TestMonitorEntryJudgesEachEntry(t *testing.T) {
 	for _, one := range []struct {
 		head, due uint64
@@ -261,8 +262,8 @@ func TestMonitorRefusesDamagedStates(t *testing.T) {
 	}
 }
 
-// TestMonitorStartsAtATrustedHead: from the state of each start, the monitor goes on as one that read the log from its
-// beginning.
+// TestMonitorStartsAtATrustedHead checks that from the state of each start, the monitor continues like one that read
+// the log from its beginning.
 func TestMonitorStartsAtATrustedHead(t *testing.T) {
 	log := &madeLog{}
 	for i := range 20 {

@@ -27,7 +27,7 @@ const (
 	IPAddress           NameKind = 7 // an iPAddress of subjectAltName: 4 or 16 bytes, if it is well-formed
 )
 
-// Name holds a name of a certificate.
+// Name is a name of a certificate.
 type Name struct {
 	Kind  NameKind
 	Bytes []byte // as they are in the certificate
@@ -61,17 +61,17 @@ func CertificateNames(entryType EntryType, certificate []byte) ([]Name, error) {
 	return names, nil
 }
 
-// Place is the place in a certificate at which a watched name is found.
+// Place is the place in a certificate at which a watched name was found.
 type Place uint8
 
-// The places of a watched name that is found.
+// The places of a watched name.
 const (
 	InAltName    Place = 1 // it is a name of subjectAltName
 	InCommonName Place = 2 // it is a common name, and no name of subjectAltName
 	InBytes      Place = 3 // its text is somewhere in the bytes: the place of NamesInBytes
 )
 
-// Found holds a watched name that is found in a certificate.
+// Found is a watched name that was found in a certificate.
 type Found struct {
 	Position uint64 // of the name in the list of watched names
 	Place    Place
@@ -90,11 +90,11 @@ func NewWatchList(names []string) WatchList {
 	return list
 }
 
-// WatchedNames returns which of the watched names are found in a certificate (X509Entry) or in a TBSCertificate
+// WatchedNames returns the watched names that are found in a certificate (X509Entry) or in a TBSCertificate
 // (PrecertEntry), both in DER, in the order of the list. A watched name is found by its labels (RFC 9525, section 6.3),
 // without regard to the case of ASCII letters and to one dot at its end.
 //
-// The error is as of CertificateNames.
+// The errors are those of CertificateNames.
 func WatchedNames(entryType EntryType, certificate []byte, watched WatchList) ([]Found, error) {
 	var field C.uint32_t
 	text, code := output(0, func(out *C.uint8_t, room C.size_t, length *C.uint64_t) C.uint32_t {
@@ -107,11 +107,11 @@ func WatchedNames(entryType EntryType, certificate []byte, watched WatchList) ([
 	return foundNames(text), nil
 }
 
-// NamesInBytes returns which of the watched names are somewhere in the bytes, in the order of the list, each with the
-// place InBytes. The bytes may be any bytes: for example a certificate that cannot be read, or that has the name in a
-// field that WatchedNames does not read. A watched name is in the bytes if its text is, without regard to the case of
-// ASCII letters. Its text is the name without one dot at its end, and without the "*." or the dot in front. An empty
-// text is in all bytes.
+// NamesInBytes returns the watched names that are somewhere in the bytes, in the order of the list, each with the place
+// InBytes. The bytes may be any bytes, for example those of a certificate that cannot be read, or that has the name in
+// a field that WatchedNames does not read. A watched name is found if the bytes contain its text, without regard to the
+// case of ASCII letters. The text is the name without one dot at its end, and without the "*." or the dot in front. An
+// empty text is in all bytes.
 //
 // The error is nil or ErrMemory.
 func NamesInBytes(data []byte, watched WatchList) ([]Found, error) {
@@ -125,7 +125,7 @@ func NamesInBytes(data []byte, watched WatchList) ([]Found, error) {
 	return foundNames(text), nil
 }
 
-// foundNames reads the watched names that the library found.
+// foundNames reads the watched names in a result of the library.
 func foundNames(text []byte) []Found {
 	found := make([]Found, 0, len(text)/(sizeOfLength+1))
 	for ; len(text) > 0; text = text[sizeOfLength+1:] {

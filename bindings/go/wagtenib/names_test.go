@@ -17,7 +17,7 @@ import (
 	"wagtenib/bindings/go/wagtenib"
 )
 
-// issueNamed has crypto/x509 issue a certificate with these names.
+// issueNamed issues a certificate with these names by crypto/x509.
 func (a *authority) issueNamed(t *testing.T, template *x509.Certificate) *x509.Certificate {
 	t.Helper()
 	template.SerialNumber, template.NotAfter = big.NewInt(9), time.Unix(1<<31, 0)
@@ -32,7 +32,7 @@ func (a *authority) issueNamed(t *testing.T, template *x509.Certificate) *x509.C
 	return certificate
 }
 
-// named is a certificate with a name of each kind that crypto/x509 writes.
+// named returns a certificate with a name of each kind that crypto/x509 writes.
 func named(t *testing.T, a *authority) *x509.Certificate {
 	t.Helper()
 	page, err := url.Parse("https://user@host.example.net:8443/page?query")
@@ -48,8 +48,8 @@ func named(t *testing.T, a *authority) *x509.Certificate {
 	})
 }
 
-// TestNamesAreThoseOfX509: crypto/x509 reads the same names of each kind, in the same order, of the certificate and of
-// its TBSCertificate.
+// TestNamesAreThoseOfX509 checks that crypto/x509 reads the same names of each kind, in the same order, from the
+// certificate and from its TBSCertificate.
 func TestNamesAreThoseOfX509(t *testing.T) {
 	certificate := named(t, newAuthority(t))
 	for entryType, data := range map[wagtenib.EntryType][]byte{wagtenib.X509Entry: certificate.Raw,
@@ -82,8 +82,8 @@ func TestNamesAreThoseOfX509(t *testing.T) {
 	}
 }
 
-// TestFindsHostsThatX509Verifies: a watched host is found in subjectAltName exactly if crypto/x509 says that the
-// certificate is valid for it.
+// TestFindsHostsThatX509Verifies checks that a watched host is found in subjectAltName exactly if crypto/x509 accepts
+// the certificate for it.
 func TestFindsHostsThatX509Verifies(t *testing.T) {
 	certificate := named(t, newAuthority(t))
 	hosts := []string{"www.example.org", "WWW.example.org", "example.org", "a.wild.example.org", "a.b.wild.example.org",
@@ -103,8 +103,8 @@ func TestFindsHostsThatX509Verifies(t *testing.T) {
 	}
 }
 
-// TestFindsPlaces: a watched name is found by its position, also below a name with a dot in front, in a mail address,
-// in a URI and in a common name.
+// TestFindsPlaces checks the place at which a watched name is found, also below a name with a dot in front, in a mail
+// address, in a URI and in a common name.
 func TestFindsPlaces(t *testing.T) {
 	certificate := named(t, newAuthority(t))
 	watched := []string{"absent.example", ".example.net", "mail.example.org", "host.example.net.", "common.example.org",
@@ -119,9 +119,9 @@ func TestFindsPlaces(t *testing.T) {
 	}
 }
 
-// TestFindsNamesInBytes: a watched name is found in the bytes of a certificate that cannot be read, in an organization
-// and across fields, whatever the case of its letters. The dot or the "*." in front and the dot at the end are no part
-// of what is looked for. The dot at the end goes first, so "*." is the text "*".
+// TestFindsNamesInBytes checks that a watched name is found in the bytes of a certificate that cannot be read, in an
+// organization and across fields, whatever the case of its letters. The dot or the "*." in front and the dot at the end
+// are not part of the searched text. The dot at the end is removed first, so "*." becomes the text "*".
 func TestFindsNamesInBytes(t *testing.T) {
 	certificate := named(t, newAuthority(t)).Raw
 	cut := certificate[:len(certificate)-1]
@@ -147,7 +147,7 @@ func TestFindsNamesInBytes(t *testing.T) {
 	}
 }
 
-// TestReadsWideCommonNames: a common name in a BMPString keeps its bytes.
+// TestReadsWideCommonNames checks that a common name in a BMPString keeps its bytes.
 func TestReadsWideCommonNames(t *testing.T) {
 	wide := asn1.RawValue{Tag: asn1.TagBMPString, Bytes: []byte{0, 'w', 0, '.', 0x65, 0xe5}}
 	commonName := pkix.AttributeTypeAndValue{Type: asn1.ObjectIdentifier{2, 5, 4, 3}, Value: wide}
@@ -160,7 +160,7 @@ func TestReadsWideCommonNames(t *testing.T) {
 	}
 }
 
-// TestRefusesNames finds the refusals of names by their errors.
+// TestRefusesNames checks the errors of names.
 func TestRefusesNames(t *testing.T) {
 	certificate := named(t, newAuthority(t)).Raw
 	for _, test := range []struct {

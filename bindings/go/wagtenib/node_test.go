@@ -10,7 +10,7 @@ import (
 	"wagtenib/bindings/go/wagtenib"
 )
 
-// seen is a state, and made one that may follow it.
+// seen is a state, and made is a state that may follow it.
 var (
 	seen = wagtenib.NodeState{Timestamp: 7, PreviousTimestamp: 5, Salt: 1}
 	made = wagtenib.NodeState{Timestamp: 9, PreviousTimestamp: 7, Salt: 2}
@@ -60,7 +60,7 @@ func TestNodeNext(t *testing.T) {
 	}
 }
 
-// lineOf returns a state's line of a log with this size, timestamp and root.
+// lineOf returns the line of a state of a log with this size, timestamp and root.
 func lineOf(size, timestamp uint64, root wagtenib.Hash) string {
 	return fmt.Sprintf("growth %016x%016x%x%s", size, timestamp, root, strings.Repeat("0", 192))
 }
@@ -76,7 +76,7 @@ func TestLockTexts(t *testing.T) {
 			t.Errorf("%+v, %d, %v", state, size, err)
 		}
 	}
-	// If the previous timestamp is none before the state's, it counts as 0.
+	// A previous timestamp that is not before that of the state counts as 0.
 	text, err := wagtenib.LockText([]byte(line), nil, 9, math.MaxUint64)
 	if err != nil {
 		t.Fatal(err)
@@ -109,7 +109,7 @@ func TestBatchNames(t *testing.T) {
 	}
 }
 
-// TestNodeStart has a node find heads before, at and after the lock's.
+// TestNodeStart checks the decision of a node that finds heads before, at and after the head of the lock.
 func TestNodeStart(t *testing.T) {
 	root := wagtenib.Hash{1}
 	lock, err := wagtenib.LockText([]byte(lineOf(3, 9, root)), []byte("-"), 7, 2)

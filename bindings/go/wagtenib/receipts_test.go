@@ -10,7 +10,7 @@ import (
 	"wagtenib/bindings/go/wagtenib"
 )
 
-// subtrees returns the roots of the perfect subtrees of the first leaves, largest first, as x/mod's tlog stores them.
+// subtrees returns the roots of the perfect subtrees of the first leaves, largest first, in the order of x/mod's tlog.
 func (l *madeLog) subtrees(first uint64) (roots []wagtenib.Hash) {
 	for done := uint64(0); done < first; {
 		level := bits.Len64(first-done) - 1
@@ -20,7 +20,7 @@ func (l *madeLog) subtrees(first uint64) (roots []wagtenib.Hash) {
 	return roots
 }
 
-// stepLog returns a log of so many leaves, each with its own index as its extension, and its head.
+// stepLog returns a log with size leaves, each with its own index as its extension, and its head.
 func stepLog(t *testing.T, size uint64) (l madeLog, head wagtenib.TreeHead) {
 	t.Helper()
 	for i := range size {

@@ -8,7 +8,7 @@ package wagtenib
 // #include "wagtenib.h"
 import "C"
 
-// HasSHAInstructions reports whether SHA-256 runs by the processor's SHA instructions in place of the proved code. That
-// needs the build tag wagtenib_sha_instructions and a processor that has them. The proof does not speak of these
-// instructions.
+// HasSHAInstructions reports whether SHA-256 uses the processor's SHA instructions in place of the proved code. That
+// needs the build tag wagtenib_sha_instructions and a processor that has them. These instructions are not part of the
+// proof.
 func HasSHAInstructions() bool { return bool(C.wagtenib_has_sha_instructions()) }

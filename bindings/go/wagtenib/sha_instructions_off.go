@@ -2,6 +2,6 @@
 
 package wagtenib
 
-// HasSHAInstructions reports whether SHA-256 runs by the processor's SHA instructions in place of the proved code. That
+// HasSHAInstructions reports whether SHA-256 uses the processor's SHA instructions in place of the proved code. That
 // needs the build tag wagtenib_sha_instructions, which this build does not have, and a processor that has them.
 func HasSHAInstructions() bool { return false }

@@ -12,8 +12,8 @@ import (
 	"wagtenib/bindings/go/wagtenib"
 )
 
-// TestSHAInstructionsHashAsGo compares the hashes of leaves of random lengths with those of crypto/sha256.
-// WAGTENIB_BLOCKS is the number of blocks.
+// TestSHAInstructionsHashAsGo compares the hashes of leaves of random lengths with those of crypto/sha256. The
+// environment variable WAGTENIB_BLOCKS is the number of blocks.
 func TestSHAInstructionsHashAsGo(t *testing.T) {
 	left := 100_000
 	if text := os.Getenv("WAGTENIB_BLOCKS"); text != "" {
@@ -31,13 +31,13 @@ func TestSHAInstructionsHashAsGo(t *testing.T) {
 		if got, want := wagtenib.LeafHash(bytes[1:length]), sha256.Sum256(bytes[:length]); got != want {
 			t.Fatalf("leaf %x: the hash is %x, and crypto/sha256 has %x", bytes[1:length], got, want)
 		}
-		// (a message ends with a byte and its length in eight bytes)
+		// SHA-256 appends a byte and the length in eight bytes to a message.
 		left -= (length + 9 + sha256.BlockSize - 1) / sha256.BlockSize
 	}
 }
 
-// TestSHAInstructionsAreUsed compares what the package reports with WAGTENIB_INSTRUCTIONS, which says whether the
-// processor has SHA instructions.
+// TestSHAInstructionsAreUsed compares what the package reports with the environment variable WAGTENIB_INSTRUCTIONS,
+// which says whether the processor has SHA instructions.
 func TestSHAInstructionsAreUsed(t *testing.T) {
 	due := os.Getenv("WAGTENIB_INSTRUCTIONS")
 	if due == "" {

@@ -21,14 +21,14 @@ import (
 	"fmt"
 )
 
-// MaxBatch is the largest number of submissions of a step.
+// MaxBatch is the maximum number of submissions of a step.
 const MaxBatch = 4096
 
-// ErrSubmission reports that a submission has no encoding: a certificate has no bytes or more than 2^24 - 1, or the
-// chain has more than 2,047 issuers.
+// ErrSubmission means that a submission has no encoding: a certificate has no bytes or more than 2^24 - 1, or the chain
+// has more than 2,047 issuers.
 var ErrSubmission = errors.New("wagtenib: a submission has a length that is not in range")
 
-// Submission holds an entry of a batch.
+// Submission is an entry of a batch.
 type Submission struct {
 	Certificate    []byte // DER, of an entry of a certificate; then the next two are nil
 	PreCertificate []byte // DER, of an entry of a precertificate
@@ -37,28 +37,28 @@ type Submission struct {
 	Chain          []Hash // SHA-256 fingerprints of the issuers
 }
 
-// Receipt holds where an entry of a batch is in the log.
+// Receipt is the position of an entry of a batch in the log.
 type Receipt struct {
 	LeafIndex uint64
 	Timestamp uint64 // milliseconds since 1970
 	Signed    []byte // what is signed for the SCT (RFC 6962, section 3.2), which is also the leaf
 }
 
-// Object holds where an object is in a bundle.
+// Object is the position of an object in a bundle.
 type Object struct {
 	Name          string // as in "tile/0/000"
 	Start, Length uint64 // the place of its content in the bundle
 	Digest        Hash   // SHA-256 of its content
 }
 
-// Published holds what is published of a step.
+// Published has what a step publishes.
 type Published struct {
 	Signed     SignedBytes // what is signed for the head (RFC 6962, section 3.5)
 	Checkpoint string      // the text of the checkpoint, without a signature (C2SP tlog-checkpoint)
 	Objects    []Object    // the objects of the bundle, in order
 }
 
-// Step holds a step of a log.
+// Step is a step of a log.
 type Step struct {
 	Published
 	State    string // the new state
@@ -80,8 +80,8 @@ func appendCertificate(text, certificate []byte) ([]byte, error) {
 	return append(append(text, byte(n>>16), byte(n>>8), byte(n)), certificate...), nil
 }
 
-// AppendSubmission appends the submission as it is in a batch: a TileLeaf (C2SP static-ct-api) with the timestamp 0 and
-// no extensions. It returns ErrSubmission if a length is not in range.
+// AppendSubmission appends a submission to a batch: a TileLeaf (C2SP static-ct-api) with the timestamp 0 and no
+// extensions. It returns ErrSubmission if a length is not in range.
 func AppendSubmission(batch []byte, s Submission) (_ []byte, err error) {
 	if len(s.Chain) >= 2048 {
 		return nil, fmt.Errorf("%w: %d fingerprints", ErrSubmission, len(s.Chain))
@@ -107,10 +107,10 @@ func AppendSubmission(batch []byte, s Submission) (_ []byte, err error) {
 	return batch, nil
 }
 
-// AppendContent appends the content of an object as it is in an edge.
+// AppendContent appends the content of an object to an edge.
 func AppendContent(edge, content []byte) []byte { return appendVector(edge, content) }
 
-// answered makes a call that writes a reply of unknown length, into memory of its own.
+// answered makes a call that writes a result of unknown length, and returns a copy of the result.
 func answered(room int, call func(out *C.uint8_t, room C.size_t, length *C.uint64_t) C.uint32_t) ([]byte, error) {
 	out := make([]byte, room)
 	var length C.uint64_t
@@ -125,10 +125,10 @@ func answered(room int, call func(out *C.uint8_t, room C.size_t, length *C.uint6
 	return out[:length:length], nil
 }
 
-// fields reads a reply from its front.
+// fields reads a result from its beginning.
 type fields struct{ rest []byte }
 
-// bytes returns the next bytes. The library's replies have them.
+// bytes returns the next bytes. The results of the library always have them.
 func (f *fields) bytes(n uint64) []byte {
 	part := f.rest[:n:n]
 	f.rest = f.rest[n:]
@@ -139,7 +139,7 @@ func (f *fields) number() uint64 { return binary.BigEndian.Uint64(f.bytes(8)) }
 
 func (f *fields) vector() []byte { return f.bytes(f.number()) }
 
-// published returns what a reply says of a step.
+// published reads what a step publishes.
 func (f *fields) published() (p Published) {
 	p.Signed = SignedBytes(f.bytes(TreeHeadBytes))
 	p.Checkpoint = string(f.vector())
@@ -197,9 +197,9 @@ func MakeStep(origin, state string, edge, batch []byte, now, maxAhead uint64) (*
 	return step, nil
 }
 
-// StepClaim returns the bytes to sign for the SCT of a submission, appended by AppendSubmission, if its entry has this
-// timestamp and is the leaf at index: the path leads from that leaf to the root of the state. The error is nil or the
-// first reason of ErrBatch, ErrState, ErrClaim and ErrMemory.
+// StepClaim returns the bytes to sign for the SCT of a submission, appended by AppendSubmission. Its entry must have
+// this timestamp and be the leaf at index: the path must lead from that leaf to the root of the state. The error is nil
+// or the first reason of ErrBatch, ErrState, ErrClaim and ErrMemory.
 func StepClaim(state string, index, timestamp uint64, path []Hash, submission []byte) (signed []byte, err error) {
 	return answered(len(submission)+64, func(out *C.uint8_t, room C.size_t, length *C.uint64_t) C.uint32_t {
 		return C.wagtenib_step_claim(ofText(state), C.size_t(len(state)), C.uint64_t(index), C.uint64_t(timestamp),
@@ -207,8 +207,8 @@ func StepClaim(state string, index, timestamp uint64, path []Hash, submission []
 	})
 }
 
-// StepResume returns what is published of the step that made a state, by its bundle. The error is nil or the first
-// reason of ErrOrigin, ErrState, ErrBundle and ErrMemory.
+// StepResume returns what was published by the step that led to a state, from the bundle of that step. The error is nil
+// or the first reason of ErrOrigin, ErrState, ErrBundle and ErrMemory.
 func StepResume(origin, state string, bundle []byte) (*Published, error) {
 	reply, err := answered(16384, func(out *C.uint8_t, room C.size_t, length *C.uint64_t) C.uint32_t {
 		return C.wagtenib_step_resume(ofText(origin), C.size_t(len(origin)), ofText(state), C.size_t(len(state)),

@@ -17,7 +17,7 @@ import (
 
 const stepOrigin = "log.example/steps"
 
-// steppedLeaf returns the MerkleTreeLeaf of a submission (RFC 6962, section 3.4), whose one extension is its index
+// steppedLeaf returns the MerkleTreeLeaf of a submission (RFC 6962, section 3.4), whose only extension is its index
 // (C2SP static-ct-api).
 func steppedLeaf(s wagtenib.Submission, timestamp, index uint64) []byte {
 	leaf := binary.BigEndian.AppendUint64([]byte{0, 0}, timestamp)
@@ -31,7 +31,7 @@ func steppedLeaf(s wagtenib.Submission, timestamp, index uint64) []byte {
 	return append(leaf, 0, 8, 0, 0, 5, byte(index>>32), byte(index>>24), byte(index>>16), byte(index>>8), byte(index))
 }
 
-// submissionAt returns a made-up submission.
+// submissionAt returns a generated submission.
 func submissionAt(number int) wagtenib.Submission {
 	if number%3 == 2 {
 		return wagtenib.Submission{PreCertificate: fmt.Append(nil, "pre ", number),
@@ -53,7 +53,8 @@ func batchOf(t testing.TB, submissions ...wagtenib.Submission) (batch []byte) {
 	return batch
 }
 
-// steppedLog is a log that grows by steps: its newest state, what it has published, and what tlog makes of its leaves.
+// steppedLog is a log that grows by steps: its newest state, what it has published, and the hashes that tlog computes
+// of its leaves.
 type steppedLog struct {
 	madeLog
 	state   string
@@ -90,8 +91,8 @@ func (l *steppedLog) take(t testing.TB, step *wagtenib.Step) {
 	l.state = step.State
 }
 
-// TestSteps makes steps of many sizes: roots and tiles are those of x/mod's tlog, and what is signed is as RFC 6962 has
-// it.
+// TestSteps makes steps of many sizes. Roots and tiles must be those of x/mod's tlog, and the signed bytes those of RFC
+// 6962.
 func TestSteps(t *testing.T) {
 	log := steppedLog{objects: map[string][]byte{}}
 	var err error
@@ -106,7 +107,7 @@ func TestSteps(t *testing.T) {
 			batch = append(batch, s)
 			log.append(t, steppedLeaf(s, now, uint64(len(log.leaves))))
 		}
-		// (the first one once more, with another chain)
+		// This is the first submission again, with another chain.
 		if count > 0 {
 			again := batch[0]
 			again.Chain = make([]wagtenib.Hash, 2047)
@@ -192,7 +193,7 @@ func TestSteps(t *testing.T) {
 	log.refuses(t)
 }
 
-// refuses has each refusal of a step come, by what is wrong of it.
+// refuses checks each error of a step, by the argument that is wrong.
 func (l *steppedLog) refuses(t *testing.T) {
 	t.Helper()
 	edge, one := l.edge(t), batchOf(t, submissionAt(1_000_000))
@@ -268,10 +269,10 @@ func (l *steppedLog) refuses(t *testing.T) {
 	}
 }
 
-// second returns the error of a call.
+// second returns the error of a call with two results.
 func second[T any](_ T, err error) error { return err }
 
-// TestSubmissionsInRange: what has no encoding is told before a call.
+// TestSubmissionsInRange checks that a submission without an encoding is an error before a call.
 func TestSubmissionsInRange(t *testing.T) {
 	for what, s := range map[string]wagtenib.Submission{
 		"nothing":            {},

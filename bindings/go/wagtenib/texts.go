@@ -21,7 +21,7 @@ import "C"
 
 import "unsafe"
 
-// Checkpoint holds the content of a checkpoint's text (C2SP tlog-checkpoint).
+// Checkpoint has the content of a checkpoint's text (C2SP tlog-checkpoint).
 type Checkpoint struct {
 	Origin   string
 	TreeSize uint64 // leaves
@@ -52,17 +52,17 @@ func ReadCheckpoint(text string) (Checkpoint, error) {
 		Root: *(*Hash)(unsafe.Pointer(&found.root))}, nil
 }
 
-// TreeHeadSignature returns the bytes under a log's signature of a head (RFC 6962, section 3.5). A checkpoint's
-// RFC6962NoteSignature is made over them too (C2SP static-ct-api, "Checkpoints").
+// TreeHeadSignature returns the bytes that a log signs for a head (RFC 6962, section 3.5). A checkpoint's
+// RFC6962NoteSignature is also over these bytes (C2SP static-ct-api, "Checkpoints").
 func TreeHeadSignature(head TreeHead) (signed SignedBytes) {
 	of := head.inC()
 	C.wagtenib_tree_head_signature(&of, ofSigned(&signed))
 	return signed
 }
 
-// CosignatureMessage returns the bytes under a witness's cosignature of this time, in seconds since 1970, over the text
-// of a note (C2SP tlog-cosignature), which may have extension lines. A witness calls WitnessCosign instead, which
-// decides whether it may sign them. The error is nil, ErrNotUTF8 or ErrMemory.
+// CosignatureMessage returns the bytes that a witness signs for a cosignature with this time, in seconds since 1970, of
+// the text of a note (C2SP tlog-cosignature). The text may have extension lines. A witness calls WitnessCosign instead,
+// which decides whether it may sign them. The error is nil, ErrNotUTF8 or ErrMemory.
 func CosignatureMessage(time uint64, text string) ([]byte, error) {
 	message, code := output(maxBeforeText+len(text), func(out *C.uint8_t, room C.size_t, length *C.uint64_t) C.uint32_t {
 		return C.wagtenib_cosignature_message(C.uint64_t(time), ofText(text), C.size_t(len(text)), out, room, length)
@@ -70,9 +70,9 @@ func CosignatureMessage(time uint64, text string) ([]byte, error) {
 	return message, result(code)
 }
 
-// NoteKeyID returns the number by which a note's signature names its key (C2SP signed-note): the first 4 bytes of
-// SHA-256 over the key's name, a line feed, the byte of its algorithm, and the public key. For an RFC6962NoteSignature,
-// algorithm 5, the LogID is in place of the key.
+// NoteKeyID returns the ID of a key in a note's signature (C2SP signed-note): the first 4 bytes of SHA-256 over the
+// key's name, a line feed, the byte of its algorithm, and the public key. For an RFC6962NoteSignature, algorithm 5, the
+// LogID replaces the key.
 func NoteKeyID(name string, algorithm uint8, publicKey []byte) (id [4]byte) {
 	C.wagtenib_note_key_id(ofText(name), C.size_t(len(name)), C.uint8_t(algorithm), ofBytes(publicKey),
 		C.size_t(len(publicKey)), (*C.uint8_t)(unsafe.Pointer(&id)))
@@ -89,5 +89,5 @@ func LogID(publicKey []byte) (id Hash) {
 // and the third.
 const HeaderVersion uint32 = C.WAGTENIB_VERSION
 
-// Version returns the version of the library's code, as HeaderVersion.
+// Version returns the version of the library's code, in the form of HeaderVersion.
 func Version() uint32 { return uint32(C.wagtenib_version()) }

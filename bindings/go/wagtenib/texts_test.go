@@ -26,7 +26,7 @@ const (
 	exampleTime       = 1679315147
 )
 
-// TestCheckpointsAreRead: the example of the format is read and written again.
+// TestCheckpointsAreRead reads the example of the format and writes it again.
 func TestCheckpointsAreRead(t *testing.T) {
 	checkpoint, err := wagtenib.ReadCheckpoint(exampleCheckpoint)
 	if err != nil || checkpoint.Origin != "example.com/behind-the-sofa" || checkpoint.TreeSize != 20852163 {
@@ -41,7 +41,7 @@ func TestCheckpointsAreRead(t *testing.T) {
 	}
 }
 
-// TestRefusesTexts: bytes that are no origin, no checkpoint or no text are refused by their names.
+// TestRefusesTexts checks the errors of bytes that are not an origin, a checkpoint or a text.
 func TestRefusesTexts(t *testing.T) {
 	for _, origin := range []string{"", "a\nb", "\xff"} {
 		if _, err := wagtenib.CheckpointText(wagtenib.Checkpoint{Origin: origin}); !errors.Is(err, wagtenib.ErrOrigin) {
@@ -59,7 +59,8 @@ func TestRefusesTexts(t *testing.T) {
 	}
 }
 
-// TestMessagesAreOfTheFormat: the message is the example of C2SP tlog-cosignature, and may be over extension lines.
+// TestMessagesAreOfTheFormat checks that the message is the example of C2SP tlog-cosignature, and that it may be over
+// extension lines.
 func TestMessagesAreOfTheFormat(t *testing.T) {
 	for _, text := range []string{exampleCheckpoint, exampleCheckpoint + "an extension line\n", ""} {
 		want := fmt.Sprintf("cosignature/v1\ntime %d\n%s", exampleTime, text)
@@ -69,7 +70,7 @@ func TestMessagesAreOfTheFormat(t *testing.T) {
 	}
 }
 
-// TestKeysAreNumberedAsNotesDo: x/mod's note makes a key, and names it by the same number.
+// TestKeysAreNumberedAsNotesDo compares the ID of a key with that of x/mod's note package, which generates the key.
 func TestKeysAreNumberedAsNotesDo(t *testing.T) {
 	_, verifierKey, err := note.GenerateKey(rand.Reader, "log.example/1")
 	if err != nil {
@@ -89,8 +90,8 @@ func TestKeysAreNumberedAsNotesDo(t *testing.T) {
 	}
 }
 
-// TestHeadsAndLogs: a TreeHeadSignature has the fields of RFC 6962, section 3.5, and a LogID is the hash of the key
-// that crypto/x509 writes.
+// TestHeadsAndLogs checks that a TreeHeadSignature has the fields of RFC 6962, section 3.5, and that a LogID is the
+// hash of the key that crypto/x509 writes.
 func TestHeadsAndLogs(t *testing.T) {
 	head := wagtenib.TreeHead{TreeSize: 1 << 40, Timestamp: 12345678901234, Root: sha256.Sum256([]byte("a root"))}
 	want := binary.BigEndian.AppendUint64(binary.BigEndian.AppendUint64([]byte{0, 1}, head.Timestamp), head.TreeSize)
@@ -110,7 +111,7 @@ func TestHeadsAndLogs(t *testing.T) {
 	}
 }
 
-// TestVersionsAgree: the library, its header and the file VERSION say one version.
+// TestVersionsAgree checks that the library, its header and the file VERSION have the same version.
 func TestVersionsAgree(t *testing.T) {
 	text, err := os.ReadFile("../../../VERSION")
 	if err != nil {

@@ -23,14 +23,14 @@ import (
 	"unsafe"
 )
 
-// The room for what is read out of tiles: names of two tiles of each of eight levels, and a hash for each halving of a
-// tree, with one more of a proof.
+// The room for results: the names of two tiles of each of eight levels, and a hash for each level of a tree, plus one
+// more in a proof.
 const (
 	namesRoom  = 16 * 48
 	hashesRoom = 65
 )
 
-// namesOf returns the names of tiles that a call writes, each ended by a line feed.
+// namesOf returns the names of tiles that a call writes. Each name ends with a line feed.
 func namesOf(call func(out *C.uint8_t, room C.size_t, length *C.uint64_t) C.uint32_t) ([]string, error) {
 	text, code := output(namesRoom, call)
 	if err := result(code); err != nil {
@@ -63,24 +63,24 @@ func hashesOf(call func(out *C.uint8_t, room C.size_t, count *C.uint64_t) C.uint
 	return out[:count:count], nil
 }
 
-// RootTiles returns the names (C2SP tlog-tiles) of the tiles that the root of the first size leaves is made of, the
-// lowest level first. The error is nil, ErrEmptyTree or ErrMemory.
+// RootTiles returns the names (C2SP tlog-tiles) of the tiles from which the root of the first size leaves is computed,
+// the lowest level first. The error is nil, ErrEmptyTree or ErrMemory.
 func RootTiles(size uint64) ([]string, error) {
 	return namesOf(func(out *C.uint8_t, room C.size_t, length *C.uint64_t) C.uint32_t {
 		return C.wagtenib_root_tiles(C.uint64_t(size), out, room, length)
 	})
 }
 
-// PathTiles returns the names of the tiles that the audit path of the leaf at index in the tree of size leaves is made
-// of. The error is nil, ErrIndexOutOfRange or ErrMemory.
+// PathTiles returns the names of the tiles from which the audit path of the leaf at index in the tree of size leaves is
+// computed. The error is nil, ErrIndexOutOfRange or ErrMemory.
 func PathTiles(index, size uint64) ([]string, error) {
 	return namesOf(func(out *C.uint8_t, room C.size_t, length *C.uint64_t) C.uint32_t {
 		return C.wagtenib_path_tiles(C.uint64_t(index), C.uint64_t(size), out, room, length)
 	})
 }
 
-// ProofTiles returns the names of the tiles that the consistency proof from the first leaves to second is made of. The
-// error is nil, ErrSizesOutOfRange or ErrMemory.
+// ProofTiles returns the names of the tiles from which the consistency proof from the first leaves to second is
+// computed. The error is nil, ErrSizesOutOfRange or ErrMemory.
 func ProofTiles(first, second uint64) ([]string, error) {
 	return namesOf(func(out *C.uint8_t, room C.size_t, length *C.uint64_t) C.uint32_t {
 		return C.wagtenib_proof_tiles(C.uint64_t(first), C.uint64_t(second), out, room, length)
@@ -88,7 +88,7 @@ func ProofTiles(first, second uint64) ([]string, error) {
 }
 
 // RootOfTiles returns the Merkle Tree Hash of the first size leaves (RFC 6962, section 2.1), from the tiles that
-// RootTiles names, in this order. If these are the tiles of a list of leaves, it is the list's.
+// RootTiles names, in this order. If these are the tiles of a list of leaves, it is the root of that list.
 //
 // The error is nil, or the first reason of ErrEmptyTree, ErrTooManyTiles, ErrMissingTile and ErrBadTile, or ErrMemory.
 // The first wrong tile is the first one that is missing, or does not have 32 bytes for each of its hashes.
@@ -100,8 +100,8 @@ func RootOfTiles(size uint64, tiles [][]byte) (root Hash, err error) {
 }
 
 // PathOfTiles returns the audit path of the leaf at index in the tree of size leaves (RFC 6962, section 2.1.1), from
-// the tiles that PathTiles names, in this order. Whatever the tiles are, VerifyInclusion decides whether it leads to a
-// root. The error is as of RootOfTiles, with ErrIndexOutOfRange.
+// the tiles that PathTiles names, in this order. Whatever the tiles are, VerifyInclusion decides whether the path leads
+// to a root. The errors are those of RootOfTiles, with ErrIndexOutOfRange in place of ErrEmptyTree.
 func PathOfTiles(index, size uint64, tiles [][]byte) ([]Hash, error) {
 	contents, lengths, tileCount := joined(tiles)
 	return hashesOf(func(out *C.uint8_t, room C.size_t, count *C.uint64_t) C.uint32_t {
@@ -111,8 +111,8 @@ func PathOfTiles(index, size uint64, tiles [][]byte) ([]Hash, error) {
 }
 
 // ProofOfTiles returns the consistency proof from the first leaves to second (RFC 6962, section 2.1.2), from the tiles
-// that ProofTiles names, in this order. Whatever the tiles are, VerifyConsistency decides whether it leads to two
-// roots. The error is as of RootOfTiles, with ErrSizesOutOfRange.
+// that ProofTiles names, in this order. Whatever the tiles are, VerifyConsistency decides whether the proof leads to
+// two roots. The errors are those of RootOfTiles, with ErrSizesOutOfRange in place of ErrEmptyTree.
 func ProofOfTiles(first, second uint64, tiles [][]byte) ([]Hash, error) {
 	contents, lengths, tileCount := joined(tiles)
 	return hashesOf(func(out *C.uint8_t, room C.size_t, count *C.uint64_t) C.uint32_t {

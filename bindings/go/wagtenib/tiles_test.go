@@ -29,7 +29,7 @@ func (l *madeLog) tilesOf(t testing.TB, names []string) [][]byte {
 	return contents
 }
 
-// TestTilesAreTlogs: roots, paths and proofs out of tlog's tiles are those that tlog makes of its hashes.
+// TestTilesAreTlogs checks that roots, paths and proofs from tlog's tiles are those that tlog computes from its hashes.
 func TestTilesAreTlogs(t *testing.T) {
 	var log madeLog
 	for i := range 1100 {
@@ -71,7 +71,7 @@ func TestTilesAreTlogs(t *testing.T) {
 	}
 }
 
-// TestLargeTrees: names and numbers of tiles of the largest trees.
+// TestLargeTrees checks names and numbers of tiles of the largest trees.
 func TestLargeTrees(t *testing.T) {
 	const most = 1<<64 - 1
 	names, err := wagtenib.PathTiles(most-1, most)
@@ -84,7 +84,7 @@ func TestLargeTrees(t *testing.T) {
 	}
 }
 
-// TestRefusesTiles finds each refusal by its name.
+// TestRefusesTiles checks each error of tiles.
 func TestRefusesTiles(t *testing.T) {
 	var log madeLog
 	for i := range 300 {
@@ -100,7 +100,7 @@ func TestRefusesTiles(t *testing.T) {
 		bent[at] = content
 		return bent
 	}
-	// (the lengths of the last one make up for each other)
+	// The wrong lengths of two tiles in the last one add up to the correct length.
 	shifted := [][]byte{tiles[0][:len(tiles[0])-32], append(append([]byte{}, tiles[0][len(tiles[0])-32:]...), tiles[1]...),
 		tiles[2]}
 	for what, test := range map[string]struct {

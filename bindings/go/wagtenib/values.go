@@ -27,7 +27,7 @@ func LeafHash(leaf []byte) (hash Hash) {
 }
 
 // VerifyInclusion checks an audit path (RFC 9162, section 2.1.3.2). It returns nil exactly if the path leads from
-// leafHash at index, counted from 0, to the root of a tree of size leaves. Otherwise it returns the first fault of
+// leafHash at index, counted from 0, to the root of a tree of size leaves. Otherwise it returns the first error of
 // ErrIndexOutOfRange, ErrPathTooLong, ErrPathTooShort and ErrRootMismatch.
 func VerifyInclusion(leafHash Hash, index, size uint64, path []Hash, root Hash) error {
 	return result(C.wagtenib_verify_inclusion(ofHash(&leafHash), C.uint64_t(index), C.uint64_t(size), ofHashes(path),
@@ -35,7 +35,7 @@ func VerifyInclusion(leafHash Hash, index, size uint64, path []Hash, root Hash) 
 }
 
 // VerifyConsistency checks a consistency proof (RFC 9162, section 2.1.4.2). It returns nil exactly if the path leads to
-// the root of the first `first` leaves and to that of all `second` leaves. Otherwise it returns the first fault of
+// the root of the first `first` leaves and to that of all `second` leaves. Otherwise it returns the first error of
 // ErrSizesOutOfRange, ErrEmptyPath, ErrPathTooLong, ErrPathTooShort, ErrFirstMismatch and ErrRootMismatch.
 func VerifyConsistency(first, second uint64, firstRoot, secondRoot Hash, path []Hash) error {
 	return result(C.wagtenib_verify_consistency(C.uint64_t(first), C.uint64_t(second), ofHash(&firstRoot),
@@ -58,8 +58,8 @@ const (
 	PrecertEntry EntryType = 1 // the entry is a precertificate's TBSCertificate
 )
 
-// Leaf holds the fields of a MerkleTreeLeaf (RFC 6962, section 3.4). Its slices are parts of the bytes that it was
-// decoded from.
+// Leaf has the fields of a MerkleTreeLeaf (RFC 6962, section 3.4). Its slices share memory with the bytes from which it
+// was decoded.
 type Leaf struct {
 	Timestamp     uint64    // milliseconds since 1970
 	EntryType     EntryType // X509Entry or PrecertEntry
@@ -75,9 +75,9 @@ const (
 	issuerHashBytes = HashSize
 )
 
-// DecodeLeaf reads a MerkleTreeLeaf (RFC 6962, section 3.4). It returns its fields exactly if the bytes are one, all of
-// them. Otherwise it returns the first fault from the left: ErrTruncated, ErrBadVersion, ErrBadLeafType,
-// ErrBadEntryType, ErrEmptyVector or ErrTrailing.
+// DecodeLeaf reads a MerkleTreeLeaf (RFC 6962, section 3.4). It returns the fields exactly if all bytes are one leaf.
+// Otherwise it returns the first error from the left: ErrTruncated, ErrBadVersion, ErrBadLeafType, ErrBadEntryType,
+// ErrEmptyVector or ErrTrailing.
 func DecodeLeaf(leaf []byte) (Leaf, error) {
 	var info C.struct_wagtenib_leaf_info
 	if err := result(C.wagtenib_decode_leaf(ofBytes(leaf), C.size_t(len(leaf)), &info)); err != nil {
@@ -95,15 +95,15 @@ func DecodeLeaf(leaf []byte) (Leaf, error) {
 	return found, nil
 }
 
-// Push appends a leaf to a tree, of which only the roots of its perfect subtrees are kept, largest first. `size` is the
-// number of leaves so far, and subtrees are the roots of these; a tree begins with size 0 and no subtrees. Push returns
-// the roots of the tree of size + 1 leaves. It may write to the array of subtrees, as append does, so the old slice is
-// of no use after the call. A tree has at most 64 subtrees.
+// Push appends a leaf to a tree, of which the caller keeps only the roots of its perfect subtrees, largest first.
+// `size` is the number of leaves so far, and subtrees are the roots of these. A tree begins with size 0 and no
+// subtrees. Push returns the roots of the tree of size + 1 leaves. It may write to the array of subtrees, as append
+// does, so the caller must not use the old slice after the call. A tree has at most 64 subtrees.
 func Push(size uint64, subtrees []Hash, leafHash Hash) []Hash {
 	count := len(subtrees)
 	subtrees = append(subtrees, Hash{})
 	var length C.size_t
-	// (a place is free, so the library always has room)
+	// There is an unused element, so the library always has room.
 	C.wagtenib_push(C.uint64_t(size), C.size_t(count), ofHashes(subtrees), C.size_t(len(subtrees)), ofHash(&leafHash),
 		&length)
 	return subtrees[:length]

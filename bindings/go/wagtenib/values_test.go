@@ -14,8 +14,8 @@ import (
 	"wagtenib/bindings/go/wagtenib"
 )
 
-// The published vectors of Certificate Transparency's reference tree: its eight leaves, and the root of the first n for
-// each n.
+// These are published vectors of Certificate Transparency's reference tree: its eight leaves, and the root of the first
+// n for each n.
 var referenceLeaves = []string{"", "00", "10", "2021", "3031", "40414243", "5051525354555657",
 	"606162636465666768696a6b6c6d6e6f"}
 
@@ -31,8 +31,8 @@ var referenceRoots = []string{
 	"5dc9da79a70659a9ad559cb701ded9a2ab9d823aad2f4960cfe370eff4604328",
 }
 
-// The reference tree's published audit path of the leaf 5 in all eight leaves, and its consistency proof of 6 leaves
-// with all eight.
+// The reference tree's published audit path of leaf 5 in the tree of all eight leaves, and its consistency proof from 6
+// leaves to all eight.
 var (
 	referencePath = []string{
 		"bc1a0643b12e4d2d7c77918f44e0f4f79a838b6cf9ec5b5c283e1f4d88599e6b",
@@ -154,7 +154,7 @@ func TestRefusesConsistencyProofsByTheFirstFault(t *testing.T) {
 	}
 }
 
-// storedHashes is a tree of x/mod's tlog: the hashes that it stores, in its order.
+// storedHashes is a tree of x/mod's tlog: the hashes that tlog stores, in its order.
 type storedHashes []tlog.Hash
 
 func (s storedHashes) ReadHashes(indexes []int64) (found []tlog.Hash, err error) {
@@ -204,7 +204,7 @@ func TestAgreesWithTlog(t *testing.T) {
 	}
 }
 
-// comparesProofs has the library check some proofs that tlog makes of a tree.
+// comparesProofs checks proofs of tlog for a tree by the library.
 func comparesProofs(t *testing.T, chance *rand.Rand, stored storedHashes, hashes, roots []wagtenib.Hash) {
 	t.Helper()
 	for range 50 {
@@ -232,13 +232,13 @@ func comparesProofs(t *testing.T, chance *rand.Rand, stored storedHashes, hashes
 	}
 }
 
-// opaque returns a vector with its length in so many bytes (RFC 5246, section 4.3).
+// opaque returns a vector after its length in this number of bytes (RFC 5246, section 4.3).
 func opaque(lengthBytes int, bytes []byte) []byte {
 	length := binary.BigEndian.AppendUint64(nil, uint64(len(bytes)))
 	return append(length[8-lengthBytes:], bytes...)
 }
 
-// leafOf returns a MerkleTreeLeaf as RFC 6962, section 3.4 has it.
+// leafOf returns a MerkleTreeLeaf by RFC 6962, section 3.4.
 func leafOf(timestamp uint64, entryType uint16, entry, extensions []byte) []byte {
 	leaf := binary.BigEndian.AppendUint64([]byte{0, 0}, timestamp)
 	leaf = binary.BigEndian.AppendUint16(leaf, entryType)

@@ -4,14 +4,14 @@
 // process.
 //
 // The functions check proofs (RFC 6962, RFC 9162) and make the decisions of a log, a node, a reader, a witness and a
-// signer's guard. Their code is the assembly in this folder. It is compiled from the proved crates of the repository,
-// and no file here is needed but those of this folder. `go build` needs Go 1.24, cgo and a C compiler.
+// signer's guard. Their code is the assembly in this folder, which is compiled from the proved crates of the
+// repository. A build needs only the files in this folder, and Go 1.24, cgo and a C compiler.
 //
-// A call keeps no state, does no input or output, and returns for every input, by proof. It can be made from any number
-// of goroutines at once. Nothing may write to its arguments meanwhile.
+// A call keeps no state, does no input or output, and returns for every input, by proof. It may be made from any number
+// of goroutines at once. Nothing may write to its arguments during the call.
 //
-// A call runs on the stack of an operating system's thread. It takes at most 16 KB of it. The threads of Go have 8 MB
-// with glibc (ulimit -s).
+// A call runs on the stack of a thread of the operating system, and uses at most 16 KB of it. The threads of Go have 8
+// MB with glibc (ulimit -s).
 package wagtenib
 
 // #cgo CFLAGS: -std=c11 -O2
@@ -26,175 +26,179 @@ import (
 // HashSize is the number of bytes of a hash (SHA-256).
 const HashSize = 32
 
-// Hash holds the SHA-256 hash of a leaf or of a tree (RFC 6962, section 2.1).
+// Hash is the SHA-256 hash of a leaf or of a tree (RFC 6962, section 2.1).
 type Hash = [HashSize]byte
 
-// Code is an answer of the library (wagtenib.h) that reports a fault. It is the type of all errors of this package,
-// except that a *CertificateError wraps it.
+// Code is an answer of the library (wagtenib.h) that reports an error. It is the type of all errors of this package,
+// except that a *CertificateError or a *TileError wraps it.
 type Code uint32
 
 // The faults of an audit path, of a consistency proof and of a leaf, the reasons for which a call has no reply, and
 // those of the guard, of the step, of tiles, of certificates, of the witness, of watched names and of texts.
 const (
-	// the index of the leaf isn't below the size of the tree
+	// ErrIndexOutOfRange means that the index of the leaf is not below the size of the tree.
 	ErrIndexOutOfRange Code = C.WAGTENIB_INDEX_OUT_OF_RANGE
-	// hashes are left after the last level of the tree
+	// ErrPathTooLong means that hashes are left after the last level of the tree.
 	ErrPathTooLong Code = C.WAGTENIB_PATH_TOO_LONG
-	// the hashes end before the last level of the tree
+	// ErrPathTooShort means that the hashes end before the last level of the tree.
 	ErrPathTooShort Code = C.WAGTENIB_PATH_TOO_SHORT
-	// the hashes lead to another root
+	// ErrRootMismatch means that the hashes lead to another root.
 	ErrRootMismatch Code = C.WAGTENIB_ROOT_MISMATCH
-	// the consistency proof has no hashes
+	// ErrEmptyPath means that the consistency proof has no hashes.
 	ErrEmptyPath Code = C.WAGTENIB_EMPTY_PATH
-	// the consistency proof leads to another first root
+	// ErrFirstMismatch means that the consistency proof leads to another first root.
 	ErrFirstMismatch Code = C.WAGTENIB_FIRST_MISMATCH
-	// not 0 < first < second
+	// ErrSizesOutOfRange means that the sizes of a consistency proof are not 0 < first < second.
 	ErrSizesOutOfRange Code = C.WAGTENIB_SIZES_OUT_OF_RANGE
-	// malloc refused memory
+	// ErrMemory means that malloc returned no memory.
 	ErrMemory Code = C.WAGTENIB_OUT_OF_MEMORY
-	// the origin isn't UTF-8, or has a line end
+	// ErrOrigin means that the origin is not UTF-8, or has a line end.
 	ErrOrigin Code = C.WAGTENIB_BAD_ORIGIN
-	// the leaf ends before a field is whole
+	// ErrTruncated means that the leaf ends before a field is complete.
 	ErrTruncated Code = C.WAGTENIB_TRUNCATED
-	// the version isn't 0 (v1)
+	// ErrBadVersion means that the version is not 0 (v1).
 	ErrBadVersion Code = C.WAGTENIB_BAD_VERSION
-	// the leaf type isn't 0 (timestamped_entry)
+	// ErrBadLeafType means that the leaf type is not 0 (timestamped_entry).
 	ErrBadLeafType Code = C.WAGTENIB_BAD_LEAF_TYPE
-	// the entry type is neither 0 (x509_entry) nor 1 (precert_entry)
+	// ErrBadEntryType means that the entry type is neither 0 (x509_entry) nor 1 (precert_entry).
 	ErrBadEntryType Code = C.WAGTENIB_BAD_ENTRY_TYPE
-	// a certificate or TBSCertificate has no bytes
+	// ErrEmptyVector means that a certificate or TBSCertificate has no bytes.
 	ErrEmptyVector Code = C.WAGTENIB_EMPTY_VECTOR
-	// bytes follow the leaf
+	// ErrTrailing means that bytes follow the leaf.
 	ErrTrailing Code = C.WAGTENIB_TRAILING
-	// the head has fewer leaves than the last one
+	// ErrSizeFalls means that the head has fewer leaves than the last one.
 	ErrSizeFalls Code = C.WAGTENIB_SIZE_FALLS
-	// the head differs from the last one, and its timestamp is not later
+	// ErrTimestampNotLater means that the head differs from the last one, and its timestamp is not later.
 	ErrTimestampNotLater Code = C.WAGTENIB_TIMESTAMP_NOT_LATER
-	// the head has the size of the last one, and another root
+	// ErrFork means that the head has the size of the last one, and another root.
 	ErrFork Code = C.WAGTENIB_FORK
-	// the head's timestamp is too far beyond the last one's
+	// ErrTimestampTooFar means that the timestamp of the head or the step is too far after the last one.
 	ErrTimestampTooFar Code = C.WAGTENIB_TIMESTAMP_TOO_FAR
-	// a state is not the TreeHeadSignature of a head
+	// ErrState means that a state is malformed. For example, the state of a guard is not the TreeHeadSignature of a
+	// head.
 	ErrState Code = C.WAGTENIB_BAD_STATE
-	// the state's head is before that of a state that was seen
+	// ErrStateRolledBack means that a state is older than one that was seen.
 	ErrStateRolledBack Code = C.WAGTENIB_STATE_ROLLED_BACK
-	// the leaf's timestamp is later than the last head's
+	// ErrLaterLeaf means that the leaf's timestamp is later than that of the last head.
 	ErrLaterLeaf Code = C.WAGTENIB_LATER_LEAF
-	// the leaf has extensions, and they are not its index alone
+	// ErrOtherIndex means that the leaf has extensions other than only its index.
 	ErrOtherIndex Code = C.WAGTENIB_OTHER_INDEX
-	// the head is neither that of the empty tree nor the named one
+	// ErrNotFirst means that the head is neither that of the empty tree nor the one that the operator named.
 	ErrNotFirst Code = C.WAGTENIB_NOT_FIRST
-	// the partial tiles aren't those of the state, or the edge is no list of contents
+	// ErrEdge means that the partial tiles are not those of the state, or the edge is not a list of contents.
 	ErrEdge Code = C.WAGTENIB_EDGE
-	// the partial data tile isn't that of the state
+	// ErrEntries means that the partial data tile is not that of the state.
 	ErrEntries Code = C.WAGTENIB_ENTRIES
-	// the timestamp of the step isn't later than the state's
+	// ErrClockBack means that the timestamp of the step is not later than that of the state.
 	ErrClockBack Code = C.WAGTENIB_CLOCK_BACK
-	// the log would have more than 2^40 leaves
+	// ErrLogFull means that the log would have more than 2^40 leaves.
 	ErrLogFull Code = C.WAGTENIB_LOG_FULL
-	// a data tile would have 2^32 bytes or more
+	// ErrDataTileTooLong means that a data tile would have 2^32 bytes or more.
 	ErrDataTileTooLong Code = C.WAGTENIB_DATA_TILE_TOO_LONG
-	// the bundle isn't that of the state
+	// ErrBundle means that the bundle is not that of the state.
 	ErrBundle Code = C.WAGTENIB_BUNDLE
-	// the path doesn't lead from the claimed entry to the state's root
+	// ErrClaim means that the path does not lead from the claimed entry to the root of the state.
 	ErrClaim Code = C.WAGTENIB_CLAIM
-	// the bytes are no list of submissions, or not one submission
+	// ErrBatch means that the bytes are not a list of submissions, or not one submission.
 	ErrBatch Code = C.WAGTENIB_BAD_BATCH
-	// the batch has more than 4,096 submissions
+	// ErrTooMany means that the batch has more than 4,096 submissions.
 	ErrTooMany Code = C.WAGTENIB_TOO_MANY
-	// a tree without leaves has no tiles
+	// ErrEmptyTree means that a tree without leaves has no tiles.
 	ErrEmptyTree Code = C.WAGTENIB_EMPTY_TREE
-	// more tiles are given than are needed
+	// ErrTooManyTiles means that there are more tiles than the call needs.
 	ErrTooManyTiles Code = C.WAGTENIB_TOO_MANY_TILES
-	// fewer tiles are given than are needed
+	// ErrMissingTile means that there are fewer tiles than the call needs.
 	ErrMissingTile Code = C.WAGTENIB_MISSING_TILE
-	// a tile does not have 32 bytes for each of its hashes
+	// ErrBadTile means that a tile does not have 32 bytes for each of its hashes.
 	ErrBadTile Code = C.WAGTENIB_BAD_TILE
-	// the bytes end before an element of DER is whole
+	// ErrDERTruncated means that the bytes end before a DER element is complete.
 	ErrDERTruncated Code = C.WAGTENIB_DER_TRUNCATED
-	// the tag of an element of DER has more than one byte
+	// ErrDERLongTag means that the tag of a DER element has more than one byte.
 	ErrDERLongTag Code = C.WAGTENIB_DER_LONG_TAG
-	// the length of an element is indefinite, which DER does not allow
+	// ErrDERIndefiniteLength means that the length of an element is indefinite, which DER does not allow.
 	ErrDERIndefiniteLength Code = C.WAGTENIB_DER_INDEFINITE_LENGTH
-	// the length of an element of DER has more than four bytes after the first
+	// ErrDERLongLength means that the length of a DER element has more than four bytes after the first.
 	ErrDERLongLength Code = C.WAGTENIB_DER_LONG_LENGTH
-	// the length of an element has more bytes than it needs, which DER does not allow
+	// ErrDERPaddedLength means that the length of an element has more bytes than it needs, which DER does not allow.
 	ErrDERPaddedLength Code = C.WAGTENIB_DER_PADDED_LENGTH
-	// an element of DER has another tag than its field must have
+	// ErrDEROtherTag means that a DER element has another tag than its field must have.
 	ErrDEROtherTag Code = C.WAGTENIB_DER_OTHER_TAG
-	// bytes follow the last element of DER
+	// ErrDERTrailing means that bytes follow the last DER element.
 	ErrDERTrailing Code = C.WAGTENIB_DER_TRAILING
-	// the certificate does not have the extension
+	// ErrNoExtension means that the certificate does not have the extension.
 	ErrNoExtension Code = C.WAGTENIB_NO_EXTENSION
-	// the certificate has the extension twice
+	// ErrSecondExtension means that the certificate has the extension twice.
 	ErrSecondExtension Code = C.WAGTENIB_SECOND_EXTENSION
-	// the poison is not critical, or its value is not NULL
+	// ErrBadPoison means that the poison is not critical, or its value is not NULL.
 	ErrBadPoison Code = C.WAGTENIB_BAD_POISON
-	// the TBSCertificate has 2^24 bytes or more
+	// ErrTBSTooLong means that the TBSCertificate has 2^24 bytes or more.
 	ErrTBSTooLong Code = C.WAGTENIB_TBS_TOO_LONG
-	// the extensions of a timestamp have 2^16 bytes or more
+	// ErrExtensionsTooLong means that the extensions of a timestamp have 2^16 bytes or more.
 	ErrExtensionsTooLong Code = C.WAGTENIB_EXTENSIONS_TOO_LONG
-	// the text is not that of a checkpoint without extension lines
+	// ErrNoCheckpoint means that the text is not that of a checkpoint without extension lines.
 	ErrNoCheckpoint Code = C.WAGTENIB_NO_CHECKPOINT
-	// the checkpoint is of another log than the state
+	// ErrOtherOrigin means that the checkpoint belongs to another log than the state.
 	ErrOtherOrigin Code = C.WAGTENIB_OTHER_ORIGIN
-	// the old size is above the checkpoint's
+	// ErrOldAbove means that the old size is greater than the size of the checkpoint.
 	ErrOldAbove Code = C.WAGTENIB_OLD_ABOVE
-	// the old size is not that of the tree that was cosigned last
+	// ErrNotLast means that the old size is not that of the tree that was cosigned last.
 	ErrNotLast Code = C.WAGTENIB_NOT_LAST
-	// there is a proof, although both trees are the same or the last one has no leaves
+	// ErrProofNotEmpty means that there is a proof, although both trees are the same or the last one has no leaves.
 	ErrProofNotEmpty Code = C.WAGTENIB_PROOF_NOT_EMPTY
-	// the time of a cosignature is 0, or earlier than the last one's
+	// ErrTimeFalls means that the time of a cosignature is 0, or earlier than that of the last one.
 	ErrTimeFalls Code = C.WAGTENIB_TIME_FALLS
-	// the length of an entry's fingerprints is no multiple of 32
+	// ErrPartialFingerprint means that the length of an entry's fingerprints is not a multiple of 32.
 	ErrPartialFingerprint Code = C.WAGTENIB_PARTIAL_FINGERPRINT
-	// there are not as many subtrees as a tree of the head's size has
+	// ErrOtherCount means that there are not as many subtrees as a tree of the head's size has.
 	ErrOtherCount Code = C.WAGTENIB_OTHER_COUNT
-	// the lengths of the entries do not add up to that of their bytes
+	// ErrOtherLengths means that the lengths of the entries do not add up to that of their bytes.
 	ErrOtherLengths Code = C.WAGTENIB_OTHER_LENGTHS
-	// the bytes are no list of watched names
+	// ErrWatched means that the bytes are not a list of watched names.
 	ErrWatched Code = C.WAGTENIB_BAD_WATCHED
-	// the text is not UTF-8
+	// ErrNotUTF8 means that the text is not UTF-8.
 	ErrNotUTF8 Code = C.WAGTENIB_NOT_UTF8
-	// the entry is later than the head
+	// ErrLaterEntry means that the entry is later than the head.
 	ErrLaterEntry Code = C.WAGTENIB_LATER_ENTRY
-	// the name is not that of a data tile
+	// ErrNoDataTile means that the name is not that of a data tile.
 	ErrNoDataTile Code = C.WAGTENIB_NO_DATA_TILE
-	// the data tile begins after the next entry
+	// ErrTileAfter means that the data tile begins after the next entry.
 	ErrTileAfter Code = C.WAGTENIB_TILE_AFTER
-	// the data tile ends before the next entry
+	// ErrTileBefore means that the data tile ends before the next entry.
 	ErrTileBefore Code = C.WAGTENIB_TILE_BEFORE
-	// the data tile has another number of entries than its name says
+	// ErrOtherEntries means that the data tile has another number of entries than its name says.
 	ErrOtherEntries Code = C.WAGTENIB_OTHER_ENTRIES
-	// an entry of the data tile does not name its own index in its extensions
+	// ErrWrongIndex means that the extensions of an entry of the data tile do not contain exactly its own index.
 	ErrWrongIndex Code = C.WAGTENIB_WRONG_INDEX
 )
 
-// The faults of a node's commands and of a lock's text, and what a node that starts must not continue from.
+// The errors of a node's commands and of a lock's text, and the reasons why a node must not continue when it starts.
 const (
-	// no command of a node has this number
+	// ErrCommand means that no command of a node has this number.
 	ErrCommand Code = C.WAGTENIB_BAD_COMMAND
-	// no outcome of a command has this number
+	// ErrOutcome means that no outcome of a command has this number.
 	ErrOutcome Code = C.WAGTENIB_BAD_OUTCOME
-	// the bytes are no lock's text
+	// ErrLockText means that the bytes are not the text of a lock.
 	ErrLockText Code = C.WAGTENIB_BAD_LOCK_TEXT
-	// the bytes are no name of a staged batch
+	// ErrBatchName means that the bytes are not the name of a staged batch.
 	ErrBatchName Code = C.WAGTENIB_BAD_BATCH_NAME
-	// the node must create the lock of a new log
+	// ErrCreatesLock means that the node must create the lock of a new log.
 	ErrCreatesLock Code = C.WAGTENIB_CREATES_LOCK
-	// there is no lock, and none is to be created, or there is something of a log
+	// ErrLockGone means that there is no lock, and either the node may not create one or parts of a log exist.
 	ErrLockGone Code = C.WAGTENIB_LOCK_GONE
-	// this machine saw a later head than the lock's, or another one with its size and timestamp
+	// ErrBehindSeen means that this machine saw a later head than the lock's, or another one with its size and
+	// timestamp.
 	ErrBehindSeen Code = C.WAGTENIB_BEHIND_SEEN
-	// a later head than the lock's was signed
+	// ErrBehindSigned means that a later head than the lock's was signed.
 	ErrBehindSigned Code = C.WAGTENIB_BEHIND_SIGNED
-	// another head with the lock's size and timestamp was signed
+	// ErrTwoRoots means that another head with the lock's size and timestamp was signed.
 	ErrTwoRoots Code = C.WAGTENIB_TWO_ROOTS
-	// the store lists a later head than the last one that was signed
+	// ErrSignedBehindListed means that the store lists a later head than the last one that was signed.
 	ErrSignedBehindListed Code = C.WAGTENIB_SIGNED_BEHIND_LISTED
-	// the store lists a later head than the lock's, or another one with its size and timestamp
+	// ErrBehindListed means that the store lists a later head than the lock's, or another one with its size and
+	// timestamp.
 	ErrBehindListed Code = C.WAGTENIB_BEHIND_LISTED
-	// a later head than the lock's is published, or another one with its size and timestamp
+	// ErrBehindPublished means that a later head than the lock's is published, or another one with its size and
+	// timestamp.
 	ErrBehindPublished Code = C.WAGTENIB_BEHIND_PUBLISHED
 )
 
@@ -279,7 +283,7 @@ var texts = map[Code]string{
 	ErrBehindPublished:     "a later head than the lock's is published, or another one with its size and timestamp",
 }
 
-// Error returns the fault in words.
+// Error returns a sentence about the error.
 func (c Code) Error() string {
 	if text, ok := texts[c]; ok {
 		return "wagtenib: " + text
@@ -295,7 +299,7 @@ func result(code C.uint32_t) error {
 	return Code(code)
 }
 
-// noBytes is what an argument of no bytes points to, because no pointer may be NULL.
+// noBytes is the target of the pointer to an argument without bytes, because no pointer may be NULL.
 var noBytes Hash
 
 // ofBytes returns a pointer to the first byte.

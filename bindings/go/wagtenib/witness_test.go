@@ -25,12 +25,13 @@ func checkpointOf(origin string, size uint64, root wagtenib.Hash) string {
 	return fmt.Sprintf("%s\n%d\n%s\n", origin, size, base64.StdEncoding.EncodeToString(root[:]))
 }
 
-// messageOf returns the message under a cosignature (C2SP tlog-cosignature).
+// messageOf returns the bytes that a cosignature signs (C2SP tlog-cosignature).
 func messageOf(time uint64, text string) []byte {
 	return fmt.Appendf(nil, "cosignature/v1\ntime %d\n%s", time, text)
 }
 
-// due is what x/mod's tlog and this file say of a request over a tree and a time that were cosigned last.
+// due returns the result that x/mod's tlog and this file expect of a request, over a tree and a time that were cosigned
+// last.
 func due(last wagtenib.WitnessedTree, size uint64, root wagtenib.Hash, old uint64, proof []wagtenib.Hash,
 	time uint64) string {
 	switch {
@@ -59,7 +60,7 @@ func due(last wagtenib.WitnessedTree, size uint64, root wagtenib.Hash, old uint6
 	return "cosigned"
 }
 
-// said names the error of a call as due does.
+// said returns the name of the error of a call, as due does.
 func said(err error) string {
 	var code wagtenib.Code
 	if err == nil {
@@ -215,7 +216,7 @@ func TestWitnessKeepsOneLog(t *testing.T) {
 	}
 }
 
-// TestWitnessMessageIsSigned has x/mod's note find a note whose signature is over such a message.
+// TestWitnessMessageIsSigned checks that x/mod's note package accepts a note whose signature is over such a message.
 func TestWitnessMessageIsSigned(t *testing.T) {
 	root := wagtenib.Hash(sha256.Sum256(nil))
 	text := checkpointOf(witnessed, 0, root)

@@ -174,7 +174,7 @@ func (j *Janitor) whole(ctx context.Context, full tlog.Tile, newest signer.Head)
 		_, err := tile.LeavesOf(ctx, full, newest, j.read)
 		return err
 	}
-	return tile.Whole(ctx, full, newest, j.read)
+	return tile.CheckFull(ctx, full, newest, j.read)
 }
 
 // batchName matches the names of staged batches. The janitor leaves an object with any other name: no node put it.

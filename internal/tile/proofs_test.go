@@ -10,8 +10,8 @@ import (
 	"wagtenib/bindings/go/wagtenib"
 )
 
-// TestMade reads a tree of three leaves, whose nodes are computed by hand (RFC 6962, section 2.1).
-func TestMade(t *testing.T) {
+// TestPathProofAndRoot reads a tree of three leaves, whose nodes are computed by hand (RFC 6962, section 2.1).
+func TestPathProofAndRoot(t *testing.T) {
 	c, ctx := NewProver(nil, 1), limited(t)
 	leaf := func(i byte) [32]byte { return sha256.Sum256([]byte{0, i}) }
 	node := func(a, b [32]byte) [32]byte { return sha256.Sum256(append(append([]byte{1}, a[:]...), b[:]...)) }
@@ -22,25 +22,25 @@ func TestMade(t *testing.T) {
 		asked = append(asked, name)
 		return tile, nil
 	}
-	same := func(got [][32]byte, err error, want ...[32]byte) {
+	expect := func(got [][32]byte, err error, expected ...[32]byte) {
 		t.Helper()
-		if err != nil || len(got) != len(want) {
+		if err != nil || len(got) != len(expected) {
 			t.Fatalf("%x, %v", got, err)
 		}
-		for i := range want {
-			if got[i] != want[i] {
+		for i := range expected {
+			if got[i] != expected[i] {
 				t.Errorf("hash %d is %x", i, got[i])
 			}
 		}
 	}
 	path, err := c.path(ctx, 1, 3, tiles)
-	same(path, err, zero, two)
+	expect(path, err, zero, two)
 	path, err = c.path(ctx, 2, 3, tiles)
-	same(path, err, node(zero, one))
+	expect(path, err, node(zero, one))
 	proof, err := c.proof(ctx, 1, 3, tiles)
-	same(proof, err, one, two)
+	expect(proof, err, one, two)
 	root, err := c.root(ctx, 3, tiles)
-	same([][32]byte{root}, err, node(node(zero, one), two))
+	expect([][32]byte{root}, err, node(node(zero, one), two))
 	if strings.Join(asked, " ") != strings.Repeat("tile/0/000.p/3 ", 3)+"tile/0/000.p/3" {
 		t.Errorf("%q were read", asked)
 	}
@@ -65,7 +65,7 @@ func TestMade(t *testing.T) {
 	}
 }
 
-// returning returns a reader over functions that return these names and hashes.
+// returning returns a Prover whose functions return these names and hashes.
 func returning(names []string, hashes [][32]byte, err error) *Prover {
 	two := func(uint64, uint64) ([]string, error) { return names, err }
 	of := func(uint64, uint64, [][]byte) ([][32]byte, error) { return hashes, err }
@@ -75,17 +75,17 @@ func returning(names []string, hashes [][32]byte, err error) *Prover {
 	}, nil, 1)
 }
 
-// times returns a list of so many of these.
-func times[T any](count int, what T) []T {
+// times returns a list with count copies of a value.
+func times[T any](count int, value T) []T {
 	list := make([]T, count)
 	for i := range list {
-		list[i] = what
+		list[i] = value
 	}
 	return list
 }
 
-// TestWrongReadings has functions return what can't be a result.
-func TestWrongReadings(t *testing.T) {
+// TestRefusesImpossibleResults checks that results that the functions cannot have are refused.
+func TestRefusesImpossibleResults(t *testing.T) {
 	reads := func(context.Context, string) ([]byte, error) { return make([]byte, 32), nil }
 	for _, names := range [][]string{nil, {}, {"heads/1"}, {"tile/data/000.p/1"}, {""},
 		times(maxTiles+1, "tile/0/000")} {
@@ -106,8 +106,8 @@ func TestWrongReadings(t *testing.T) {
 	}
 }
 
-// TestBounds: as many tiles and hashes as a path may have are taken.
-func TestBounds(t *testing.T) {
+// TestLongestResults checks that the maximum numbers of tiles and hashes are accepted.
+func TestLongestResults(t *testing.T) {
 	asked := 0
 	reads := func(context.Context, string) ([]byte, error) { asked++; return make([]byte, 32), nil }
 	r := returning(times(maxTiles, "tile/0/000"), times(maxHashes, [32]byte{}), nil)
@@ -116,8 +116,8 @@ func TestBounds(t *testing.T) {
 	}
 }
 
-// TestRefusedReads: if the question for the tiles is refused, no tile is read, and nothing is returned.
-func TestRefusedReads(t *testing.T) {
+// TestRefusedCalls checks that nothing is read or returned if a function refuses the call.
+func TestRefusedCalls(t *testing.T) {
 	reads := func(context.Context, string) ([]byte, error) {
 		t.Error("a tile is read")
 		return nil, nil
