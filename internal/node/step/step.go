@@ -39,7 +39,7 @@ const (
 
 // texts has the refusals in words.
 var texts = map[Refusal]string{
-	BadBatch:  "the batch is no list of submissions",
+	BadBatch:  "the batch is not a list of submissions",
 	TooMany:   "the batch has more than 4,096 submissions",
 	BadState:  "the state is none",
 	TooFar:    "the timestamp is too far beyond the state's",
