@@ -74,10 +74,10 @@ func (f *Front) Tell(ctx context.Context, every time.Duration) {
 // tellWitnesses logs which witnesses have seen more since the look before.
 func (f *Front) tellWitnesses(seenMore map[string]bool, witnesses []loginterface.Witness) {
 	for _, w := range witnesses {
-		if w.SeenMore && !seenMore[w.Name] {
+		if w.IsAhead && !seenMore[w.Name] {
 			f.options.Lines.Error("witness-seen-more", "witness", w.Name, "detail", w.Fault)
 		}
-		seenMore[w.Name] = w.SeenMore
+		seenMore[w.Name] = w.IsAhead
 	}
 }
 

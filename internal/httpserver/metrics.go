@@ -211,18 +211,18 @@ func (c collected) state(f loginterface.Metrics, isReady bool) {
 func (c collected) work(f loginterface.Metrics) {
 	c.count(descSteps, f.Steps)
 	c.count(descLost, f.LostSwaps)
-	c.count(descUnknown, f.Unknown)
-	c.count(descRepeats, f.Repeats)
-	c.count(descHelped, f.Helped)
+	c.count(descUnknown, f.UnknownSwaps)
+	c.count(descRepeats, f.Duplicates)
+	c.count(descHelped, f.ResumedSteps)
 	c.count(descHandedOver, f.Forwarded)
 	c.count(descSigner, f.SignerStarts)
 	c.count(descWrong, f.WrongSignatures)
-	c.count(descWritten, f.Written)
+	c.count(descWritten, f.WrittenBytes)
 	for _, phase := range f.Phases {
-		c.to <- prometheus.MustNewConstSummary(descPhase, phase.Count, phase.Took.Seconds(), nil, phase.Name)
+		c.to <- prometheus.MustNewConstSummary(descPhase, phase.Count, phase.Duration.Seconds(), nil, phase.Name)
 	}
 	taken := map[float64]uint64{}
-	for most, steps := range f.Batches.AtMost {
+	for most, steps := range f.Batches.UpTo {
 		taken[float64(most)] = steps
 	}
 	c.to <- prometheus.MustNewConstHistogram(descBatches, f.Batches.Steps, float64(f.Batches.Submissions), taken)
@@ -235,7 +235,7 @@ func (c collected) upkeep(f loginterface.Metrics) {
 	c.count(descScrubbed, f.RereadTiles)
 	c.gauge(descDamaged, float64(f.Damaged))
 	c.count(descDeletedBatches, f.DeletedBatches)
-	c.gauge(descStaged, float64(f.Staged))
+	c.gauge(descStaged, float64(f.StagedBatches))
 	c.count(descTending, f.JanitorFailures)
 	c.gauge(descSweptTo, float64(f.DeletedTo))
 	c.gauge(descReadNext, float64(f.ReadNext))
@@ -248,7 +248,7 @@ func (c collected) witnesses(f loginterface.Metrics) {
 	for _, w := range f.Witnesses {
 		c.gauge(descLag, float64(w.Missed), w.Name)
 		c.count(descCosigned, w.Cosigned, w.Name)
-		c.flag(descSeenMore, w.SeenMore, w.Name)
+		c.flag(descSeenMore, w.IsAhead, w.Name)
 	}
 }
 

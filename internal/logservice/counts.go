@@ -40,7 +40,7 @@ func (t *tally) add(what string) { t.count, t.last = t.count+1, what }
 func newCounts() *counts {
 	return &counts{
 		phases: map[string]loginterface.Phase{}, wentWell: time.Now(), witnesses: map[string]loginterface.Witness{},
-		batches: loginterface.Batches{AtMost: map[int]uint64{}},
+		batches: loginterface.Batches{UpTo: map[int]uint64{}},
 	}
 }
 
@@ -60,7 +60,7 @@ func (c *counts) Took(part string, long time.Duration) {
 	c.mu.Lock()
 	defer c.mu.Unlock()
 	of := c.phases[part]
-	c.phases[part] = loginterface.Phase{Name: part, Count: of.Count + 1, Took: of.Took + long}
+	c.phases[part] = loginterface.Phase{Name: part, Count: of.Count + 1, Duration: of.Duration + long}
 }
 
 // batchBounds are the numbers of submissions by which steps are counted.
@@ -75,7 +75,7 @@ func (c *counts) Decided(submissions, bytes int) {
 	c.batches.Submissions += uint64(submissions)
 	for _, bound := range batchBounds {
 		if submissions <= bound {
-			c.batches.AtMost[bound]++
+			c.batches.UpTo[bound]++
 		}
 	}
 }
@@ -112,7 +112,7 @@ func (c *counts) failed(err error) {
 func (c *counts) Cosigned(name string, err error) {
 	if err == nil || errors.Is(err, node.ErrWitnessAhead) {
 		c.witness(name, func(w *loginterface.Witness) {
-			if w.SeenMore = err != nil; w.SeenMore {
+			if w.IsAhead = err != nil; w.IsAhead {
 				w.Missed, w.Fault = w.Missed+1, err.Error()
 			}
 		})
@@ -131,8 +131,8 @@ func (c *counts) witness(name string, change func(*loginterface.Witness)) {
 
 // into writes what was counted into the figures of a log.
 func (c *counts) into(f *loginterface.Metrics) {
-	f.LostSwaps, f.Unknown = c.of(node.LostSwap), c.of(node.UnknownSwap)
-	f.Helped, f.Repeats, f.Forwarded, f.Written = c.of(node.ResumedStep), c.of(node.Duplicate), c.forwarded.Load(),
+	f.LostSwaps, f.UnknownSwaps = c.of(node.LostSwap), c.of(node.UnknownSwap)
+	f.ResumedSteps, f.Duplicates, f.Forwarded, f.WrittenBytes = c.of(node.ResumedStep), c.of(node.Duplicate), c.forwarded.Load(),
 		c.written.Load()
 	c.mu.Lock()
 	defer c.mu.Unlock()
@@ -142,9 +142,9 @@ func (c *counts) into(f *loginterface.Metrics) {
 		f.Phases = append(f.Phases, of)
 	}
 	f.Steps, f.Batches = c.batches.Steps, loginterface.Batches{Steps: c.batches.Steps, Submissions: c.batches.Submissions,
-		AtMost: map[int]uint64{}}
+		UpTo: map[int]uint64{}}
 	for _, bound := range batchBounds {
-		f.Batches.AtMost[bound] = c.batches.AtMost[bound]
+		f.Batches.UpTo[bound] = c.batches.UpTo[bound]
 	}
 	f.SinceRound = time.Since(c.wentWell)
 	f.Repaired, f.LastRepaired = c.repairs.count, c.repairs.last
@@ -173,7 +173,7 @@ func (l *Log) Metrics() loginterface.Metrics {
 		f.Fault = named(err).Error()
 	}
 	report := l.janitor.Report()
-	f.DeletedTiles, f.DeletedHeads, f.DeletedBatches, f.Staged, f.RereadTiles = report.Tiles, report.Heads, report.Staged,
+	f.DeletedTiles, f.DeletedHeads, f.DeletedBatches, f.StagedBatches, f.RereadTiles = report.Tiles, report.Heads, report.Staged,
 		report.Listed, report.Reread
 	f.DeletedTo, f.ReadNext, f.Damaged = report.DeletedTo, report.Next, len(report.Damaged)
 	if f.JanitorFailures += report.Failures; report.Failed != nil {

@@ -63,7 +63,7 @@ func TestRebuildIndex(t *testing.T) {
 	}
 	l = started(t, p.config())
 	got.submit(t, l, 0, 610)
-	if f := l.Metrics(); f.Repeats != 600 || f.Entries != 610 {
+	if f := l.Metrics(); f.Duplicates != 600 || f.Entries != 610 {
 		t.Errorf("%+v", f)
 	}
 	for _, n := range []int{0, 300, 599} {
@@ -120,7 +120,7 @@ func TestLogCompletesIndex(t *testing.T) {
 		return true
 	})
 	got.submit(t, l, 0, 610)
-	if f := l.Metrics(); f.Repeats != 600 || f.Entries != 610 {
+	if f := l.Metrics(); f.Duplicates != 600 || f.Entries != 610 {
 		t.Errorf("%+v", f)
 	}
 }

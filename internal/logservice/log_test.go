@@ -38,8 +38,8 @@ func TestOneNode(t *testing.T) {
 	head, err := l.Checkpoint(limited(t))
 	must(t, err)
 	f := l.Metrics()
-	if head.TreeSize != 700 || f.Entries != 700 || f.Queue != 0 || f.Unpublished != 0 || f.Repeats != 100 ||
-		f.Fault != "" || f.Steps == 0 || f.Batches.Submissions != 300 || f.Written == 0 {
+	if head.TreeSize != 700 || f.Entries != 700 || f.Queue != 0 || f.Unpublished != 0 || f.Duplicates != 100 ||
+		f.Fault != "" || f.Steps == 0 || f.Batches.Submissions != 300 || f.WrittenBytes == 0 {
 		t.Errorf("%+v %+v", head, f)
 	}
 	must(t, signer.CheckHead(p.key.Key(), signer.Head{Size: head.TreeSize, Timestamp: head.Timestamp,

@@ -68,8 +68,8 @@ func TestSwapOfUnknownOutcomeIsMadeAgain(t *testing.T) {
 	got.submit(t, l, 0, 3)
 	lock.next.Store(true)
 	got.submit(t, l, 3, 4)
-	if f := l.Metrics(); f.LostSwaps != 0 || f.Unknown != 1 {
-		t.Errorf("%d swaps are lost, and of %d the outcome was not known", f.LostSwaps, f.Unknown)
+	if f := l.Metrics(); f.LostSwaps != 0 || f.UnknownSwaps != 1 {
+		t.Errorf("%d swaps are lost, and of %d the outcome was not known", f.LostSwaps, f.UnknownSwaps)
 	}
 	p.right(got)
 }

@@ -355,15 +355,15 @@ func (l *Log) Metrics() loginterface.Metrics {
 	figures := loginterface.Metrics{
 		Queue: len(l.waiting), MaxQueue: l.MaxQueue, Entries: l.tree.head.TreeSize,
 		HeadAge: time.Since(time.UnixMilli(int64(l.tree.head.Timestamp))),
-		Rounds: loginterface.Rounds{LostSwaps: 3, Unpublished: 18, SinceRound: 2500 * time.Millisecond, Written: 16,
-			Phases:  []loginterface.Phase{{Name: "stage", Count: 17, Took: 1500 * time.Millisecond}},
-			Batches: loginterface.Batches{Steps: 20, Submissions: 21, AtMost: map[int]uint64{1: 18, 8: 20}}},
+		Rounds: loginterface.Rounds{LostSwaps: 3, Unpublished: 18, SinceRound: 2500 * time.Millisecond, WrittenBytes: 16,
+			Phases:  []loginterface.Phase{{Name: "stage", Count: 17, Duration: 1500 * time.Millisecond}},
+			Batches: loginterface.Batches{Steps: 20, Submissions: 21, UpTo: map[int]uint64{1: 18, 8: 20}}},
 		Answers: loginterface.Answers{SignerStarts: 7, WrongSignatures: 22},
-		Janitor: loginterface.Janitor{DeletedTiles: 4, DeletedHeads: 8, RereadTiles: 5, DeletedBatches: 11, Staged: 12, JanitorFailures: 13,
+		Janitor: loginterface.Janitor{DeletedTiles: 4, DeletedHeads: 8, RereadTiles: 5, DeletedBatches: 11, StagedBatches: 12, JanitorFailures: 13,
 			JanitorFailure: "nothing is deleted", DeletedTo: 512, ReadNext: 19},
 		Damages:  loginterface.Damages{Damaged: 6, Damage: l.Damage, DamagedIssuers: 9, Repaired: 10, LastRepaired: "issuer/07"},
 		Faulting: loginterface.Faulting{Faults: l.faults, LastFault: l.lastFault},
-		Witnesses: []loginterface.Witness{{Name: "w.example", Missed: 14, Cosigned: 15, SeenMore: true,
+		Witnesses: []loginterface.Witness{{Name: "w.example", Missed: 14, Cosigned: 15, IsAhead: true,
 			Fault: "it has seen 7 entries"}},
 	}
 	if l.Fault != nil {
