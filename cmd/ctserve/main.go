@@ -137,7 +137,7 @@ func serveLog(s *settings, lines *httpserver.Lines, signals <-chan os.Signal, op
 		tellHead(s, of.log, lines)
 		telling, stop := context.WithCancel(context.Background())
 		defer stop()
-		go front.Tell(telling, looksEvery)
+		go front.LogFaults(telling, looksEvery)
 		ending, err = wait(func() { reload(s, front, checker, []*httpserver.Certificate{certificate, of.secured.its()}, lines) },
 			signals, failed)
 	}

@@ -43,7 +43,7 @@ func serversOf(s *settings, of *opened, front *httpserver.Front, over *tls.Confi
 	}
 	if s.operator != "" {
 		servers = append(servers, &served{of: "operator", address: s.operator, handler: front.Operator(),
-			make: front.ServeOthers})
+			make: front.ServeOperators})
 	}
 	return servers
 }

@@ -35,13 +35,13 @@ func prefixOf(text string) (netip.Prefix, error) {
 // submitters reads prefixes, each with a bound. No prefix may occur twice.
 func submitters(text string) (found []httpserver.Submitter, err error) {
 	for _, part := range strings.Split(text, ",") {
-		of, bound, _ := strings.Cut(part, "=")
+		of, number, _ := strings.Cut(part, "=")
 		prefix, err := prefixOf(of)
 		if err != nil {
 			return nil, err
 		}
-		most, err := strconv.Atoi(strings.TrimSpace(bound))
-		if err != nil || most < 1 {
+		bound, err := strconv.Atoi(strings.TrimSpace(number))
+		if err != nil || bound < 1 {
 			return nil, fmt.Errorf("%s has no bound above 0: PREFIX=NUMBER", strings.TrimSpace(part))
 		}
 		for _, other := range found {
@@ -49,7 +49,7 @@ func submitters(text string) (found []httpserver.Submitter, err error) {
 				return nil, fmt.Errorf("%s occurs twice", prefix)
 			}
 		}
-		found = append(found, httpserver.Submitter{Prefix: prefix, Most: most})
+		found = append(found, httpserver.Submitter{Prefix: prefix, Max: bound})
 	}
 	return found, nil
 }

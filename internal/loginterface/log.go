@@ -105,15 +105,15 @@ type Janitor struct {
 	// DeletedTiles counts deleted partial tiles, DeletedHeads deleted old heads, and RereadTiles data tiles that were
 	// read again and were right.
 	DeletedTiles, DeletedHeads, RereadTiles uint64
-	// DeletedBatches counts staged batches that were deleted because nothing needs them, and StagedBatches is the number
-	// of those in the store when they were last listed.
+	// DeletedBatches counts staged batches that were deleted because nothing needs them, and StagedBatches is the
+	// number of those in the store when they were last listed.
 	DeletedBatches, StagedBatches uint64
 	// JanitorFailures counts failed deletions and failed writes of the index, which are tried again. JanitorFailure is
 	// the last failure, in one line.
 	JanitorFailures uint64
 	JanitorFailure  string
-	// DeletedTo is the number of entries up to which all partial tiles were deleted, as far as this node knows. ReadNext
-	// is the index of the data tile that it reads again next.
+	// DeletedTo is the number of entries up to which all partial tiles were deleted, as far as this node knows.
+	// ReadNext is the index of the data tile that it reads again next.
 	DeletedTo, ReadNext uint64
 }
 
@@ -125,8 +125,8 @@ type Damages struct {
 	// DamagedIssuers is the number of issuers that were missing or wrong when they were last read.
 	DamagedIssuers int
 	Damage         string
-	// Repaired counts objects of the log that were missing or wrong and were made again. LastRepaired is the name of the
-	// last one.
+	// Repaired counts objects of the log that were missing or wrong and were made again. LastRepaired is the name of
+	// the last one.
 	Repaired     uint64
 	LastRepaired string
 }
@@ -161,8 +161,8 @@ type Witness struct {
 	Name string
 	// Missed is how many heads it was asked to cosign since it last did, and Cosigned how many it cosigned.
 	Missed, Cosigned uint64
-	// IsAhead is true if the witness cosigned a later head than the one that it was last asked to cosign, or another one
-	// of that size.
+	// IsAhead is true if the witness cosigned a later head than the one that it was last asked to cosign, or another
+	// one of that size.
 	IsAhead bool
 	// Fault is the reason why it did not cosign the last head, in one line.
 	Fault string
