@@ -178,10 +178,10 @@ func (n *node) config(of logservice.Stores) logservice.Config {
 		Quorums: n.quorums,
 		Pace: logservice.Pace{Interval: interval, Refresh: n.refresh, MaxWritten: n.maxWritten, MaxBatch: n.maxBatch,
 			MaxQueue: n.maxQueue},
-		Keep: logservice.Keep{Heads: n.sweepAfter, Tiles: n.sweepTilesAfter, Every: n.readEvery, Reread: n.readAllWithin},
+		Keep: logservice.Keep{Heads: n.sweepAfter, Tiles: n.sweepTilesAfter, Interval: n.readEvery, Reread: n.readAllWithin},
 		Machine: logservice.MachineConfig{
 			Files: logservice.Files{LatestHead: n.latestHead, NamedDay: n.namedDay},
-			Clock: logservice.ClockBounds{MaxSkew: n.maxSkew, Synchronized: n.synchronized},
+			ClockBounds: logservice.ClockBounds{MaxSkew: n.maxSkew, Synchronized: n.synchronized},
 		},
 	}
 }

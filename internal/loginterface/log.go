@@ -92,8 +92,9 @@ type Rounds struct {
 
 // Answers are the metrics of what a node does without a step of its own, and of its signer.
 type Answers struct {
-	// Duplicates counts submissions that were answered with an existing entry. ResumedSteps counts steps of other nodes
-	// that this node completed. Forwarded counts submissions that another node answered.
+	// Duplicates counts submissions that were answered with an existing entry. ResumedSteps counts steps that this node
+	// published from their staged batch: those of other nodes, and its own ones from before a restart. Forwarded counts
+	// submissions that another node answered.
 	Duplicates, ResumedSteps, Forwarded uint64
 	// SignerStarts counts how often the signer was started or connected to, and WrongSignatures how many of its replies
 	// had a wrong signature.
