@@ -85,7 +85,7 @@ func (s *sources) Compare(now time.Time, elapsed time.Duration, starts bool) (bo
 func (s *sources) compare(now time.Time, elapsed time.Duration, starts bool) (bool, error) {
 	isSynchronized, isKnown := s.clock.Synchronized()
 	if s.bounds.Synchronized && !(isSynchronized && isKnown) {
-		return false, errors.New("the kernel does not report that it is synchronized " +
+		return false, errors.New("it is not synchronized, or the kernel does not know whether it is " +
 			"(start an NTP client, or unset --require-synchronized-clock)")
 	}
 	s.mu.Lock()
