@@ -13,6 +13,7 @@ import (
 
 // served is one listener with its server.
 type served struct {
+	// of names the users of the server: clients, nodes or operator.
 	of       string
 	address  string
 	over     *tls.Config
@@ -48,7 +49,7 @@ func serversOf(s *settings, of *opened, front *httpserver.Front, over *tls.Confi
 	return servers
 }
 
-// listen opens the listeners of servers. If one of them cannot be opened, none is open after it.
+// listen opens the listeners of servers. After an error none is open.
 func listen(servers []*served, lines *httpserver.Lines) (err error) {
 	for at, each := range servers {
 		if each.listener, err = net.Listen("tcp", each.address); err != nil {
@@ -62,7 +63,7 @@ func listen(servers []*served, lines *httpserver.Lines) (err error) {
 	return nil
 }
 
-// start has servers answer at their listeners. The channel gets the error of each one that ends.
+// start starts servers at their listeners. The channel receives the error of each one that ends.
 func start(servers []*served) <-chan error {
 	failed := make(chan error, len(servers))
 	for _, each := range servers {
@@ -72,8 +73,8 @@ func start(servers []*served) <-chan error {
 	return failed
 }
 
-// ended has the log, which takes no more, publish and answer who waits, and then ends the servers, within the time for
-// it. Reading goes on until the log has ended.
+// ended ends the log, which publishes and answers the waiting submissions, and then ends the servers, within the
+// shutdown timeout. Reads are answered until the log has ended. It returns the reason of the end, or the first error.
 func ended(s *settings, of loginterface.Log, servers []*served, why error) error {
 	ctx, cancel := context.WithTimeout(context.Background(), s.endWithin)
 	defer cancel()
