@@ -126,7 +126,7 @@ func (s *settings) validateArchive() error {
 		return nil
 	}
 	for name, given := range map[string]string{"origin": n.origin, "signing-key": n.signingKey,
-		"signer-socket": n.signerAt, "roots": strings.Join(s.roots.Paths, ""), "store": n.store, "lock": n.lock,
+		"signer-socket": n.signerSocket, "roots": strings.Join(s.roots.Paths, ""), "store": n.store, "lock": n.lock,
 		"index": n.index} {
 		if given != "" {
 			return fmt.Errorf("--archive has everything of the log: remove --%s", name)

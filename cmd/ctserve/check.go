@@ -71,9 +71,9 @@ func (c *checks) result() error {
 
 // checkKey opens the log's key, or looks for the socket of its signer.
 func (c *checks) checkKey(s *settings) {
-	if s.node.signerAt != "" {
-		_, err := os.Stat(s.node.signerAt)
-		c.report("signer-socket", s.node.signerAt, err)
+	if s.node.signerSocket != "" {
+		_, err := os.Stat(s.node.signerSocket)
+		c.report("signer-socket", s.node.signerSocket, err)
 		return
 	}
 	key, err := signer.OpenKey(s.node.signingKey)
@@ -102,7 +102,7 @@ func (c *checks) checkRoots(s *settings) {
 // reportGuard prints whether the signer of these settings has a guard.
 func (c *checks) reportGuard(s *settings) {
 	switch {
-	case s.node.signerAt != "":
+	case s.node.signerSocket != "":
 	case s.node.isGuarded():
 		c.report("guard", "on", nil)
 	default:

@@ -13,8 +13,8 @@ import (
 
 // served is one listener with its server.
 type served struct {
-	// of names the users of the server: clients, nodes or operator.
-	of       string
+	// users names the users of the server: clients, nodes or operator.
+	users    string
 	address  string
 	over     *tls.Config
 	handler  http.Handler
@@ -37,13 +37,13 @@ func (s *settings) loadCertificate() (*httpserver.Certificate, *tls.Config, erro
 
 // serversOf returns the servers of a log: for clients, for other nodes and for operators.
 func serversOf(s *settings, of *opened, front *httpserver.Front, over *tls.Config) []*served {
-	servers := []*served{{of: "clients", address: s.listen, over: over, handler: front, make: front.Serve}}
+	servers := []*served{{users: "clients", address: s.listen, over: over, handler: front, make: front.Serve}}
 	if of.secured != nil {
-		servers = append(servers, &served{of: "nodes", address: s.node.peers.listen, over: of.secured.listens,
+		servers = append(servers, &served{users: "nodes", address: s.node.peers.listen, over: of.secured.listens,
 			handler: of.nodes(front.Nodes()), make: front.ServeNodes})
 	}
 	if s.operator != "" {
-		servers = append(servers, &served{of: "operator", address: s.operator, handler: front.Operator(),
+		servers = append(servers, &served{users: "operator", address: s.operator, handler: front.Operator(),
 			make: front.ServeOperators})
 	}
 	return servers
@@ -58,7 +58,7 @@ func listen(servers []*served, lines *httpserver.Lines) (err error) {
 			}
 			return err
 		}
-		lines.Info("listening", "for", each.of, "address", each.listener.Addr(), "tls", each.over != nil)
+		lines.Info("listening", "for", each.users, "address", each.listener.Addr(), "tls", each.over != nil)
 	}
 	return nil
 }
@@ -86,7 +86,7 @@ func ended(s *settings, of loginterface.Log, servers []*served, why error) error
 			continue
 		}
 		if err := each.server.End(ctx); why == nil && err != nil {
-			why = fmt.Errorf("the requests at the listener for %s were not answered in time: %w", each.of, err)
+			why = fmt.Errorf("the requests at the listener for %s were not answered in time: %w", each.users, err)
 		}
 	}
 	return why

@@ -37,7 +37,7 @@ type node struct {
 	origin, signingKey string
 	// guard says whether the signer has a guard. If it is nil, no setting says so, and the signer has one.
 	guard                      *bool
-	guardState, signerAt       string
+	guardState, signerSocket   string
 	folder, store, lock, index string
 	// archive is the folder of an archive that is served instead of a log. It is empty for a log.
 	archive                          string
@@ -193,7 +193,7 @@ func (n *node) storeFlags(flags *flag.FlagSet) {
 	flags.StringVar(&n.guardState, "guard-state", "",
 		"`address` of the guard's state: file:PATH, etcd://HOST:PORT/PREFIX, postgres://HOST/DATABASE?log=NAME "+
 			"(default FOLDER.guard, beside the folder)")
-	flags.StringVar(&n.signerAt, "signer-socket", "",
+	flags.StringVar(&n.signerSocket, "signer-socket", "",
 		"`socket` of a running signer (ctserve signer --help), instead of signing-key, guard and guard-state")
 	flags.StringVar(&n.folder, "folder", "ct-log",
 		"`folder` for the objects, the lock and the index, if no other addresses are given")

@@ -26,8 +26,8 @@ const (
 // askSigner starts the log's signer, which is a process of its own, or connects to the one at a socket. A signer that
 // is started again does not create the guard's state, because the log may have grown since.
 func askSigner(ctx context.Context, n node) (*signer.Client, error) {
-	open := func(ctx context.Context) (*signer.Peer, error) { return signer.Dial(ctx, n.signerAt) }
-	if n.signerAt == "" {
+	open := func(ctx context.Context) (*signer.Peer, error) { return signer.Dial(ctx, n.signerSocket) }
+	if n.signerSocket == "" {
 		self, err := os.Executable()
 		if err != nil {
 			return nil, fmt.Errorf("ctserve: %w", err)

@@ -33,13 +33,13 @@ func (s *settings) checkNeeded() error {
 	for _, needed := range []struct{ name, value string }{
 		{"roots", strings.Join(s.roots.Paths, "")},
 		{"origin", n.origin},
-		{"signing-key or --signer-socket", n.signingKey + n.signerAt},
+		{"signing-key or --signer-socket", n.signingKey + n.signerSocket},
 	} {
 		if needed.value == "" && n.archive == "" {
 			return fmt.Errorf("--%s is missing", needed.name)
 		}
 	}
-	if n.signerAt != "" && (n.signingKey != "" || n.guard != nil || n.guardState != "") {
+	if n.signerSocket != "" && (n.signingKey != "" || n.guard != nil || n.guardState != "") {
 		return errors.New("--signer-socket replaces --signing-key, --guard and --guard-state: remove either")
 	}
 	if (s.certificate == "") != (s.key == "") {
@@ -142,7 +142,7 @@ func (n *node) setDefaultStores() error {
 			*address.of, n.makesFolder = address.text, true
 		}
 	}
-	if n.guardState == "" && n.signerAt == "" {
+	if n.guardState == "" && n.signerSocket == "" {
 		n.guardState = "file:" + beside(n.folder, ".guard")
 	}
 	if n.latestHead == "" {

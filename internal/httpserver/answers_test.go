@@ -17,8 +17,8 @@ import (
 	"wagtenib/internal/stores"
 )
 
-// TestAnswersAreBounded: if responses have as many bytes as allowed, a call that reads objects is refused, and another
-// one is not. What was read does not count after its response, and what does not exist never counts.
+// TestAnswersAreBounded checks that, if responses have as many bytes as allowed, a call that reads objects is refused,
+// and other calls are not. An object does not count after its response, and one that does not exist never counts.
 func TestAnswersAreBounded(t *testing.T) {
 	f := newFixture(t, 0, func(o *Options) { o.Limits.AnswerBytes = 2 << 20 })
 	f.fill(260)

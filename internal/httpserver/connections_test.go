@@ -314,14 +314,14 @@ func (c *connections) reading() int {
 // watchedClose records at each Close whether the mutex of the connections is held.
 type watchedClose struct {
 	net.Conn
-	of   *connections
-	held []bool
+	connections *connections
+	held        []bool
 }
 
 func (w *watchedClose) Close() error {
-	isFree := w.of.mutex.TryLock()
+	isFree := w.connections.mutex.TryLock()
 	if isFree {
-		w.of.mutex.Unlock()
+		w.connections.mutex.Unlock()
 	}
 	w.held = append(w.held, !isFree)
 	return nil
@@ -331,7 +331,7 @@ func (w *watchedClose) Close() error {
 // be noted in between.
 func TestClosesIdleUnderTheMutex(t *testing.T) {
 	c := &connections{}
-	w := &watchedClose{of: c}
+	w := &watchedClose{connections: c}
 	connection := &open{Conn: w}
 	connection.closed = func() { c.leave(connection) }
 	c.setIdle(connection, true)

@@ -186,6 +186,6 @@ func TestReloadsAreCounted(t *testing.T) {
 		}
 	}
 	if strings.Contains(w.Body.String(), `{of="certificate",outcome="done"}`) {
-		t.Error("a reload that failed is said to be done")
+		t.Error("a failed reload is counted as done")
 	}
 }

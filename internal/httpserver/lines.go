@@ -18,7 +18,7 @@ const maxLines = 50
 // Lines writes log lines, one JSON object each, with time, level, event and fields. A nil Lines writes nothing.
 type Lines struct {
 	mutex  sync.Mutex
-	to     io.Writer
+	writer io.Writer
 	now    func() time.Time
 	second int64
 	// written counts the lines of each event in this second. Events are a few constants of the programs.
@@ -26,7 +26,7 @@ type Lines struct {
 }
 
 // NewLines writes lines to w.
-func NewLines(w io.Writer) *Lines { return &Lines{to: w, now: time.Now} }
+func NewLines(w io.Writer) *Lines { return &Lines{writer: w, now: time.Now} }
 
 // Info logs normal operation. The fields are keys, each with its value after it.
 func (l *Lines) Info(event string, fields ...any) { l.log("info", event, fields) }
@@ -55,7 +55,7 @@ func (l *Lines) log(level, event string, fields []any) {
 		}
 		sort.Strings(dropped)
 		for _, event := range dropped {
-			l.to.Write(line(now, "warn", "dropped", []any{"of", event, "lines", written[event] - maxLines}))
+			l.writer.Write(line(now, "warn", "dropped", []any{"of", event, "lines", written[event] - maxLines}))
 		}
 	}
 	if level != "error" {
@@ -63,7 +63,7 @@ func (l *Lines) log(level, event string, fields []any) {
 			return
 		}
 	}
-	l.to.Write(line(now, level, event, fields))
+	l.writer.Write(line(now, level, event, fields))
 }
 
 func line(now time.Time, level, event string, fields []any) []byte {

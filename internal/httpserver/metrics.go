@@ -222,11 +222,11 @@ func (s metricSink) work(f loginterface.Metrics) {
 	for _, phase := range f.Phases {
 		s.to <- prometheus.MustNewConstSummary(descPhase, phase.Count, phase.Duration.Seconds(), nil, phase.Name)
 	}
-	taken := map[float64]uint64{}
-	for most, steps := range f.Batches.UpTo {
-		taken[float64(most)] = steps
+	buckets := map[float64]uint64{}
+	for bound, steps := range f.Batches.UpTo {
+		buckets[float64(bound)] = steps
 	}
-	s.to <- prometheus.MustNewConstHistogram(descBatches, f.Batches.Steps, float64(f.Batches.Submissions), taken)
+	s.to <- prometheus.MustNewConstHistogram(descBatches, f.Batches.Steps, float64(f.Batches.Submissions), buckets)
 }
 
 // upkeep collects what was deleted, checked and repaired.

@@ -123,13 +123,13 @@ func (f *Front) checked(ctx context.Context, body []byte, check chainCheck) (*ch
 
 // encodedRoots is the answer to get-roots for some roots.
 type encodedRoots struct {
-	of   *chains.Roots
-	text []byte
+	roots *chains.Roots
+	text  []byte
 }
 
 func (f *Front) getRoots(w http.ResponseWriter, r *http.Request) error {
 	roots, encoded := f.checker.Roots(), f.roots.Load()
-	if encoded == nil || encoded.of != roots {
+	if encoded == nil || encoded.roots != roots {
 		text, err := json.Marshal(struct {
 			Certificates [][]byte `json:"certificates"`
 		}{roots.Certificates()})
