@@ -40,26 +40,26 @@ func (a *archiveFlags) add(to *flag.FlagSet) {
 		"User-Agent")
 }
 
-// tellsEvery is the least time between two lines that say how far an archive is.
-const tellsEvery = 10 * time.Second
+// progressInterval is the minimum time between two lines about the progress of an archive.
+const progressInterval = 10 * time.Second
 
 // runArchive archives a log.
-func runArchive(words []string, answers, faults io.Writer) error {
-	flags := commandFlags("archive", archivePage, faults)
+func runArchive(arguments []string, stdout, stderr io.Writer) error {
+	flags := commandFlags("archive", archivePage, stderr)
 	var given archiveFlags
 	given.add(flags)
-	if err := parseFlags(flags, addressLast(words), 1); err != nil {
+	if err := parseFlags(flags, addressLast(arguments), 1); err != nil {
 		return err
 	}
 	of, options, err := given.log(flags.Arg(0))
 	if err != nil {
 		return fmt.Errorf("%w: %v", errUsage, err)
 	}
-	var told time.Time
+	var lastLine time.Time
 	options.Progress = func(entries, size uint64) {
-		if now := time.Now(); now.Sub(told) >= tellsEvery || entries == size {
-			told = now
-			fmt.Fprintf(answers, "%d of %d entries\n", entries, size)
+		if now := time.Now(); now.Sub(lastLine) >= progressInterval || entries == size {
+			lastLine = now
+			fmt.Fprintf(stdout, "%d of %d entries\n", entries, size)
 		}
 	}
 	ctx, stop := signal.NotifyContext(context.Background(), syscall.SIGTERM, syscall.SIGINT)
@@ -68,19 +68,19 @@ func runArchive(words []string, answers, faults io.Writer) error {
 	if err != nil {
 		return err
 	}
-	fmt.Fprintf(answers, "complete: %d entries, root %x, signed at %s\n", head.TreeSize, head.Root,
+	fmt.Fprintf(stdout, "complete: %d entries, root %x, signed at %s\n", head.TreeSize, head.Root,
 		time.UnixMilli(int64(head.Timestamp)).UTC().Format(time.RFC3339))
 	return nil
 }
 
-// log returns which log is archived, and how it is read. The error says which flag is wrong.
+// log returns the log to be archived, and the options to read it. The error names the flag that is wrong.
 func (a *archiveFlags) log(address string) (of logarchive.Log, options logarchive.Options, err error) {
 	if a.key == "" || a.folder == "" {
 		return of, options, errors.New("archive needs --key and --folder")
 	}
 	_, host, found := strings.Cut(address, "://")
 	if !found {
-		return of, options, fmt.Errorf("URL %q is no address (write https://HOST/PATH)", address)
+		return of, options, fmt.Errorf("URL %q is not an address (write https://HOST/PATH)", address)
 	}
 	of = logarchive.Log{URL: address, Origin: a.origin}
 	if of.Origin == "" {
@@ -105,7 +105,7 @@ func (a *archiveFlags) log(address string) (of logarchive.Log, options logarchiv
 	return of, options, err
 }
 
-// openArchive opens an archive as a log that takes no submissions.
+// openArchive opens an archive as a log that accepts no submissions.
 func openArchive(ctx context.Context, n node) (*opened, error) {
 	of, err := logarchive.Open(ctx, n.archive)
 	if err != nil {
@@ -115,7 +115,7 @@ func openArchive(ctx context.Context, n node) (*opened, error) {
 		close: of.Close}, nil
 }
 
-// archiveNotice is the notice of an archive, unless the operator has another one.
+// archiveNotice is the notice of an archive, unless the operator sets another one.
 const archiveNotice = "This is an archive of a log that has ended. " +
 	"It takes no submissions, and its tree head is the last one that the log signed."
 
@@ -126,7 +126,7 @@ func (s *settings) validateArchive() error {
 		return nil
 	}
 	for name, given := range map[string]string{"origin": n.origin, "signing-key": n.signingKey,
-		"signer-socket": n.signerAt, "roots": strings.Join(s.roots.Paths, ""), "store": n.store, "lock": n.lock,
+		"signer-socket": n.signerSocket, "roots": strings.Join(s.roots.Paths, ""), "store": n.store, "lock": n.lock,
 		"index": n.index} {
 		if given != "" {
 			return fmt.Errorf("--archive has everything of the log: remove --%s", name)
@@ -153,7 +153,7 @@ func (s *settings) loadRoots() (*chains.Roots, error) {
 	return s.roots.Load()
 }
 
-// checkArchive opens the archive that settings name, and says what it has.
+// checkArchive opens the archive that the settings name, and returns a line that describes it.
 func checkArchive(n node) (string, error) {
 	ctx, cancel := context.WithTimeout(context.Background(), n.openWithin)
 	defer cancel()

@@ -27,7 +27,7 @@ import (
 // archiveEntries is the environment variable with the number of entries of the log of TestArchive, if it is not 300.
 const archiveEntries = "CTSERVE_ARCHIVE_ENTRIES"
 
-// submitMany submits so many certificates, several at once.
+// submitMany submits so many new certificates, several at the same time.
 func (p *place) submitMany(address string, count int) {
 	p.t.Helper()
 	bodies, wrong := make(chan []byte), make(chan string, 1)
@@ -58,7 +58,8 @@ func (p *place) submitMany(address string, count int) {
 	}
 }
 
-// entriesOf reads all entries of a log by get-entries, and returns the hashes of their tree as tlog stores them.
+// entriesOf reads all entries of a log by get-entries. It returns the hashes of their tree as tlog stores them, and the
+// leaves.
 func entriesOf(t *testing.T, address string, size int64) (hashes tlog.HashReaderFunc, leaves [][]byte) {
 	t.Helper()
 	var stored []tlog.Hash
@@ -94,26 +95,26 @@ func wantsJSON(t *testing.T, address, path string, into any) {
 	}
 }
 
-// archived archives a log in a process of its own, and logs how fast it was and how much memory it took.
-func archived(t *testing.T, entries int, words ...string) string {
+// archived archives a log in a process of its own, and logs its speed and its memory. It returns the output.
+func archived(t *testing.T, entries int, arguments ...string) string {
 	t.Helper()
-	command := exec.Command(os.Args[0], append([]string{"archive"}, words...)...)
+	command := exec.Command(os.Args[0], append([]string{"archive"}, arguments...)...)
 	command.Env = append(os.Environ(), childKey+"=1")
 	began := time.Now()
-	said, err := command.CombinedOutput()
+	output, err := command.CombinedOutput()
 	took := time.Since(began)
 	if err != nil {
-		t.Fatalf("ctserve archive: %v: %s", err, said)
+		t.Fatalf("ctserve archive: %v: %s", err, output)
 	}
 	usage := command.ProcessState.SysUsage().(*syscall.Rusage)
 	t.Logf("%d entries in %v (%.0f a second), %v of processors, at most %d MB", entries, took,
 		float64(entries)/took.Seconds(), command.ProcessState.UserTime()+command.ProcessState.SystemTime(),
 		usage.Maxrss>>10)
-	return string(said)
+	return string(output)
 }
 
-// TestArchive: the archive of a log by its own calls of RFC 6962 has the signed root. It is served with the head that
-// the log signed, with the same entries, and with proofs that tlog verifies.
+// TestArchive checks that the archive of a log, which is read by the calls of RFC 6962, has the signed root. It is
+// served with the head that the log signed, with the same entries, and with proofs that tlog verifies.
 func TestArchive(t *testing.T) {
 	t.Parallel()
 	size := int64(300)
@@ -123,19 +124,19 @@ func TestArchive(t *testing.T) {
 		testutil.Must(t, err)
 	}
 	at := newPlace(t)
-	p := started(t, "", at.realWords("--signing-key", at.path("log.pem"), "--create", "--max-connections-per-address",
+	p := started(t, "", at.realArguments("--signing-key", at.path("log.pem"), "--create", "--max-connections-per-address",
 		"100")...)
 	at.submitMany(p.clients, int(size))
 	_, key := read(p.clients, "/key")
 	at.write("public.pem", []byte(key))
 	folder := at.path("archive")
-	said := archived(t, int(size), "http://"+p.clients, "--key", at.path("public.pem"), "--folder", folder, "--origin",
+	output := archived(t, int(size), "http://"+p.clients, "--key", at.path("public.pem"), "--folder", folder, "--origin",
 		"log.example/test")
-	if !strings.Contains(said, fmt.Sprintf("complete: %d entries, root ", size)) {
-		t.Errorf("ctserve archive: %s", said)
+	if !strings.Contains(output, fmt.Sprintf("complete: %d entries, root ", size)) {
+		t.Errorf("ctserve archive: %s", output)
 	}
-	if status, said := runs([]string{"--archive", folder, "--roots", at.path("roots.pem")}); status != 2 {
-		t.Errorf("an archive with roots: status %d: %s", status, said)
+	if status, output := runs([]string{"--archive", folder, "--roots", at.path("roots.pem")}); status != 2 {
+		t.Errorf("an archive with roots: status %d: %s", status, output)
 	}
 	from := started(t, "", append(patient(), "--listen", "127.0.0.1:0", "--operator-listen", "127.0.0.1:0", "--archive",
 		folder)...)
@@ -157,7 +158,7 @@ func wantsHead(t *testing.T, log, archive, key string, size int64, hashes tlog.H
 	t.Helper()
 	_, signed := read(log, "/ct/v1/get-sth")
 	if _, answer := read(archive, "/ct/v1/get-sth"); answer != signed {
-		t.Errorf("get-sth: %s, and the log's is %s", answer, signed)
+		t.Errorf("get-sth: %s, and the log answers %s", answer, signed)
 	}
 	root, err := tlog.TreeHash(size, hashes)
 	testutil.Must(t, err)
@@ -169,7 +170,7 @@ func wantsHead(t *testing.T, log, archive, key string, size int64, hashes tlog.H
 	}
 }
 
-// some returns the first and the last number below an end, and some between them by chance.
+// some returns the first and the last number below an end, and random ones between them.
 func some(end int64, count int) []int64 {
 	numbers := []int64{0, end - 1, min(255, end-1), min(256, end-1)}
 	for range count {
@@ -194,14 +195,14 @@ func wantsSameAnswers(t *testing.T, log, archive string, size int64) {
 		}
 	}
 	for _, path := range paths {
-		status, due := read(log, path)
-		if other, answer := read(archive, path); status != 200 || other != 200 || answer != due {
-			t.Errorf("%s: %d, and the log answers %d; the same bytes: %v", path, other, status, answer == due)
+		status, expected := read(log, path)
+		if other, answer := read(archive, path); status != 200 || other != 200 || answer != expected {
+			t.Errorf("%s: %d, and the log answers %d; the same bytes: %v", path, other, status, answer == expected)
 		}
 	}
 }
 
-// wantsProofs has tlog verify proofs of an archive.
+// wantsProofs verifies proofs of an archive with tlog.
 func wantsProofs(t *testing.T, address string, size int64, hashes tlog.HashReader, leaves [][]byte) {
 	t.Helper()
 	root, err := tlog.TreeHash(size, hashes)
@@ -242,22 +243,22 @@ func asHashes(path [][]byte) []tlog.Hash {
 	return hashes
 }
 
-// wantsNoSubmission sees that an archive takes nothing, and says what it is.
+// wantsNoSubmission checks that an archive refuses submissions, and shows that it is an archive.
 func wantsNoSubmission(t *testing.T, at *place, p *program) {
 	t.Helper()
 	if status, text := post(p.clients, at.submission()); status != 403 || !strings.Contains(text, "read-only") {
 		t.Errorf("add-chain: %d %s", status, text)
 	}
-	for path, due := range map[string]string{"/readyz": "ready", "/log.v3.json": archiveNotice,
+	for path, expected := range map[string]string{"/readyz": "ready", "/log.v3.json": archiveNotice,
 		"/ct/v1/get-roots": `"certificates":[]`, "/": "<!doctype html>"} {
-		if status, text := read(p.clients, path); status != 200 || !strings.Contains(text, due) {
+		if status, text := read(p.clients, path); status != 200 || !strings.Contains(text, expected) {
 			t.Errorf("%s: %d %.300s", path, status, text)
 		}
 	}
 	if _, text := get(p.operator, "/metrics"); strings.Contains(text, "ctserve_max_merge_delay_seconds ") {
-		t.Error("an archive has a maximum merge delay, by which an alert compares its head's age")
+		t.Error("an archive has a maximum merge delay, with which an alert compares its head's age")
 	}
-	if status, said := runs([]string{"--archive", filepath.Join(at.folder, "none")}); status != 2 {
-		t.Errorf("no archive: status %d: %s", status, said)
+	if status, output := runs([]string{"--archive", filepath.Join(at.folder, "none")}); status != 2 {
+		t.Errorf("no archive: status %d: %s", status, output)
 	}
 }

@@ -13,7 +13,7 @@ import (
 	"wagtenib/internal/httpserver/fakelog"
 )
 
-// TestSettings: the rules for arguments and the config file.
+// TestSettings checks the rules for arguments and the config file.
 func TestSettings(t *testing.T) {
 	at := newPlace(t)
 	files := 0
@@ -28,8 +28,8 @@ func TestSettings(t *testing.T) {
 		return []string{"--roots", "a", "--signing-key", "c", "--origin", origin}
 	}
 	for _, test := range []struct {
-		words []string
-		why   string
+		arguments []string
+		why       string
 	}{
 		{nil, "--roots is missing"},
 		{[]string{"--roots", "a", "--origin", "b"}, "--signing-key or --signer-socket is missing"},
@@ -38,7 +38,7 @@ func TestSettings(t *testing.T) {
 		{[]string{"--roots", "a", "--origin", "b", "--signer-socket", "c", "--guard=false"}, "replaces --signing-key"},
 		{[]string{"--roots", "a", "--origin", "b", "--signing-key", "c", "--guard=none"}, "neither true nor false"},
 		{[]string{"--nothing"}, "not defined"},
-		{[]string{"word"}, `"word" isn't expected`},
+		{[]string{"word"}, `"word" is not expected`},
 		{[]string{"--config", at.path("missing")}, "no such file"},
 		{file("nothing 7"), `line 1: there is no setting "nothing"`},
 		{file("config x"), `line 1: there is no setting "config"`},
@@ -76,9 +76,9 @@ func TestSettings(t *testing.T) {
 		{file(needed + "listen :99999"), "a port is 0 to 65535"},
 		{file(needed + "listen 127.0.0.1:8619"), "two listeners have the address 127.0.0.1:8619"},
 	} {
-		if _, err := parse(test.words, io.Discard); !errors.Is(err, errUsage) ||
+		if _, err := parse(test.arguments, io.Discard); !errors.Is(err, errUsage) ||
 			!strings.Contains(err.Error(), test.why) {
-			t.Errorf("%q: %v, and not %s", test.words, err, test.why)
+			t.Errorf("%q: %v, and not %s", test.arguments, err, test.why)
 		}
 	}
 	s, err := parse(append(file(needed+
@@ -120,25 +120,25 @@ func TestSettings(t *testing.T) {
 			t.Errorf("%s: %v, %+v", text, err, s)
 		}
 	}
-	for text, rests := range map[string]bool{"": false, "store folder:x": false, "store s3://a.example/b": true,
+	for text, isRemote := range map[string]bool{"": false, "store folder:x": false, "store s3://a.example/b": true,
 		"lock etcd://127.0.0.1:2379/log": true, "index etcd://127.0.0.1:2379/log": true} {
-		if s, err := parse(file(needed+text), io.Discard); err != nil || s.node.isAway() != rests {
+		if s, err := parse(file(needed+text), io.Discard); err != nil || s.node.hasRemoteStore() != isRemote {
 			t.Errorf("%s: %v", text, err)
 		}
 	}
 	for _, test := range []struct {
-		words  []string
-		status int
+		arguments []string
+		status    int
 	}{{[]string{"--help"}, 0}, {[]string{"signer", "--help"}, 0}, {[]string{"signer"}, 2},
 		{[]string{"signer", "--signing-key", at.path("log.pem"), "word"}, 2}, {[]string{"--nothing"}, 2},
-		{at.words("--roots", at.path("none")), 1}, {at.words("--listen", "127.0.0.1:x"), 2},
-		{at.words("--tls-certificate", "none", "--tls-key", "none"), 1}} {
+		{at.arguments("--roots", at.path("none")), 1}, {at.arguments("--listen", "127.0.0.1:x"), 2},
+		{at.arguments("--tls-certificate", "none", "--tls-key", "none"), 1}} {
 		open := func(context.Context, node) (*opened, error) {
 			of, err := fakelog.New(0)
 			return &opened{log: of, close: func() {}}, err
 		}
-		if status := run(test.words, io.Discard, open); status != test.status {
-			t.Errorf("%q: status %d, not %d", test.words, status, test.status)
+		if status := run(test.arguments, io.Discard, open); status != test.status {
+			t.Errorf("%q: status %d, not %d", test.arguments, status, test.status)
 		}
 	}
 }

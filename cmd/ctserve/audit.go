@@ -30,7 +30,7 @@ compliance monitor of a browser's programme does. It submits chains (--issuer an
 each SCT into the log, compares all tree heads, and counts and times each answer. It prints a report. The exit status
 is 0 if the log passed each check, 1 if it did not, and 2 if the arguments are wrong.`
 
-// errAudit is the error of a log that did not pass.
+// errAudit reports that a log did not pass.
 var errAudit = errors.New("the log did not pass")
 
 // auditFlags are the flags of `ctserve audit`.
@@ -69,12 +69,12 @@ func (a *auditFlags) add(to *flag.FlagSet) {
 		"`time` within which 99 of 100 answers to each call must come")
 }
 
-// runAudit looks at a log from outside.
-func runAudit(words []string, answers, faults io.Writer) error {
-	flags := commandFlags("audit", auditPage, faults)
+// runAudit checks a log from outside.
+func runAudit(arguments []string, stdout, stderr io.Writer) error {
+	flags := commandFlags("audit", auditPage, stderr)
 	var given auditFlags
 	given.add(flags)
-	if err := parseFlags(flags, addressLast(words), 1); err != nil {
+	if err := parseFlags(flags, addressLast(arguments), 1); err != nil {
 		return err
 	}
 	options, err := given.options(flags.Arg(0))
@@ -82,7 +82,7 @@ func runAudit(words []string, answers, faults io.Writer) error {
 		return fmt.Errorf("%w: %v", errUsage, err)
 	}
 	options.Notify = func(check string, fault compliance.Fault) {
-		fmt.Fprintf(faults, "%s %s: %s\n", fault.Time.UTC().Format(time.RFC3339), check, fault.Text)
+		fmt.Fprintf(stderr, "%s %s: %s\n", fault.Time.UTC().Format(time.RFC3339), check, fault.Text)
 	}
 	ctx, stop := signal.NotifyContext(context.Background(), syscall.SIGTERM, syscall.SIGINT)
 	defer stop()
@@ -90,7 +90,7 @@ func runAudit(words []string, answers, faults io.Writer) error {
 	if err != nil {
 		return err
 	}
-	fmt.Fprint(answers, report.Text())
+	fmt.Fprint(stdout, report.Text())
 	if err := given.write(report); err != nil {
 		return err
 	}
@@ -100,15 +100,16 @@ func runAudit(words []string, answers, faults io.Writer) error {
 	return nil
 }
 
-// addressLast puts the address after the flags. It may be before them, as the pages have it.
-func addressLast(words []string) []string {
-	if len(words) > 0 && !strings.HasPrefix(words[0], "-") {
-		return append(append([]string{}, words[1:]...), words[0])
+// addressLast returns the arguments with the address after the flags. On the command line the address may be before
+// them, as on the pages.
+func addressLast(arguments []string) []string {
+	if len(arguments) > 0 && !strings.HasPrefix(arguments[0], "-") {
+		return append(append([]string{}, arguments[1:]...), arguments[0])
 	}
-	return words
+	return arguments
 }
 
-// isPercentage reports whether a number is a percentage. NaN, which a flag takes, is none: no bound holds against it.
+// isPercentage reports whether a number is from 0 to 100. A flag accepts NaN, which is no percentage.
 func isPercentage(number float64) bool { return number >= 0 && number <= 100 }
 
 // write writes the report into its two files.
@@ -126,7 +127,7 @@ func (a *auditFlags) write(report compliance.Report) error {
 	return os.WriteFile(a.report+".json", content, 0o644)
 }
 
-// options returns what the flags say. The error says which of them is wrong.
+// options returns the options that the flags set. The error names the flag that is wrong.
 func (a *auditFlags) options(address string) (options compliance.Options, err error) {
 	options = compliance.Options{SubmissionURL: address, MonitoringURL: a.monitoring, Schedule: a.schedule,
 		Bounds: compliance.Bounds{Availability: a.availability / 100, Latency: a.latency}}
@@ -151,12 +152,12 @@ func (a *auditFlags) options(address string) (options compliance.Options, err er
 	return options, err
 }
 
-// check returns an error if an address or a number among the flags is none.
+// check returns an error if an address, a duration or a percentage among the flags is wrong.
 func (a *auditFlags) check(address string) error {
 	for name, given := range map[string]string{"URL": address, "--monitoring-url": a.monitoring} {
 		if at, err := url.Parse(given); given != "" && (err != nil || at.Scheme != "https" && at.Scheme != "http" ||
 			at.Host == "") {
-			return fmt.Errorf("%s %q is no address (write https://HOST/PATH)", name, given)
+			return fmt.Errorf("%s %q is not an address (write https://HOST/PATH)", name, given)
 		}
 	}
 	for name, given := range map[string]time.Duration{"for": a.schedule.For, "poll-interval": a.schedule.Poll,
@@ -166,12 +167,12 @@ func (a *auditFlags) check(address string) error {
 		}
 	}
 	if !isPercentage(a.availability) {
-		return fmt.Errorf("--min-availability %v is no percentage", a.availability)
+		return fmt.Errorf("--min-availability %v is not a percentage (write a number from 0 to 100)", a.availability)
 	}
 	return nil
 }
 
-// expects reads what a log list says of the log.
+// expects reads the log's entry in a log list into the options.
 func (a *auditFlags) expects(address string, options *compliance.Options) error {
 	if a.listEntry == "" {
 		return nil
@@ -191,7 +192,7 @@ func (a *auditFlags) expects(address string, options *compliance.Options) error 
 	return nil
 }
 
-// submitter returns what makes the chains.
+// submitter returns the source of the chains.
 func (a *auditFlags) submitter() (compliance.Submitter, error) {
 	switch hasIssuer := a.issuer != "" || a.issuerKey != ""; {
 	case a.chains != "" && hasIssuer:
@@ -214,7 +215,7 @@ func (a *auditFlags) submitter() (compliance.Submitter, error) {
 	return asSubmitter(compliance.NewAuthority(certificates, key))
 }
 
-// asSubmitter returns no submitter, and not one that is nil, if there is an error.
+// asSubmitter returns a submitter, or a nil interface if there is an error.
 func asSubmitter[S compliance.Submitter](of S, err error) (compliance.Submitter, error) {
 	if err != nil {
 		return nil, err
@@ -222,7 +223,7 @@ func asSubmitter[S compliance.Submitter](of S, err error) (compliance.Submitter,
 	return of, nil
 }
 
-// clientOptions returns how the requests of a command are made.
+// clientOptions returns the options for the requests of a command.
 func clientOptions(command, ca, contact string) (options logclient.Options, err error) {
 	if options.UserAgent, err = logclient.UserAgent(command, version.Number(), contact); err != nil {
 		return options, fmt.Errorf("--contact: %w", err)

@@ -26,14 +26,14 @@ import (
 	"wagtenib/internal/testutil"
 )
 
-// audited is a log on a folder that `ctserve audit` looks at, with the files that it needs.
+// audited is a log on a folder that `ctserve audit` checks, with the files that it needs.
 type audited struct {
 	*place
-	words []string // by which the log is started
-	audit []string // those of the audit, which a slow machine must not fail
+	arguments []string // arguments of the log
+	audit     []string // arguments of the audit, with limits that a slow machine keeps
 }
 
-// newAudited makes the settings of a log, its entry for a log list, and a test CA among its roots.
+// newAudited makes the settings of a log, its entry for a log list, and a test CA that is one of its roots.
 func newAudited(t *testing.T) audited {
 	t.Helper()
 	at := newPlace(t)
@@ -45,21 +45,22 @@ func newAudited(t *testing.T) audited {
 		"signing-key " + at.path("log.pem"), "roots " + at.path("roots.pem"),
 		"folder " + at.path("log"), "interval 50ms", "not-after-start 2027-01-01", "not-after-limit 2027-07-01",
 		"max-merge-delay 24h"}, "\n")))
-	status, entry, told := does("list-entry", "--config", at.path("settings"), "--operator", "An operator", "--email",
+	status, entry, stderr := does("list-entry", "--config", at.path("settings"), "--operator", "An operator", "--email",
 		"log@example.org")
 	if status != 0 {
-		t.Fatalf("list-entry: %s", told)
+		t.Fatalf("list-entry: %s", stderr)
 	}
 	at.write("entry.json", []byte(entry))
-	words := append(patient(), "--config", at.path("settings"), "--listen", address, "--operator-listen", "127.0.0.1:0")
-	return audited{at, words, []string{"audit", "http://" + address, "--list-entry", at.path("entry.json"),
+	arguments := append(patient(), "--config", at.path("settings"), "--listen", address, "--operator-listen",
+		"127.0.0.1:0")
+	return audited{at, arguments, []string{"audit", "http://" + address, "--list-entry", at.path("entry.json"),
 		"--issuer", at.path("ca.pem"),
 		"--issuer-key", at.path("ca.key"), "--wanted-roots", at.path("roots.pem"), "--poll-interval", "100ms",
 		"--submit-interval", "300ms",
 		"--min-availability", "0", "--max-latency", testutil.Longest.String(), "--report", at.path("report")}}
 }
 
-// authorityKey makes an authority whose key the test has, and puts it among the roots.
+// authorityKey makes a new authority the only root, and returns its key.
 func (p *place) authorityKey() []byte {
 	p.t.Helper()
 	authority, err := fakelog.NewAuthority("A test CA")
@@ -69,17 +70,18 @@ func (p *place) authorityKey() []byte {
 	return authority.KeyPEM()
 }
 
-// TestAuditOfKilledLog: a log that is killed and started again meanwhile passes, and the report has what was seen.
+// TestAuditOfKilledLog checks that a log passes an audit while it is killed and started again, and that the report is
+// complete.
 func TestAuditOfKilledLog(t *testing.T) {
 	t.Parallel()
 	newAudited(t).passesWhileKilled("20s")
 }
 
-// TestAuditOverEngines: the same over PostgreSQL, and S3 if it was started too (tests/engines.sh).
+// TestAuditOverEngines checks the same with PostgreSQL, and with S3 if it was started, too (tests/engines.sh).
 func TestAuditOverEngines(t *testing.T) {
 	postgres, s3 := os.Getenv("STORES_POSTGRES"), os.Getenv("STORES_S3")
 	if postgres == "" {
-		t.Skip("no such engine was started: tests/engines.sh starts it where postgresql is installed")
+		t.Skip("PostgreSQL was not started (tests/engines.sh starts it if it is installed)")
 	}
 	t.Parallel()
 	at := newAudited(t)
@@ -91,9 +93,9 @@ func TestAuditOverEngines(t *testing.T) {
 	}
 	address := fmt.Sprintf("postgres://%s@%s:%s/%s?sslmode=%s&log=%s", fields["user"], fields["host"], fields["port"],
 		fields["dbname"], fields["sslmode"], name)
-	at.words = append(at.words, "--lock", address, "--index", address)
+	at.arguments = append(at.arguments, "--lock", address, "--index", address)
 	if s3 != "" {
-		at.words = append(at.words, "--store", bucket(t, s3, name))
+		at.arguments = append(at.arguments, "--store", bucket(t, s3, name))
 	}
 	at.passesWhileKilled("20s")
 }
@@ -110,52 +112,52 @@ func bucket(t *testing.T, engine, name string) string {
 	return fmt.Sprintf("s3://%s@%s/%s?tls=no", at.User, at.Host, name)
 }
 
-// passesWhileKilled sees that a log passes an audit while it is killed and started again.
+// passesWhileKilled checks that a log passes an audit while it is killed and started again.
 func (at audited) passesWhileKilled(long string) {
 	t := at.t
 	t.Helper()
-	p := started(t, "", append(at.words, "--create")...)
+	p := started(t, "", append(at.arguments, "--create")...)
 	type ended struct {
-		status        int
-		answers, told string
+		status         int
+		stdout, stderr string
 	}
 	done := make(chan ended, 1)
 	go func() {
-		status, answers, told := does(append(at.audit, "--for", long)...)
-		done <- ended{status, answers, told}
+		status, stdout, stderr := does(append(at.audit, "--for", long)...)
+		done <- ended{status, stdout, stderr}
 	}()
 	kills, size := 0, sizeOf(p)
-	var came ended
+	var outcome ended
 	for over := false; !over; {
-		// (each time after entries were added, and at most five times)
+		// The log is killed at most five times, each time after entries were added.
 		if now := sizeOf(p); kills < 5 && now >= size+4 {
 			size = now
 			p.signal(syscall.SIGKILL)
 			p.ends()
-			p = started(t, "", at.words...)
+			p = started(t, "", at.arguments...)
 			kills++
 		}
 		select {
-		case came = <-done:
+		case outcome = <-done:
 			over = true
 		case <-time.After(10 * time.Millisecond):
 		}
 	}
-	if came.status != 0 || kills == 0 {
-		t.Fatalf("status %d after %d kills: %s%s", came.status, kills, came.told, came.answers)
+	if outcome.status != 0 || kills == 0 {
+		t.Fatalf("status %d after %d kills: %s%s", outcome.status, kills, outcome.stderr, outcome.stdout)
 	}
 	t.Logf("%d kills, %d entries", kills, sizeOf(p))
-	at.judgeReport(came.answers)
+	at.judgeReport(outcome.stdout)
 }
 
-// judgeReport sees that the report of a log that passed is what was printed, and has each check.
-func (at audited) judgeReport(answers string) {
+// judgeReport checks that the written report of a log that passed is the printed one, and that each check was tried.
+func (at audited) judgeReport(stdout string) {
 	t := at.t
 	t.Helper()
 	text, err := os.ReadFile(at.path("report"))
 	testutil.Must(t, err)
-	if string(text) != answers || !strings.HasPrefix(answers, "log.example/2027h1: passed\n") {
-		t.Errorf("the report %q isn't what was printed", text)
+	if string(text) != stdout || !strings.HasPrefix(stdout, "log.example/2027h1: passed\n") {
+		t.Errorf("the report %q is not the printed one", text)
 	}
 	content, err := os.ReadFile(at.path("report.json"))
 	testutil.Must(t, err)
@@ -178,7 +180,7 @@ func (at audited) judgeReport(answers string) {
 	}
 }
 
-// sizeOf returns the size of the log's newest tree, or 0 if it doesn't answer.
+// sizeOf returns the size of the log's newest tree, or 0 if the log does not answer.
 func sizeOf(p *program) (size int) {
 	var head struct {
 		Size int `json:"tree_size"`
@@ -189,23 +191,24 @@ func sizeOf(p *program) (size int) {
 	return head.Size
 }
 
-// TestAuditFindsMissingRoot: a log that lacks a wanted root doesn't pass, and the end names the check.
+// TestAuditFindsMissingRoot checks that a log that lacks a wanted root does not pass, and that the error names the
+// check.
 func TestAuditFindsMissingRoot(t *testing.T) {
 	t.Parallel()
 	at := newAudited(t)
-	started(t, "", append(at.words, "--create")...)
+	started(t, "", append(at.arguments, "--create")...)
 	other, err := fakelog.NewAuthority("A root that is missing")
 	testutil.Must(t, err)
 	at.write("wanted.pem", append(other.PEM(), at.authority.PEM()...))
-	status, answers, told := does(append(at.audit, "--for", "1s", "--wanted-roots", at.path("wanted.pem"))...)
-	if status != 1 || !strings.HasPrefix(answers, "log.example/2027h1: FAILED: roots\n") || !strings.Contains(answers,
+	status, stdout, stderr := does(append(at.audit, "--for", "1s", "--wanted-roots", at.path("wanted.pem"))...)
+	if status != 1 || !strings.HasPrefix(stdout, "log.example/2027h1: FAILED: roots\n") || !strings.Contains(stdout,
 		"A root that is missing") ||
-		!strings.HasSuffix(told, "ctserve: the log did not pass: roots\n") {
-		t.Errorf("status %d: %s%s", status, told, answers)
+		!strings.HasSuffix(stderr, "ctserve: the log did not pass: roots\n") {
+		t.Errorf("status %d: %s%s", status, stderr, stdout)
 	}
 }
 
-// TestAuditArguments: arguments that are wrong are named, and nothing is asked of a log.
+// TestAuditArguments checks that the error for wrong arguments names them, and that no log is asked.
 func TestAuditArguments(t *testing.T) {
 	t.Parallel()
 	at := newAudited(t)
@@ -215,10 +218,10 @@ func TestAuditArguments(t *testing.T) {
 	at.write("leaf.pem", pem.EncodeToMemory(&pem.Block{Type: "CERTIFICATE", Bytes: []byte("no certificate")}))
 	testutil.Must(t, os.Mkdir(at.path("chains"), 0o700))
 	ca := []string{"--issuer", at.path("ca.pem"), "--issuer-key", at.path("ca.key")}
-	for want, words := range map[string][]string{
+	for want, arguments := range map[string][]string{
 		"wrong number of arguments": {},
-		"is no address":             append([]string{"log.example"}, ca...),
-		"--monitoring-url \"ftp://a\" is no address": append([]string{"https://log.example", "--monitoring-url",
+		"is not an address":         append([]string{"log.example"}, ca...),
+		"--monitoring-url \"ftp://a\" is not an address": append([]string{"https://log.example", "--monitoring-url",
 			"ftp://a"}, ca...),
 		"there is nothing to submit": {"https://log.example"},
 		"only of use together":       {"https://log.example", "--issuer", at.path("ca.pem")},
@@ -250,39 +253,39 @@ func TestAuditArguments(t *testing.T) {
 		"--for 0s is not above 0": append([]string{"https://log.example", "--for", "0s"}, ca...),
 		"--poll-interval -1s is not above 0": append([]string{"https://log.example", "--poll-interval",
 			"-1s"}, ca...),
-		"--min-availability NaN is no percentage": append([]string{"https://log.example", "--min-availability",
+		"--min-availability NaN is not a percentage": append([]string{"https://log.example", "--min-availability",
 			"NaN"}, ca...),
-		"--min-availability 101 is no percentage": append([]string{"https://log.example", "--min-availability",
+		"--min-availability 101 is not a percentage": append([]string{"https://log.example", "--min-availability",
 			"101"}, ca...),
 		"the contact \"\\n\" must have printable ASCII": append([]string{"https://log.example", "--contact", "\n"},
 			ca...),
 	} {
-		if status, answers, told := does(append([]string{"audit"}, words...)...); status != 2 ||
-			!strings.Contains(told, want) || answers != "" {
-			t.Errorf("%q: status %d, %s%s", words, status, told, answers)
+		if status, stdout, stderr := does(append([]string{"audit"}, arguments...)...); status != 2 ||
+			!strings.Contains(stderr, want) || stdout != "" {
+			t.Errorf("%q: status %d, %s%s", arguments, status, stderr, stdout)
 		}
 	}
 }
 
-// TestAuditOfNoLog: a log that can't be asked for its entry is named, with status 1.
+// TestAuditOfNoLog checks that an audit ends with status 1 if the log's entry cannot be read.
 func TestAuditOfNoLog(t *testing.T) {
 	t.Parallel()
 	at := newAudited(t)
-	started(t, "", append(at.words, "--create")...)
+	started(t, "", append(at.arguments, "--create")...)
 	address := strings.TrimSuffix(at.audit[1], "/") + "/absent"
-	status, _, told := does("audit", address, "--issuer", at.path("ca.pem"), "--issuer-key", at.path("ca.key"),
+	status, _, stderr := does("audit", address, "--issuer", at.path("ca.pem"), "--issuer-key", at.path("ca.key"),
 		"--for", "1s")
-	if status != 1 || !strings.Contains(told, "the log's entry cannot be read, so its key is not known") ||
-		!strings.Contains(told, "(give --list-entry)") {
-		t.Errorf("status %d: %s", status, told)
+	if status != 1 || !strings.Contains(stderr, "the log's entry cannot be read, so its key is not known") ||
+		!strings.Contains(stderr, "(give --list-entry)") {
+		t.Errorf("status %d: %s", status, stderr)
 	}
 }
 
-// TestAuditFolder: the chains of a folder are submitted in place of a CA's.
+// TestAuditFolder checks that the chains of a folder are submitted instead of those of a CA.
 func TestAuditFolder(t *testing.T) {
 	t.Parallel()
 	at := newAudited(t)
-	p := started(t, "", append(at.words, "--create")...)
+	p := started(t, "", append(at.arguments, "--create")...)
 	folder := at.path("chains")
 	testutil.Must(t, os.Mkdir(folder, 0o700))
 	for _, isPrecertificate := range []bool{false, true} {
@@ -294,15 +297,15 @@ func TestAuditFolder(t *testing.T) {
 		text := append(pem.EncodeToMemory(&pem.Block{Type: "CERTIFICATE", Bytes: der}), at.authority.PEM()...)
 		testutil.Must(t, os.WriteFile(filepath.Join(folder, name), text, 0o600))
 	}
-	words := []string{"audit", at.audit[1], "--chains", folder, "--for", "2s", "--poll-interval", "50ms",
+	arguments := []string{"audit", at.audit[1], "--chains", folder, "--for", "2s", "--poll-interval", "50ms",
 		"--submit-interval", "100ms", "--min-availability", "0",
 		"--max-latency", testutil.Longest.String()}
-	if status, answers, told := does(words...); status != 0 || sizeOf(p) != 2 {
-		t.Errorf("status %d, %d entries: %s%s", status, sizeOf(p), told, answers)
+	if status, stdout, stderr := does(arguments...); status != 0 || sizeOf(p) != 2 {
+		t.Errorf("status %d, %d entries: %s%s", status, sizeOf(p), stderr, stdout)
 	}
 }
 
-// TestAuditOverTLS: the probe asks a log whose TLS certificate is of the CA that it is given, and no other one.
+// TestAuditOverTLS checks that an audit accepts a log's TLS certificate only if the given CA issued it.
 func TestAuditOverTLS(t *testing.T) {
 	t.Parallel()
 	at := newAudited(t)
@@ -318,15 +321,15 @@ func TestAuditOverTLS(t *testing.T) {
 	testutil.Must(t, err)
 	at.write("tls.pem", pem.EncodeToMemory(&pem.Block{Type: "CERTIFICATE", Bytes: der}))
 	at.write("tls.key", pem.EncodeToMemory(&pem.Block{Type: "PRIVATE KEY", Bytes: private}))
-	started(t, "", append(at.words, "--create", "--tls-certificate", at.path("tls.pem"), "--tls-key",
+	started(t, "", append(at.arguments, "--create", "--tls-certificate", at.path("tls.pem"), "--tls-key",
 		at.path("tls.key"))...)
-	words := append(at.audit, "--for", "1s")
-	words[1] = strings.Replace(words[1], "http:", "https:", 1)
-	if status, answers, told := does(append(words, "--ca-file", at.path("tls.pem"))...); status != 0 {
-		t.Errorf("status %d: %s%s", status, told, answers)
+	arguments := append(at.audit, "--for", "1s")
+	arguments[1] = strings.Replace(arguments[1], "http:", "https:", 1)
+	if status, stdout, stderr := does(append(arguments, "--ca-file", at.path("tls.pem"))...); status != 0 {
+		t.Errorf("status %d: %s%s", status, stderr, stdout)
 	}
-	if status, answers, told := does(words...); status != 1 || !strings.Contains(told, "checkpoint-signature") ||
-		!strings.Contains(answers, "certificate signed by unknown authority") {
-		t.Errorf("without the CA: status %d: %s%s", status, told, answers)
+	if status, stdout, stderr := does(arguments...); status != 1 || !strings.Contains(stderr, "checkpoint-signature") ||
+		!strings.Contains(stdout, "certificate signed by unknown authority") {
+		t.Errorf("without the CA: status %d: %s%s", status, stderr, stdout)
 	}
 }

@@ -13,12 +13,12 @@ import (
 	"wagtenib/internal/testutil"
 )
 
-// TestReadsGoOn has a log's lock be missing, has another process lock its lock file, and has the file system be read-only.
-// Submissions are refused by name. Heads, tiles, entries and proofs are answered all the time. Afterwards submissions
-// are accepted again.
+// TestReadsGoOn checks what happens while a log's lock is missing, another process has locked its lock file, or the
+// file system is read-only. Submissions are refused with an error of their own. Heads, tiles, entries and proofs are
+// answered all the time. Afterwards submissions are accepted again.
 func TestReadsGoOn(t *testing.T) {
 	t.Parallel()
-	for what, takes := range map[string]func(t *testing.T, disk string) (back func()){
+	for what, breaks := range map[string]func(t *testing.T, disk string) (repair func()){
 		"the lock is away": func(t *testing.T, disk string) func() {
 			lock := filepath.Join(disk, "register")
 			if err := os.Rename(lock, lock+".away"); err != nil {
@@ -40,16 +40,16 @@ func TestReadsGoOn(t *testing.T) {
 			}
 			return func() { taken.Close() }
 		},
-		"the disk isn't written": func(t *testing.T, disk string) func() {
+		"the disk is read-only": func(t *testing.T, disk string) func() {
 			remounts := func(flags uintptr) {
 				for until := time.Now().Add(testutil.Longest); ; time.Sleep(10 * time.Millisecond) {
 					err := syscall.Mount("tmpfs", disk, "tmpfs", syscall.MS_REMOUNT|flags, "")
 					if err == nil {
 						return
 					}
-					// (while a file is open for writing it isn't taken)
+					// The file system cannot be made read-only while a file is open for writing.
 					if time.Now().After(until) {
-						t.Skipf("it can't be mounted anew: %v", err)
+						t.Skipf("the file system cannot be mounted again: %v", err)
 					}
 				}
 			}
@@ -57,7 +57,7 @@ func TestReadsGoOn(t *testing.T) {
 			return func() { remounts(0) }
 		},
 	} {
-		what, takes := what, takes
+		what, breaks := what, breaks
 		t.Run(what, func(t *testing.T) {
 			t.Parallel()
 			at := newPlace(t)
@@ -68,8 +68,8 @@ func TestReadsGoOn(t *testing.T) {
 				more = append(more, "--index", "leveldb:"+at.path("index"), "--guard-state", "file:"+
 					at.path("log/guard"), "--latest-head", at.path("log/latest-head"))
 			}
-			words := at.realWords(more...)
-			p := started(t, "", append(words, "--create")...)
+			arguments := at.realArguments(more...)
+			p := started(t, "", append(arguments, "--create")...)
 			var answers []logcheck.Answer
 			for until := time.Now().Add(testutil.Longest); len(answers) < 5; {
 				status, text, one := at.submitted(t, p)
@@ -80,7 +80,7 @@ func TestReadsGoOn(t *testing.T) {
 					t.Fatalf("%d %s", status, text)
 				}
 			}
-			back := takes(t, disk)
+			repair := breaks(t, disk)
 			for i := 0; i < 3; i++ {
 				if status, text, _ := at.submitted(t, p); status != 503 || !strings.Contains(text, `"store"`) &&
 					!strings.Contains(text, `"late"`) {
@@ -88,32 +88,32 @@ func TestReadsGoOn(t *testing.T) {
 				}
 				readsAll(t, p, what, answers)
 			}
-			back()
+			repair()
 			for until := time.Now().Add(testutil.Longest); ; time.Sleep(50 * time.Millisecond) {
 				status, text, _ := at.submitted(t, p)
 				if status == 200 {
 					break
 				}
 				if status != 503 || time.Now().After(until) {
-					t.Fatalf("once it is back: %d %s", status, text)
+					t.Fatalf("after it is back: %d %s", status, text)
 				}
 			}
 			p.signal(syscall.SIGTERM)
 			if status := p.ends(); status != 0 {
-				t.Errorf("it ended with status %d", status)
+				t.Errorf("ctserve ended with status %d", status)
 			}
 		})
 	}
 }
 
-// TestObjectsAway: while a log's folder of objects is away, as a disk that isn't mounted, no start makes another one in
-// its place, into which the node that runs would go on; the one that runs refuses submissions, and takes them again
-// once it is back.
+// TestObjectsAway checks what happens while a log's folder of objects is missing, as on a disk that is not mounted. No
+// start makes another folder in its place, into which the running node would write. The running node refuses
+// submissions, and accepts them again after the folder is back.
 func TestObjectsAway(t *testing.T) {
 	t.Parallel()
 	at := newPlace(t)
-	words := at.realWords("--signing-key", at.path("log.pem"))
-	p := started(t, "", append(words, "--create")...)
+	arguments := at.realArguments("--signing-key", at.path("log.pem"))
+	p := started(t, "", append(arguments, "--create")...)
 	submitted := func(wanted int, what string) {
 		t.Helper()
 		for until := time.Now().Add(testutil.Longest); ; time.Sleep(50 * time.Millisecond) {
@@ -131,9 +131,9 @@ func TestObjectsAway(t *testing.T) {
 	if err := os.Rename(objects, objects+".away"); err != nil {
 		t.Fatal(err)
 	}
-	starts := func() (told string, err error) {
-		start, said, ended := exec.Command(os.Args[0], words...), &strings.Builder{}, make(chan error, 1)
-		start.Env, start.Stdout, start.Stderr = append(os.Environ(), childKey+"=1"), said, said
+	starts := func() (text string, err error) {
+		start, output, ended := exec.Command(os.Args[0], arguments...), &strings.Builder{}, make(chan error, 1)
+		start.Env, start.Stdout, start.Stderr = append(os.Environ(), childKey+"=1"), output, output
 		if err := start.Start(); err != nil {
 			t.Fatal(err)
 		}
@@ -142,7 +142,7 @@ func TestObjectsAway(t *testing.T) {
 		for {
 			select {
 			case err := <-ended:
-				return said.String(), err
+				return output.String(), err
 			case <-time.After(10 * time.Millisecond):
 				if isThere(objects) {
 					t.Fatal("a start makes another folder of objects")
@@ -150,16 +150,16 @@ func TestObjectsAway(t *testing.T) {
 			}
 		}
 	}
-	told, err := starts()
-	for until := time.Now().Add(testutil.Longest); isLate(told) && time.Now().Before(until); {
-		told, err = starts()
+	text, err := starts()
+	for until := time.Now().Add(testutil.Longest); isLate(text) && time.Now().Before(until); {
+		text, err = starts()
 	}
-	if err == nil || !strings.Contains(told, "the folder of the objects") {
-		t.Errorf("a start without the objects' folder: %v: %s", err, told)
+	if err == nil || !strings.Contains(text, "the folder of the objects") {
+		t.Errorf("a start without the objects' folder: %v: %s", err, text)
 	}
-	if status, told, faults := does(append([]string{"index"}, words...)...); status != 1 ||
-		!strings.Contains(faults, "the folder of the objects") {
-		t.Errorf("index: %d, %q, %q", status, told, faults)
+	if status, stdout, stderr := does(append([]string{"index"}, arguments...)...); status != 1 ||
+		!strings.Contains(stderr, "the folder of the objects") {
+		t.Errorf("index: %d, %q, %q", status, stdout, stderr)
 	}
 	if isThere(objects) {
 		t.Fatal("index makes another folder of objects")
@@ -168,9 +168,9 @@ func TestObjectsAway(t *testing.T) {
 	if err := os.Rename(objects+".away", objects); err != nil {
 		t.Fatal(err)
 	}
-	submitted(200, "once it is back")
+	submitted(200, "after it is back")
 	p.signal(syscall.SIGTERM)
 	if status := p.ends(); status != 0 {
-		t.Errorf("it ended with status %d", status)
+		t.Errorf("ctserve ended with status %d", status)
 	}
 }

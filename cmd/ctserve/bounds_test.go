@@ -11,24 +11,24 @@ import (
 	"time"
 )
 
-// TestEachBound: each time and each bound that is a setting is refused by what it has to be where it is one below its
-// least, and taken where it is that.
-func TestEachBound(t *testing.T) {
+// TestMinimumOfEachSetting checks that each setting that is a time or a limit is accepted at its minimum, and refused
+// one below it, with an error that has the minimum.
+func TestMinimumOfEachSetting(t *testing.T) {
 	with := func(name string, value any) (*settings, error) {
 		return parse([]string{"--roots", "r", "--origin", "o.example", "--signing-key", "k",
 			fmt.Sprintf("--%s=%v", name, value)}, io.Discard)
 	}
-	for name, least := range map[string]int64{
+	for name, minimum := range map[string]int64{
 		"max-connections": 1, "max-connections-per-address": 1, "max-checks": 1, "max-queued-bytes": 1 << 20,
 		"max-response-bytes": 64 << 20,
 		"max-queue":          1, "max-batch": 1, "max-write-rate": 1, "max-proofs": 1,
 	} {
-		if _, err := with(name, least); err != nil {
-			t.Errorf("%s %d: %v", name, least, err)
+		if _, err := with(name, minimum); err != nil {
+			t.Errorf("%s %d: %v", name, minimum, err)
 		}
-		due := fmt.Sprintf("--%s %d is too small (write at least %d, or leave %s out)", name, least-1, least, name)
-		if _, err := with(name, least-1); err == nil || !strings.Contains(err.Error(), due) {
-			t.Errorf("%s %d: %v", name, least-1, err)
+		expected := fmt.Sprintf("--%s %d is too small (write at least %d, or leave %s out)", name, minimum-1, minimum, name)
+		if _, err := with(name, minimum-1); err == nil || !strings.Contains(err.Error(), expected) {
+			t.Errorf("%s %d: %v", name, minimum-1, err)
 		}
 	}
 	for _, name := range []string{"shutdown-timeout", "header-timeout", "request-timeout", "submission-timeout",
@@ -62,18 +62,18 @@ func TestEachBound(t *testing.T) {
 	for all, ofOne := range map[int]int{1: 1, 3: 1, 4: 1, 8: 2, 64: 16, 67: 16} {
 		if s, err := with("max-proofs", all); err != nil || s.limits.ProofsByAddress != ofOne ||
 			s.node.maxProofs != all {
-			t.Errorf("of %d proofs an address has another share than %d: %v", all, ofOne, err)
+			t.Errorf("the share of one address of %d proofs is not %d: %v", all, ofOne, err)
 		}
 	}
 }
 
-// TestWhatCantBeOpened: if one of the things that a log needs cannot be opened, the start ends with status 1, names it,
-// and leaves nothing open.
-func TestWhatCantBeOpened(t *testing.T) {
+// TestRefusesWhatCannotBeOpened checks that, if a file, a folder or a store of a log cannot be opened, the start ends
+// with status 1, names it, and leaves nothing open.
+func TestRefusesWhatCannotBeOpened(t *testing.T) {
 	t.Parallel()
 	at := newPlace(t)
 	at.write("file", []byte("no folder"))
-	for what, words := range map[string][]string{
+	for what, arguments := range map[string][]string{
 		"mkdir " + at.path("file"): {"--folder", at.path("file/log"), "--latest-head",
 			at.path("latest-head"), "--guard-state", "file:" + at.path("guard")},
 		"mkdir " + at.path("file/below"): {"--latest-head", at.path("file/below/latest-head")},
@@ -85,19 +85,19 @@ func TestWhatCantBeOpened(t *testing.T) {
 		"a lock is at file:PATH":         {"--lock", "nowhere:x"},
 		"an index is at leveldb:PATH":    {"--index", "nowhere:x"},
 	} {
-		whole := at.realWords("--signing-key", at.path("log.pem"))
-		whole = append(append(whole, "--create"), words...)
-		if status, told := runs(whole); status != 1 || !strings.Contains(told, what) {
-			t.Errorf("%s: status %d: %s", what, status, told)
+		whole := at.realArguments("--signing-key", at.path("log.pem"))
+		whole = append(append(whole, "--create"), arguments...)
+		if status, output := runs(whole); status != 1 || !strings.Contains(output, what) {
+			t.Errorf("%s: status %d: %s", what, status, output)
 		}
-		// What was opened before it is closed: no signer whose arguments have this folder is left.
+		// Everything that was opened before must be closed, so no signer whose arguments name this folder may be left.
 		for _, left := range processesOf(t, at.folder) {
-			t.Errorf("%s: there is still %s", what, left)
+			t.Errorf("%s: this process still runs: %s", what, left)
 		}
 	}
 }
 
-// processesOf are the command lines of processes that have a text in them.
+// processesOf returns the command lines of the processes whose command lines contain a text.
 func processesOf(t *testing.T, text string) (found []string) {
 	t.Helper()
 	files, err := filepath.Glob("/proc/[0-9]*/cmdline")
@@ -105,9 +105,9 @@ func processesOf(t *testing.T, text string) (found []string) {
 		t.Fatalf("no processes: %v", err)
 	}
 	for _, file := range files {
-		// (one may be gone by now)
-		if words, err := os.ReadFile(file); err == nil && bytes.Contains(words, []byte(text)) {
-			found = append(found, strings.ReplaceAll(string(words), "\x00", " "))
+		// The process may have ended by now.
+		if arguments, err := os.ReadFile(file); err == nil && bytes.Contains(arguments, []byte(text)) {
+			found = append(found, strings.ReplaceAll(string(arguments), "\x00", " "))
 		}
 	}
 	return found

@@ -34,7 +34,8 @@ import (
 	"wagtenib/internal/tile"
 )
 
-// bucketReader is a monitor that knows a log's bucket and its key, and no node. x/mod's tlog checks what it reads.
+// bucketReader is a monitor that reads a log only from its bucket. It verifies what it reads with the log's key and
+// with tlog of x/mod.
 type bucketReader struct {
 	key *ecdsa.PublicKey
 	// get reads an object by its name.
@@ -46,7 +47,7 @@ type bucketReader struct {
 	heads     int
 }
 
-// Height is that of tiles (tlog.TileReader).
+// Height returns the height of tiles (tlog.TileReader).
 func (r *bucketReader) Height() int { return 8 }
 
 // ReadTiles reads tiles of hashes (tlog.TileReader).
@@ -61,10 +62,10 @@ func (r *bucketReader) ReadTiles(tiles []tlog.Tile) (contents [][]byte, err erro
 	return contents, nil
 }
 
-// SaveTiles keeps nothing (tlog.TileReader).
+// SaveTiles does nothing (tlog.TileReader).
 func (r *bucketReader) SaveTiles([]tlog.Tile, [][]byte) {}
 
-// look reads the checkpoint and all that is new in its tree. It returns the number of entries.
+// look reads the checkpoint, and everything that its tree adds to the last one. It returns the number of entries.
 func (r *bucketReader) look() (size int64, err error) {
 	r.mu.Lock()
 	defer r.mu.Unlock()
@@ -119,8 +120,8 @@ func (r *bucketReader) open(note string) (tree tlog.Tree, timestamp uint64, err 
 	return tree, timestamp, nil
 }
 
-// grows reads what a later tree adds: the new tree begins with the old one, each data tile has the tree's entries, and
-// each issuer is there.
+// grows reads everything that a later tree adds. It checks that the new tree begins with the old one, that each data
+// tile has the tree's entries, and that each issuer exists.
 func (r *bucketReader) grows(now tlog.Tree) error {
 	if now.N == 0 {
 		return nil
@@ -162,7 +163,7 @@ func (r *bucketReader) grows(now tlog.Tree) error {
 	return nil
 }
 
-// unpacked is an object's content.
+// unpacked returns an object's content, which it decompresses if the encoding is gzip.
 func unpacked(content []byte, encoding string) ([]byte, error) {
 	if encoding != "gzip" {
 		return content, nil
@@ -174,7 +175,7 @@ func unpacked(content []byte, encoding string) ([]byte, error) {
 	return io.ReadAll(reader)
 }
 
-// overHTTP reads objects from a plain server, as a CDN's client does.
+// overHTTP returns a function that reads objects from a plain web server, as a client of a CDN does.
 func overHTTP(url string) func(name string) ([]byte, error) {
 	return func(name string) ([]byte, error) {
 		answer, err := http.Get(url + "/" + testbucket.Name + "/" + name)
@@ -190,13 +191,16 @@ func overHTTP(url string) func(name string) ([]byte, error) {
 	}
 }
 
-// killed is a node that a bucket kills at one of its requests, before or after that is done, and never answers it.
+// killed is the handler of a bucket for a node. It kills the node at one of its requests, before or after it carries
+// out the request, and never answers it.
 type killed struct {
 	bucket *testbucket.Bucket
-	left   atomic.Int64
-	after  atomic.Bool
-	kill   atomic.Pointer[func()]
-	put    func()
+	// left is the number of requests up to the kill, and after says whether the last one is carried out.
+	left  atomic.Int64
+	after atomic.Bool
+	kill  atomic.Pointer[func()]
+	// onCheckpoint is called after each put of the checkpoint.
+	onCheckpoint func()
 }
 
 func (k *killed) ServeHTTP(w http.ResponseWriter, r *http.Request) {
@@ -205,28 +209,28 @@ func (k *killed) ServeHTTP(w http.ResponseWriter, r *http.Request) {
 		(*k.kill.Load())()
 		panic(http.ErrAbortHandler)
 	}
-	said := httptest.NewRecorder()
-	k.bucket.ServeHTTP(said, r)
+	answer := httptest.NewRecorder()
+	k.bucket.ServeHTTP(answer, r)
 	if r.Method == http.MethodPut && strings.HasSuffix(r.URL.Path, "/checkpoint") {
-		k.put()
+		k.onCheckpoint()
 	}
 	if isLast {
 		(*k.kill.Load())()
 		panic(http.ErrAbortHandler)
 	}
-	for name, values := range said.Header() {
+	for name, values := range answer.Header() {
 		w.Header()[name] = values
 	}
-	w.WriteHeader(said.Code)
-	// A node that was killed reads no answer.
-	_, _ = w.Write(said.Body.Bytes())
+	w.WriteHeader(answer.Code)
+	// A node that was killed reads no answer, so the write may fail.
+	_, _ = w.Write(answer.Body.Bytes())
 }
 
-// TestBucketAloneThroughKills has two nodes of one log killed at requests to its bucket, again and again, while
-// clients submit. A reader that knows the bucket only follows the log: no checkpoint goes back, and each tile, entry
-// and issuer is there as soon as a checkpoint needs it. A submission that was answered is under the bucket's
-// checkpoint. CTSERVE_KILLS says how many kills there are.
-func TestBucketAloneThroughKills(t *testing.T) {
+// TestBucketServesThroughKills kills two nodes of one log at requests to its bucket, again and again, while clients
+// submit. A reader that knows only the bucket follows the log. No checkpoint may fall, and each tile, entry and issuer
+// must exist as soon as a checkpoint needs it. The bucket's checkpoint must cover each answered submission.
+// CTSERVE_KILLS sets the number of kills.
+func TestBucketServesThroughKills(t *testing.T) {
 	t.Parallel()
 	kills := int64(12)
 	if text := os.Getenv("CTSERVE_KILLS"); text != "" {
@@ -247,7 +251,7 @@ func TestBucketAloneThroughKills(t *testing.T) {
 	plain := httptest.NewServer(bucket)
 	defer plain.Close()
 	monitor := &bucketReader{key: key, get: overHTTP(plain.URL)}
-	put := func() {
+	onCheckpoint := func() {
 		if _, err := judge.look(); err != nil {
 			t.Errorf("after a put of the checkpoint: %v", err)
 		}
@@ -258,23 +262,23 @@ func TestBucketAloneThroughKills(t *testing.T) {
 	var nodes sync.WaitGroup
 	var clients []string
 	for i := range 2 {
-		k := &killed{bucket: bucket, put: put}
+		k := &killed{bucket: bucket, onCheckpoint: onCheckpoint}
 		server := httptest.NewServer(k)
 		defer server.Close()
 		listen := testutil.Free(t)
 		clients = append(clients, listen)
-		words := append(at.bucketWords(server.URL), "--listen", listen, "--operator-listen", "", "--create",
+		arguments := append(at.bucketArguments(server.URL), "--listen", listen, "--operator-listen", "", "--create",
 			"--public-store", "--latest-head", at.path(fmt.Sprintf("latest-head-%d", i)))
 		nodes.Add(1)
 		go func() {
 			defer nodes.Done()
-			k.runs(ctx, t, words, rand.New(rand.NewSource(int64(i))), &left)
+			k.runs(ctx, t, arguments, rand.New(rand.NewSource(int64(i))), &left)
 		}()
 	}
 	answered := int64(0)
 	for late := time.Now().Add(testutil.Longest); left.Load() > 0 || answered < 5; {
 		if time.Now().After(late) {
-			t.Errorf("%d kills and %d answers: it takes too long", kills-left.Load(), answered)
+			t.Errorf("the test takes too long: %d kills and %d answers", kills-left.Load(), answered)
 			break
 		}
 		if status, _ := post(clients[rand.Intn(2)], at.submission()); status == http.StatusOK {
@@ -303,15 +307,15 @@ func TestBucketAloneThroughKills(t *testing.T) {
 		judge.heads, monitor.heads)
 }
 
-// bucketWords are those of a log whose objects are in a bucket.
-func (p *place) bucketWords(url string) []string {
+// bucketArguments returns the arguments of a log whose objects are in a bucket.
+func (p *place) bucketArguments(url string) []string {
 	p.t.Helper()
 	store := "s3://key:secret@" + strings.TrimPrefix(url, "http://") + "/" + testbucket.Name + "?tls=no&region=us-east-1"
-	return p.words("--store", store, "--lock", "file:"+p.path("lock"), "--index", p.sharedIndex(),
+	return p.arguments("--store", store, "--lock", "file:"+p.path("lock"), "--index", p.sharedIndex(),
 		"--guard-state", "file:"+p.path("guard"))
 }
 
-// publicKey is the log's.
+// publicKey returns the log's public key.
 func (p *place) publicKey() *ecdsa.PublicKey {
 	p.t.Helper()
 	of, err := signer.OpenKey(p.path("log.pem"))
@@ -323,14 +327,14 @@ func (p *place) publicKey() *ecdsa.PublicKey {
 }
 
 // runs starts the node again and again, until the context ends.
-func (k *killed) runs(ctx context.Context, t *testing.T, words []string, random *rand.Rand, left *atomic.Int64) {
+func (k *killed) runs(ctx context.Context, t *testing.T, arguments []string, random *rand.Rand, left *atomic.Int64) {
 	for ctx.Err() == nil {
 		var lines bytes.Buffer
-		command := exec.CommandContext(ctx, os.Args[0], words...)
+		command := exec.CommandContext(ctx, os.Args[0], arguments...)
 		command.Env, command.Stderr = append(os.Environ(), childKey+"=1"), &lines
 		kill := func() {
 			left.Add(-1)
-			// It may have ended.
+			// The node may have ended already.
 			_ = command.Process.Kill()
 		}
 		k.kill.Store(&kill)
@@ -340,16 +344,17 @@ func (k *killed) runs(ctx context.Context, t *testing.T, words []string, random 
 			t.Error(err)
 			return
 		}
-		// It is killed, or a test that ends kills it.
+		// The node is killed by the bucket or at the end of the test, so an error is expected.
 		_ = command.Wait()
-		if code := command.ProcessState.ExitCode(); code == statusSetBack || code == 2 {
+		if code := command.ProcessState.ExitCode(); code == statusRolledBack || code == 2 {
 			t.Errorf("a node does not start: %s", &lines)
 			return
 		}
 	}
 }
 
-// asked asks a log for a path with an Accept-Encoding, and returns the body as it came with its Content-Encoding.
+// asked requests a URL with an Accept-Encoding, and perhaps a range. It returns the body as it was sent, and its
+// Content-Encoding.
 func asked(t *testing.T, url, accepted, ranged string) (body []byte, encoding string) {
 	t.Helper()
 	request, err := http.NewRequest(http.MethodGet, url, nil)
@@ -366,21 +371,21 @@ func asked(t *testing.T, url, accepted, ranged string) (body []byte, encoding st
 	return body, answer.Header.Get("Content-Encoding")
 }
 
-// TestPublicStoreOfALogThatExists has a log that was made without public-store start with it: the checkpoint is there
-// without a new entry, tiles that were put before are read as they are, and new ones are compressed. ctserve sends a
-// compressed one as it is stored, and others what they accept.
+// TestPublicStoreOfALogThatExists starts a log with public-store that was made without it. The checkpoint must be
+// written without a new entry. Older tiles are served as they are, and new ones are compressed. ctserve sends a
+// compressed tile as it is stored to clients that accept gzip, and decompresses it for others.
 func TestPublicStoreOfALogThatExists(t *testing.T) {
 	t.Parallel()
 	at, bucket := newPlace(t), testbucket.New(true)
 	server := httptest.NewServer(bucket)
 	defer server.Close()
-	words := at.bucketWords(server.URL)
+	arguments := at.bucketArguments(server.URL)
 	submits := func(p *program) {
 		if status, text := post(p.clients, at.submission()); status != http.StatusOK {
 			t.Fatalf("%d %s", status, text)
 		}
 	}
-	p := started(t, "", append(words, "--create")...)
+	p := started(t, "", append(arguments, "--create")...)
 	submits(p)
 	_, checkpoint := get(p.clients, "/checkpoint")
 	p.signal(syscall.SIGTERM)
@@ -388,7 +393,7 @@ func TestPublicStoreOfALogThatExists(t *testing.T) {
 	if _, ok := bucket.Object("checkpoint"); ok {
 		t.Error("there is a checkpoint without public-store")
 	}
-	p = started(t, "", append(words, "--public-store")...)
+	p = started(t, "", append(arguments, "--public-store")...)
 	for until := time.Now().Add(testutil.Longest); ; time.Sleep(time.Millisecond) {
 		of, ok := bucket.Object("checkpoint")
 		isAsServed := of.Type == "text/plain; charset=utf-8" && of.Cache == "public, max-age=1"
@@ -408,7 +413,7 @@ func TestPublicStoreOfALogThatExists(t *testing.T) {
 			t.Errorf("%s is stored in %q", name, stored.Encoding)
 		}
 		url := "http://" + p.clients + "/" + name
-		// ctserve itself compresses nothing that is so short.
+		// ctserve itself does not compress such a short tile.
 		if body, encoding := asked(t, url, "gzip", ""); encoding != want || !bytes.Equal(body, stored.Content) {
 			t.Errorf("%s with gzip: %d bytes in %q", name, len(body), encoding)
 		}
@@ -421,8 +426,8 @@ func TestPublicStoreOfALogThatExists(t *testing.T) {
 	}
 }
 
-// TestPublicFolder has a log on a folder be read through a plain file server, while its node is killed after answers,
-// and judged by ctfsck's package in the end.
+// TestPublicFolder reads a log on a folder through a plain file server, while its node is killed after answers. At the
+// end package logcheck checks the folder.
 func TestPublicFolder(t *testing.T) {
 	t.Parallel()
 	at := newPlace(t)
@@ -430,10 +435,10 @@ func TestPublicFolder(t *testing.T) {
 	files := httptest.NewServer(http.StripPrefix("/"+testbucket.Name+"/", objects))
 	defer files.Close()
 	reader := &bucketReader{key: at.publicKey(), get: overHTTP(files.URL)}
-	words := at.words("--create", "--public-store", "--guard-state", "file:"+at.path("guard"))
+	arguments := at.arguments("--create", "--public-store", "--guard-state", "file:"+at.path("guard"))
 	var answers []logcheck.Answer
 	for range 4 {
-		p := started(t, "", words...)
+		p := started(t, "", arguments...)
 		for range 2 {
 			status, text, one := at.submitted(t, p)
 			if status != http.StatusOK {

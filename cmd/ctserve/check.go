@@ -19,46 +19,46 @@ form of the stores' addresses. It prints a line for each of them. It opens no st
 you can give the settings as flags (ctserve --help). The exit status is 0 if nothing is wrong, 1 if a line says WRONG,
 and 2 if a setting or an argument is refused.`
 
-// runCheck checks everything that a log's settings name, and starts nothing: the settings, the key, the roots and TLS.
-// It prints a line for each. It checks all of them, and reports the first fault of each.
-func runCheck(words []string, answers, faults io.Writer) error {
-	s, err := parseSettings("check", checkPage, words, faults)
+// runCheck checks a log's settings and what they name: the key, the roots and the TLS certificate. It starts nothing.
+// It checks all of them, and prints a line for each, with its first fault.
+func runCheck(arguments []string, stdout, stderr io.Writer) error {
+	s, err := parseSettings("check", checkPage, arguments, stderr)
 	if err != nil {
 		return err
 	}
-	c := &checks{to: answers}
-	c.look("origin", s.node.origin, nil)
+	c := &checks{to: stdout}
+	c.report("origin", s.node.origin, nil)
 	if s.node.archive != "" {
-		said, err := checkArchive(s.node)
-		c.look("archive", said, err)
+		description, err := checkArchive(s.node)
+		c.report("archive", description, err)
 		return c.result()
 	}
-	c.lookAtKey(s)
-	c.lookAtRoots(s)
-	c.look("max-merge-delay",
+	c.checkKey(s)
+	c.checkRoots(s)
+	c.report("max-merge-delay",
 		fmt.Sprintf("%v, so a head is made at least each %v", s.node.maxMergeDelay, s.node.refresh), nil)
 	if s.certificate != "" {
 		_, err := httpserver.LoadCertificate(s.certificate, s.key)
-		c.look("tls-certificate", s.certificate, err)
+		c.report("tls-certificate", s.certificate, err)
 	}
-	c.lookAtGuard(s)
-	c.lookAtStores(s)
+	c.reportGuard(s)
+	c.checkStores(s)
 	return c.result()
 }
 
-// checks prints what is found of each setting, and counts those that are wrong.
+// checks prints the results of the checks, and counts the settings that are wrong.
 type checks struct {
 	to    io.Writer
 	wrong int
 }
 
-// look prints what is found of a setting, or what is wrong with it.
-func (c *checks) look(of, said string, err error) {
+// report prints the description of a setting, or the error that makes it wrong.
+func (c *checks) report(name, description string, err error) {
 	if err != nil {
 		c.wrong++
-		said = "WRONG: " + err.Error()
+		description = "WRONG: " + err.Error()
 	}
-	fmt.Fprintf(c.to, "%-16s %s\n", of, said)
+	fmt.Fprintf(c.to, "%-16s %s\n", name, description)
 }
 
 // result returns an error if a setting is wrong.
@@ -69,49 +69,49 @@ func (c *checks) result() error {
 	return nil
 }
 
-// lookAtKey opens the log's key, or looks for the socket of its signer.
-func (c *checks) lookAtKey(s *settings) {
-	if s.node.signerAt != "" {
-		_, err := os.Stat(s.node.signerAt)
-		c.look("signer-socket", s.node.signerAt, err)
+// checkKey opens the log's key, or looks for the socket of its signer.
+func (c *checks) checkKey(s *settings) {
+	if s.node.signerSocket != "" {
+		_, err := os.Stat(s.node.signerSocket)
+		c.report("signer-socket", s.node.signerSocket, err)
 		return
 	}
 	key, err := signer.OpenKey(s.node.signingKey)
-	said := ""
+	description := ""
 	if err == nil {
 		id := sha256.Sum256(key.Key())
-		said = "log id " + base64.StdEncoding.EncodeToString(id[:])
+		description = "log id " + base64.StdEncoding.EncodeToString(id[:])
 		key.Close()
 	}
-	c.look("signing-key", said, err)
+	c.report("signing-key", description, err)
 }
 
-// lookAtRoots reads the roots, and prints those that are left out.
-func (c *checks) lookAtRoots(s *settings) {
+// checkRoots reads the roots, and prints those that are left out.
+func (c *checks) checkRoots(s *settings) {
 	roots, err := s.roots.Load()
 	if err != nil {
-		c.look("roots", "", err)
+		c.report("roots", "", err)
 		return
 	}
-	c.look("roots", fmt.Sprintf("%d roots", len(roots.Certificates())), nil)
+	c.report("roots", fmt.Sprintf("%d roots", len(roots.Certificates())), nil)
 	for _, each := range roots.LeftOut() {
-		c.look("roots", "left out: "+each.String(), nil)
+		c.report("roots", "left out: "+each.String(), nil)
 	}
 }
 
-// lookAtGuard says whether the signer of these settings has a guard.
-func (c *checks) lookAtGuard(s *settings) {
+// reportGuard prints whether the signer of these settings has a guard.
+func (c *checks) reportGuard(s *settings) {
 	switch {
-	case s.node.signerAt != "":
+	case s.node.signerSocket != "":
 	case s.node.isGuarded():
-		c.look("guard", "on", nil)
+		c.report("guard", "on", nil)
 	default:
-		c.look("guard", "off: the signer signs whatever it is asked for", nil)
+		c.report("guard", "off: the signer signs whatever it is asked for", nil)
 	}
 }
 
-// lookAtStores checks the addresses of the stores, which are not opened, and the log's folder.
-func (c *checks) lookAtStores(s *settings) {
+// checkStores checks the addresses of the stores, without opening them, and the log's folder.
+func (c *checks) checkStores(s *settings) {
 	for _, address := range []struct {
 		of, text string
 		check    func(string) error
@@ -124,12 +124,12 @@ func (c *checks) lookAtStores(s *settings) {
 		if address.text == "" {
 			continue
 		}
-		// (an address may have a password)
+		// Only the kind is printed, because an address may have a password.
 		kind, _, _ := strings.Cut(address.text, ":")
-		c.look(address.of, kind+", not opened", address.check(address.text))
+		c.report(address.of, kind+", not opened", address.check(address.text))
 	}
 	if about, err := os.Stat(s.node.folder); err == nil && !about.IsDir() {
-		c.look("folder", "",
+		c.report("folder", "",
 			fmt.Errorf("%s is not a folder (name a folder, or a path that does not exist yet)", s.node.folder))
 	}
 }

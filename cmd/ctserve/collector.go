@@ -8,15 +8,17 @@ import (
 )
 
 const (
-	// collectsAt is how many bytes of a process's heap, held or garbage, have it collect garbage. It is the same whatever
-	// part of them is held. So what the index of a large log holds takes no memory beside it.
+	// collectsAt is the size of a process's heap in bytes, with live objects and garbage, at which it collects garbage.
+	// It does not depend on the size of the live objects. So if the index of a large log keeps more objects alive, the
+	// heap does not grow.
 	collectsAt = 128 << 20
-	// minPercent and maxPercent bound the garbage, in percent of what is held. The time of a collection grows with what is
-	// held. So a process that holds much must collect less often, and one that holds little may collect more often.
+	// minPercent and maxPercent bound the garbage, in percent of the live objects. The time of a collection grows with
+	// the live objects. So a process with many of them must collect less often, and one with few may collect more
+	// often.
 	minPercent, maxPercent = 100, 400
-	// maxHeld is the bytes from which on, all together, a process collects more often: ctserve and its signer have 2 GB of
-	// their unit.
-	maxHeld = 768 << 20
+	// maxMemory is the memory in bytes above which a process collects more often. The systemd unit allows 2 GB for
+	// ctserve and its signer together.
+	maxMemory = 768 << 20
 )
 
 // setCollectorLimits sets the limits of the garbage collector, unless the environment sets them (GOGC, GOMEMLIMIT).
@@ -25,19 +27,20 @@ func setCollectorLimits() {
 		boundGarbage()
 	}
 	if os.Getenv("GOMEMLIMIT") == "" {
-		debug.SetMemoryLimit(maxHeld)
+		debug.SetMemoryLimit(maxMemory)
 	}
 }
 
-// collected is a value that nobody uses, so that the next collection finalizes it. It has a pointer, since values
-// without one share their memory with others, and may be kept by them.
-type collected struct{ _ *collected }
+// sentinel is a value that nothing refers to, so that the next collection finalizes it. It has a pointer, because
+// values without one share their memory with others, and may be kept alive by them.
+type sentinel struct{ _ *sentinel }
 
-// boundGarbage sets when garbage is collected next, by what the last collection left. Each collection calls it again.
+// boundGarbage sets the heap size of the next collection by the live objects after the last one. Each collection calls
+// it again.
 func boundGarbage() {
-	live := []metrics.Sample{{Name: "/gc/heap/live:bytes"}}
-	metrics.Read(live)
-	held := max(int(live[0].Value.Uint64()), 1)
-	debug.SetGCPercent(min(max(100*(collectsAt-held)/held, minPercent), maxPercent))
-	runtime.SetFinalizer(new(collected), func(*collected) { boundGarbage() })
+	samples := []metrics.Sample{{Name: "/gc/heap/live:bytes"}}
+	metrics.Read(samples)
+	live := max(int(samples[0].Value.Uint64()), 1)
+	debug.SetGCPercent(min(max(100*(collectsAt-live)/live, minPercent), maxPercent))
+	runtime.SetFinalizer(new(sentinel), func(*sentinel) { boundGarbage() })
 }

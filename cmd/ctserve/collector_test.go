@@ -13,29 +13,31 @@ import (
 	"wagtenib/internal/testutil"
 )
 
-// collectorKey is set in a process of its own, since the collector is that of all tests of a process.
+// collectorKey is an environment variable that is set in a process of its own, because all tests of a process share the
+// garbage collector.
 const collectorKey = "CTSERVE_TEST_COLLECTOR"
 
-// TestCollector: the heap grows up to collectsAt bytes whatever is held, but garbage up to no less than what is held, and
-// up to no more than maxPercent of it. There is a memory limit. The environment replaces both.
+// TestCollector checks that garbage is collected when the heap has collectsAt bytes, whatever the size of the live
+// objects is. But garbage may always be minPercent and never above maxPercent of the live objects. There is a memory
+// limit. The environment replaces both.
 func TestCollector(t *testing.T) {
 	t.Parallel()
 	for _, c := range []struct{ percent, held string }{{"", ""}, {"50", ""}, {"", "5GiB"}} {
 		command := exec.Command(os.Args[0], "-test.run=^TestCollectorOfProcess$")
 		command.Env = append(os.Environ(), collectorKey+"=1", "GOGC="+c.percent, "GOMEMLIMIT="+c.held)
-		if said, err := command.CombinedOutput(); err != nil {
-			t.Errorf("%q, %q: %v: %s", c.percent, c.held, err, said)
+		if output, err := command.CombinedOutput(); err != nil {
+			t.Errorf("%q, %q: %v: %s", c.percent, c.held, err, output)
 		}
 	}
 }
 
-// TestCollectorOfProcess is what TestCollector has a process of its own do.
+// TestCollectorOfProcess runs in the process that TestCollector starts.
 func TestCollectorOfProcess(t *testing.T) {
 	if os.Getenv(collectorKey) == "" {
 		t.Skip("TestCollector starts it")
 	}
 	setCollectorLimits()
-	wantHeld := int64(maxHeld)
+	wantHeld := int64(maxMemory)
 	if os.Getenv("GOMEMLIMIT") != "" {
 		wantHeld = 5 << 30
 	}
@@ -50,17 +52,17 @@ func TestCollectorOfProcess(t *testing.T) {
 		}
 		holds := make([]byte, c.held)
 		runtime.GC()
-		// (the test itself holds a little, too)
-		testutil.Eventually(t, fmt.Sprintf("the garbage beside %d bytes is %d", c.held, c.want), func() bool {
+		// The test itself has some live objects, too.
+		testutil.Eventually(t, fmt.Sprintf("the garbage with %d live bytes is %d", c.held, c.want), func() bool {
 			return math.Abs(garbage()-float64(c.want)) < float64(c.want)/5+4*mib
 		})
 		runtime.KeepAlive(holds)
 	}
 }
 
-// garbage is how many bytes of it there may be before the next collection.
+// garbage returns the number of bytes of garbage at which the next collection begins.
 func garbage() float64 {
-	of := []metrics.Sample{{Name: "/gc/heap/goal:bytes"}, {Name: "/gc/heap/live:bytes"}}
-	metrics.Read(of)
-	return float64(of[0].Value.Uint64()) - float64(of[1].Value.Uint64())
+	samples := []metrics.Sample{{Name: "/gc/heap/goal:bytes"}, {Name: "/gc/heap/live:bytes"}}
+	metrics.Read(samples)
+	return float64(samples[0].Value.Uint64()) - float64(samples[1].Value.Uint64())
 }

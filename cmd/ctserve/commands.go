@@ -27,8 +27,8 @@ import (
 	"wagtenib/internal/version"
 )
 
-// commands are what ctserve does beside serving, by the first word.
-var commands = map[string]func(words []string, answers, faults io.Writer) error{
+// commands has the commands of ctserve, except serving, by the first argument.
+var commands = map[string]func(arguments []string, stdout, stderr io.Writer) error{
 	"key":        runKey,
 	"list-entry": runListEntry,
 	"check":      runCheck,
@@ -39,39 +39,39 @@ var commands = map[string]func(words []string, answers, faults io.Writer) error{
 	"roots":      runRoots,
 }
 
-// runCommand does one of the commands, and gives the status: 0 where it is done, 1 where it isn't, 2 where the words
-// aren't ones.
-func runCommand(name string, words []string, answers, faults io.Writer) int {
-	err := commands[name](words, answers, faults)
+// runCommand runs a command, and returns the exit status: 0 if it succeeds, 1 if it fails, and 2 if the arguments are
+// wrong.
+func runCommand(name string, arguments []string, stdout, stderr io.Writer) int {
+	err := commands[name](arguments, stdout, stderr)
 	switch {
 	case err == nil || errors.Is(err, flag.ErrHelp):
 		return 0
 	case errors.Is(err, errUsage):
-		fmt.Fprintln(faults, err)
+		fmt.Fprintln(stderr, err)
 		return 2
 	default:
-		fmt.Fprintln(faults, "ctserve:", err)
+		fmt.Fprintln(stderr, "ctserve:", err)
 		return 1
 	}
 }
 
 // commandFlags returns the flags of one command. Its help prints the page and then the flags.
-func commandFlags(name, page string, faults io.Writer) *flag.FlagSet {
-	return settingsfile.Flags("ctserve "+name, page, faults)
+func commandFlags(name, page string, stderr io.Writer) *flag.FlagSet {
+	return settingsfile.Flags("ctserve "+name, page, stderr)
 }
 
-// parseWords reads words that are flags, up to the first other one. The error wraps flag.ErrHelp or errUsage.
-func parseWords(flags *flag.FlagSet, words []string) error {
-	err := settingsfile.ParseArguments(flags, words)
+// parseArguments parses flags up to the first argument that is no flag. The error wraps flag.ErrHelp or errUsage.
+func parseArguments(flags *flag.FlagSet, arguments []string) error {
+	err := settingsfile.ParseArguments(flags, arguments)
 	if err != nil && !errors.Is(err, flag.ErrHelp) {
 		return fmt.Errorf("%w: %v", errUsage, err)
 	}
 	return err
 }
 
-// parseFlags reads words that are flags, and as many others as are given.
-func parseFlags(flags *flag.FlagSet, words []string, others int) error {
-	if err := parseWords(flags, words); err != nil {
+// parseFlags parses flags, after which there must be this number of other arguments.
+func parseFlags(flags *flag.FlagSet, arguments []string, others int) error {
+	if err := parseArguments(flags, arguments); err != nil {
 		return err
 	}
 	if flags.NArg() != others {
@@ -80,26 +80,26 @@ func parseFlags(flags *flag.FlagSet, words []string, others int) error {
 	return nil
 }
 
-// parseSettings reads the arguments of a command that takes a log's settings: the file that has them, or flags. The
-// help of the command is its page. It does not list the flags, because `ctserve --help` does.
-func parseSettings(name, page string, words []string, faults io.Writer) (*settings, error) {
+// parseSettings parses the arguments of a command that needs a log's settings: a config file or flags. The help of the
+// command is its page. It does not list the flags, because `ctserve --help` does.
+func parseSettings(name, page string, arguments []string, stderr io.Writer) (*settings, error) {
 	flags := flag.NewFlagSet("ctserve "+name, flag.ContinueOnError)
-	flags.SetOutput(faults)
-	flags.Usage = func() { fmt.Fprintln(faults, page) }
-	if len(words) == 1 && !strings.HasPrefix(words[0], "-") {
-		words = []string{"--config", words[0]}
+	flags.SetOutput(stderr)
+	flags.Usage = func() { fmt.Fprintln(stderr, page) }
+	if len(arguments) == 1 && !strings.HasPrefix(arguments[0], "-") {
+		arguments = []string{"--config", arguments[0]}
 	}
-	return parseTo(flags, words)
+	return parseTo(flags, arguments)
 }
 
-// runKey makes a log's key in a file that isn't there yet, or shows the one that is: the log's id (RFC 6962, section
-// 3.2) and its public key.
-func runKey(words []string, answers, faults io.Writer) error {
+// runKey makes a log's key in a new file, or with --show, reads an existing one. It prints the log's id (RFC 6962,
+// section 3.2) and its public key.
+func runKey(arguments []string, stdout, stderr io.Writer) error {
 	flags := commandFlags("key",
 		"ctserve key FILE creates a log's P-256 key, and prints the log's id and public key. FILE must not exist yet. "+
-			"Only its owner may read it.", faults)
-	show := flags.Bool("show", false, "show those of the key in FILE, and make none")
-	if err := parseFlags(flags, words, 1); err != nil {
+			"Only its owner may read it.", stderr)
+	show := flags.Bool("show", false, "show the id and the public key of the existing key in FILE, and make no key")
+	if err := parseFlags(flags, arguments, 1); err != nil {
 		return err
 	}
 	path := flags.Arg(0)
@@ -115,13 +115,13 @@ func runKey(words []string, answers, faults io.Writer) error {
 	defer key.Close()
 	public := key.Key()
 	id := sha256.Sum256(public)
-	fmt.Fprintf(answers, "log id      %s\npublic key  %s\n%s",
+	fmt.Fprintf(stdout, "log id      %s\npublic key  %s\n%s",
 		base64.StdEncoding.EncodeToString(id[:]), base64.StdEncoding.EncodeToString(public),
 		pem.EncodeToMemory(&pem.Block{Type: "PUBLIC KEY", Bytes: public}))
 	return nil
 }
 
-// makeKey writes a new private key, so that it is there whole and on the disk, or that there is no such file.
+// makeKey writes a new private key into a new file, and syncs it to the disk. After an error there is no such file.
 func makeKey(path string) error {
 	private, err := ecdsa.GenerateKey(elliptic.P256(), rand.Reader)
 	if err != nil {
@@ -151,7 +151,7 @@ func makeKey(path string) error {
 	return err
 }
 
-// syncFolder has a folder's names on the disk.
+// syncFolder syncs the names in a folder to the disk.
 func syncFolder(path string) error {
 	folder, err := os.Open(path)
 	if err != nil {
@@ -161,7 +161,7 @@ func syncFolder(path string) error {
 	return folder.Sync()
 }
 
-// listed is a tiled log as log lists have it (log list schema v3, "tiled_logs").
+// listed is the entry of a tiled log in a log list (log list schema v3, "tiled_logs").
 type listed struct {
 	Description   string    `json:"description"`
 	LogID         string    `json:"log_id"`
@@ -184,21 +184,21 @@ type operator struct {
 	TiledLogs []listed `json:"tiled_logs"`
 }
 
-// runListEntry prints what a log list has of a log, out of the log's settings.
-func runListEntry(words []string, answers, faults io.Writer) error {
+// runListEntry prints a log's entry for a log list, which it makes from the log's settings.
+func runListEntry(arguments []string, stdout, stderr io.Writer) error {
 	flags := commandFlags("list-entry",
-		"ctserve list-entry --config FILE prints a log's entry for a log list (v3, JSON), out of its settings.", faults)
-	config := flags.String("config", "", "the log's `file` of settings")
+		"ctserve list-entry --config FILE prints a log's entry for a log list (v3, JSON), made from its settings.", stderr)
+	config := flags.String("config", "", "the log's config `file`")
 	name := flags.String("operator", "", "the operator's `name`")
-	email := flags.String("email", "", "the operator's `addresses` of mail, with commas between them")
+	email := flags.String("email", "", "comma-separated mail `addresses` of the operator")
 	publicAt := flags.String("key", "", "`file` with the log's public key in PEM, if the settings have no signing-key")
-	if err := parseFlags(flags, words, 0); err != nil {
+	if err := parseFlags(flags, arguments, 0); err != nil {
 		return err
 	}
 	if *config == "" || *name == "" || *email == "" {
 		return fmt.Errorf("%w: list-entry needs --config, --operator and --email", errUsage)
 	}
-	s, err := parse([]string{"--config", *config}, faults)
+	s, err := parse([]string{"--config", *config}, stderr)
 	if err != nil {
 		return err
 	}
@@ -207,12 +207,12 @@ func runListEntry(words []string, answers, faults io.Writer) error {
 		return err
 	}
 	one := entryOf(s, public)
-	out := json.NewEncoder(answers)
+	out := json.NewEncoder(stdout)
 	out.SetIndent("", "  ")
 	return out.Encode(map[string][]operator{"operators": {{*name, strings.Split(*email, ","), []string{}, []listed{one}}}})
 }
 
-// entryOf returns what a log list has of a log. The origin is the submission prefix without its scheme (C2SP
+// entryOf returns a log's entry for a log list. The origin is the submission prefix without its scheme (C2SP
 // static-ct-api, "Parameters").
 func entryOf(s *settings, public []byte) listed {
 	id := sha256.Sum256(public)
@@ -230,7 +230,7 @@ func entryOf(s *settings, public []byte) listed {
 	return one
 }
 
-// aboutOf is what a log answers of itself: nothing where its key isn't known.
+// aboutOf returns what a log publishes about itself. If its key is not known, that is only the merge delay.
 func aboutOf(s *settings, public []byte) (httpserver.About, error) {
 	if public == nil {
 		return httpserver.About{MaxMergeDelay: s.node.maxMergeDelay}, nil
@@ -247,7 +247,7 @@ func aboutOf(s *settings, public []byte) (httpserver.About, error) {
 	return about, err
 }
 
-// publicKey is the log's, out of a file or of its signing key.
+// publicKey returns the log's public key, from a file or from its signing key.
 func publicKey(s *settings, path string) ([]byte, error) {
 	if path == "" {
 		if s.node.signingKey == "" {
@@ -278,9 +278,9 @@ func publicKey(s *settings, path string) ([]byte, error) {
 	return block.Bytes, nil
 }
 
-// runVersion says what was built.
-func runVersion(answers io.Writer) int {
-	fmt.Fprint(answers, version.Line("ctserve"))
+// runVersion prints the version of this build.
+func runVersion(stdout io.Writer) int {
+	fmt.Fprint(stdout, version.Line("ctserve"))
 	return 0
 }
 
@@ -294,8 +294,8 @@ setting or an argument is refused.`
 
 // runIndex builds a log's deduplication index again from its tiles. The log may run at the same time if the index is in
 // PostgreSQL.
-func runIndex(words []string, answers, faults io.Writer) (err error) {
-	s, err := parseSettings("index", indexPage, words, faults)
+func runIndex(arguments []string, stdout, stderr io.Writer) (err error) {
+	s, err := parseSettings("index", indexPage, arguments, stderr)
 	if err != nil {
 		return err
 	}
@@ -310,22 +310,22 @@ func runIndex(words []string, answers, faults io.Writer) (err error) {
 	}
 	defer of.close()
 	return logservice.RebuildIndex(context.Background(), of.Stores, func(left uint64) {
-		fmt.Fprintf(answers, "%d entries are left\n", left)
+		fmt.Fprintf(stdout, "%d entries are left\n", left)
 	})
 }
 
 // runClock confirms the day for a log that was stopped for more than one day, on a machine with no other source of
 // time. The log may run in the meantime.
-func runClock(words []string, answers, faults io.Writer) error {
+func runClock(arguments []string, stdout, stderr io.Writer) error {
 	flags := commandFlags("clock",
 		"ctserve clock FILE DAY confirms the day (2026-11-27) for the log with the settings FILE. "+
 			"Read the day from another clock than this machine's. "+
 			"On that day the log continues, although its newest head is older than a day "+
-			"and neither the kernel nor another machine confirms the time.", faults)
-	if err := parseFlags(flags, words, 2); err != nil {
+			"and neither the kernel nor another machine confirms the time.", stderr)
+	if err := parseFlags(flags, arguments, 2); err != nil {
 		return err
 	}
-	s, err := parse([]string{"--config", flags.Arg(0)}, faults)
+	s, err := parse([]string{"--config", flags.Arg(0)}, stderr)
 	if err != nil {
 		return err
 	}
@@ -333,7 +333,7 @@ func runClock(words []string, answers, faults io.Writer) error {
 	if err := logservice.NameDay(s.node.namedDay, flags.Arg(1), now); err != nil {
 		return err
 	}
-	fmt.Fprintf(answers, "%s: on %s the log continues. This machine's clock says %s\n", s.node.origin, flags.Arg(1),
+	fmt.Fprintf(stdout, "%s: on %s the log continues. This machine's clock says %s\n", s.node.origin, flags.Arg(1),
 		now.UTC().Format(time.RFC3339))
 	return nil
 }

@@ -20,14 +20,14 @@ import (
 	"wagtenib/internal/testutil"
 )
 
-// does runs one of the commands in this process.
-func does(words ...string) (status int, answers, faults string) {
-	var out, told bytes.Buffer
-	status = runCommand(words[0], words[1:], &out, &told)
-	return status, out.String(), told.String()
+// does runs a command in this process.
+func does(arguments ...string) (status int, stdout, stderr string) {
+	var out, faults bytes.Buffer
+	status = runCommand(arguments[0], arguments[1:], &out, &faults)
+	return status, out.String(), faults.String()
 }
 
-// settingsFile writes a file of settings with a root and a key of its own, and gives the folder and the file.
+// settingsFile writes a config file with a new root and a new key. It returns the folder and the file.
 func settingsFile(t *testing.T, lines ...string) (folder, file string) {
 	t.Helper()
 	folder = t.TempDir()
@@ -38,8 +38,8 @@ func settingsFile(t *testing.T, lines ...string) (folder, file string) {
 	if err := os.WriteFile(filepath.Join(folder, "roots.pem"), authority.PEM(), 0o600); err != nil {
 		t.Fatal(err)
 	}
-	if status, _, told := does("key", filepath.Join(folder, "log.key")); status != 0 {
-		t.Fatalf("no key: %s", told)
+	if status, _, stderr := does("key", filepath.Join(folder, "log.key")); status != 0 {
+		t.Fatalf("no key: %s", stderr)
 	}
 	text := []string{"origin log.example/2027h1", "signing-key " + folder + "/log.key", "roots " + folder +
 		"/roots.pem", "folder " + folder + "/log",
@@ -51,12 +51,13 @@ func settingsFile(t *testing.T, lines ...string) (folder, file string) {
 	return folder, file
 }
 
-// TestKey: a key is made once, none but its owner may read it, and openssl finds the public key that is printed.
+// TestKey checks that a key is made once, that only its owner may read it, and that openssl computes the public key
+// that is printed.
 func TestKey(t *testing.T) {
 	path := filepath.Join(t.TempDir(), "log.key")
-	status, said, told := does("key", path)
+	status, stdout, stderr := does("key", path)
 	if status != 0 {
-		t.Fatalf("status %d: %s", status, told)
+		t.Fatalf("status %d: %s", status, stderr)
 	}
 	info, err := os.Stat(path)
 	if err != nil || info.Mode().Perm() != 0o400 {
@@ -67,25 +68,25 @@ func TestKey(t *testing.T) {
 		t.Fatal(err)
 	}
 	id := sha256.Sum256(public)
-	for _, due := range []string{"log id      " + base64.StdEncoding.EncodeToString(id[:]) + "\n", "public key  " +
+	for _, expected := range []string{"log id      " + base64.StdEncoding.EncodeToString(id[:]) + "\n", "public key  " +
 		base64.StdEncoding.EncodeToString(public) + "\n",
 		string(pem.EncodeToMemory(&pem.Block{Type: "PUBLIC KEY", Bytes: public}))} {
-		if !strings.Contains(said, due) {
-			t.Errorf("%q isn't in %q", due, said)
+		if !strings.Contains(stdout, expected) {
+			t.Errorf("%q is not in %q", expected, stdout)
 		}
 	}
 	before, _ := os.ReadFile(path)
 	if status, _, _ := does("key", path); status != 1 {
-		t.Errorf("made where one is: status %d", status)
+		t.Errorf("made where a key exists: status %d", status)
 	}
 	if after, _ := os.ReadFile(path); !bytes.Equal(before, after) {
-		t.Error("a key that was there is another one now")
+		t.Error("an existing key was changed")
 	}
-	if status, shown, _ := does("key", "--show", path); status != 0 || shown != said {
+	if status, shown, _ := does("key", "--show", path); status != 0 || shown != stdout {
 		t.Errorf("shown: status %d, %q", status, shown)
 	}
 	if status, _, _ := does("key", "--show", path+".absent"); status != 1 {
-		t.Errorf("shown where none is: status %d", status)
+		t.Errorf("shown where no key exists: status %d", status)
 	}
 	if _, err := os.Stat(path + ".absent"); err == nil {
 		t.Error("--show made a key")
@@ -98,20 +99,20 @@ func TestKey(t *testing.T) {
 	}
 }
 
-// TestListEntry compares an entry with what openssl says of the key.
+// TestListEntry compares an entry with the public key that openssl computes.
 func TestListEntry(t *testing.T) {
 	folder, file := settingsFile(t)
-	status, said, told := does("list-entry", "--config", file, "--operator", "An operator", "--email",
+	status, stdout, stderr := does("list-entry", "--config", file, "--operator", "An operator", "--email",
 		"a@log.example,b@log.example")
 	if status != 0 {
-		t.Fatalf("status %d: %s", status, told)
+		t.Fatalf("status %d: %s", status, stderr)
 	}
 	public, err := exec.Command("openssl", "ec", "-in", folder+"/log.key", "-pubout", "-outform", "DER").Output()
 	if err != nil {
 		t.Fatal(err)
 	}
 	id := sha256.Sum256(public)
-	due := map[string]any{"operators": []any{map[string]any{"name": "An operator",
+	expected := map[string]any{"operators": []any{map[string]any{"name": "An operator",
 		"email": []any{"a@log.example", "b@log.example"}, "logs": []any{}, "tiled_logs": []any{map[string]any{
 			"description": "log.example/2027h1", "log_id": base64.StdEncoding.EncodeToString(id[:]),
 			"key":            base64.StdEncoding.EncodeToString(public),
@@ -121,64 +122,64 @@ func TestListEntry(t *testing.T) {
 				"end_exclusive": "2027-07-01T00:00:00Z"},
 		}}}}}
 	var found any
-	if err := json.Unmarshal([]byte(said), &found); err != nil || fmt.Sprint(found) != fmt.Sprint(due) {
-		t.Errorf("%v: %s", err, said)
+	if err := json.Unmarshal([]byte(stdout), &found); err != nil || fmt.Sprint(found) != fmt.Sprint(expected) {
+		t.Errorf("%v: %s", err, stdout)
 	}
 	s, err := parse([]string{"--config", file, "--notice", "a \"notice\""}, io.Discard)
 	if err != nil {
 		t.Fatal(err)
 	}
 	about, err := aboutOf(s, public)
-	one := due["operators"].([]any)[0].(map[string]any)["tiled_logs"].([]any)[0].(map[string]any)
+	one := expected["operators"].([]any)[0].(map[string]any)["tiled_logs"].([]any)[0].(map[string]any)
 	one["version"], one["notice"] = "unreleased (commit unknown)", "a \"notice\""
 	if json.Unmarshal(about.Entry, &found) != nil || err != nil || fmt.Sprint(found) != fmt.Sprint(one) ||
 		string(about.Key) != string(public) {
-		t.Errorf("the log says of itself: %v, %s", err, about.Entry)
+		t.Errorf("the log publishes about itself: %v, %s", err, about.Entry)
 	}
 	if about, err := aboutOf(s, nil); err != nil || about.Key != nil || about.Entry != nil {
-		t.Errorf("a log without a key says of itself: %v, %v", about, err)
+		t.Errorf("a log without a key publishes about itself: %v, %v", about, err)
 	}
 	if err := os.WriteFile(folder+"/public.pem", pem.EncodeToMemory(&pem.Block{Type: "PUBLIC KEY", Bytes: public}),
 		0o600); err != nil {
 		t.Fatal(err)
 	}
 	more := []string{"--operator", "o", "--email", "e"}
-	if status, other, told := does(append([]string{"list-entry", "--config", file, "--key", folder + "/public.pem"},
+	if status, other, stderr := does(append([]string{"list-entry", "--config", file, "--key", folder + "/public.pem"},
 		more...)...); status != 0 ||
 		!strings.Contains(other, base64.StdEncoding.EncodeToString(id[:])) ||
 		!strings.Contains(other, `"https://log.example/2027h1/"`) {
-		t.Errorf("by the public key: status %d, %s%s", status, other, told)
+		t.Errorf("with the public key: status %d, %s%s", status, other, stderr)
 	}
-	for _, words := range [][]string{{"--config", file}, {"--config", file, "--operator", "o", "--email",
+	for _, arguments := range [][]string{{"--config", file}, {"--config", file, "--operator", "o", "--email",
 		"e", "more"}} {
-		if status, _, _ := does(append([]string{"list-entry"}, words...)...); status != 2 {
-			t.Errorf("%q: status %d", words, status)
+		if status, _, _ := does(append([]string{"list-entry"}, arguments...)...); status != 2 {
+			t.Errorf("%q: status %d", arguments, status)
 		}
 	}
 	if status, _, _ := does("list-entry", "--config", file, "--operator", "o", "--email", "e", "--key", folder+
 		"/roots.pem"); status != 1 {
-		t.Errorf("a certificate for a key: status %d", status)
+		t.Errorf("a certificate in place of a key: status %d", status)
 	}
 }
 
-// TestCheck: each wrong setting is reported, and nothing is created.
+// TestCheck checks that each wrong setting is reported, and that nothing is created.
 func TestCheck(t *testing.T) {
 	folder, file := settingsFile(t)
-	status, said, told := does("check", file)
-	if status != 0 || told != "" {
-		t.Fatalf("status %d: %s%s", status, said, told)
+	status, stdout, stderr := does("check", file)
+	if status != 0 || stderr != "" {
+		t.Fatalf("status %d: %s%s", status, stdout, stderr)
 	}
-	for _, due := range []string{"log.example/2027h1", "1 roots", "guard            on\n"} {
-		if !strings.Contains(said, due) {
-			t.Errorf("%q isn't said: %s", due, said)
+	for _, expected := range []string{"log.example/2027h1", "1 roots", "guard            on\n"} {
+		if !strings.Contains(stdout, expected) {
+			t.Errorf("%q is not printed: %s", expected, stdout)
 		}
 	}
 	if _, err := os.Stat(folder + "/log"); err == nil {
 		t.Error("the log's folder was made")
 	}
 	for _, c := range []struct {
-		line, due string
-		status    int
+		line, expected string
+		status         int
 	}{
 		{"tls-certificate " + folder + "/absent\ntls-key " + folder + "/absent", "tls-certificate  WRONG: ", 1},
 		{"roots " + folder + "/log.key", "", 2},
@@ -196,9 +197,9 @@ func TestCheck(t *testing.T) {
 		{"index postgres://a.example/b?log=one", "index            postgres, not opened", 0},
 	} {
 		_, file := settingsFile(t, c.line)
-		status, said, _ := does("check", file)
-		if status != c.status || !strings.Contains(said, c.due) {
-			t.Errorf("%q: status %d, %s", c.line, status, said)
+		status, stdout, _ := does("check", file)
+		if status != c.status || !strings.Contains(stdout, c.expected) {
+			t.Errorf("%q: status %d, %s", c.line, status, stdout)
 		}
 	}
 	for _, name := range []string{"roots.pem", "log.key"} {
@@ -206,34 +207,34 @@ func TestCheck(t *testing.T) {
 		if err := os.Remove(filepath.Join(folder, name)); err != nil {
 			t.Fatal(err)
 		}
-		if status, said, told := does("check", file); status != 1 || strings.Count(said, "WRONG") != 1 ||
-			!strings.Contains(told, "1 settings") {
-			t.Errorf("without %s: status %d, %s%s", name, status, said, told)
+		if status, stdout, stderr := does("check", file); status != 1 || strings.Count(stdout, "WRONG") != 1 ||
+			!strings.Contains(stderr, "1 settings") {
+			t.Errorf("without %s: status %d, %s%s", name, status, stdout, stderr)
 		}
 	}
 }
 
-// TestCheckOfAFolder has settings name a file in the folder's place: a start refuses it, so must check.
+// TestCheckOfAFolder checks that check refuses a file in place of the log's folder, as a start does.
 func TestCheckOfAFolder(t *testing.T) {
 	folder, file := settingsFile(t)
 	if err := os.WriteFile(filepath.Join(folder, "log"), nil, 0o600); err != nil {
 		t.Fatal(err)
 	}
-	if status, said, _ := does("check", file); status != 1 || !strings.Contains(said, "is not a folder") {
-		t.Errorf("a file in the folder's place: status %d, %s", status, said)
+	if status, stdout, _ := does("check", file); status != 1 || !strings.Contains(stdout, "is not a folder") {
+		t.Errorf("a file in the folder's place: status %d, %s", status, stdout)
 	}
 }
 
-// TestClock: the day of the machine's clock is stored where the log's node reads it. Another day is refused, and so are
-// wrong settings.
+// TestClock checks that the day of the machine's clock is stored where the log's node reads it. Another day is refused,
+// and so are wrong settings.
 func TestClock(t *testing.T) {
 	folder, file := settingsFile(t)
 	now := time.Now().UTC()
 	today := now.Format("2006-01-02")
-	status, said, told := does("clock", file, today)
-	if status != 0 || told != "" || !strings.HasPrefix(said, "log.example/2027h1: on "+today+
+	status, stdout, stderr := does("clock", file, today)
+	if status != 0 || stderr != "" || !strings.HasPrefix(stdout, "log.example/2027h1: on "+today+
 		" the log continues. This machine's clock says "+now.Format("2006-01")) {
-		t.Fatalf("status %d: %s%s", status, said, told)
+		t.Fatalf("status %d: %s%s", status, stdout, stderr)
 	}
 	s, err := parse([]string{"--config", file}, io.Discard)
 	if err != nil || s.node.namedDay != folder+"/log.day" {
@@ -244,9 +245,9 @@ func TestClock(t *testing.T) {
 		t.Fatalf("%v: %q", err, named)
 	}
 	for _, c := range []struct {
-		words  []string
-		status int
-		due    string
+		arguments []string
+		status    int
+		expected  string
 	}{
 		{[]string{file, now.AddDate(1, 0, 0).Format("2006-01-02")}, 1, "this machine's clock says " +
 			now.Format("2006-01")},
@@ -256,9 +257,9 @@ func TestClock(t *testing.T) {
 		{[]string{file}, 2, "--help"},
 		{[]string{folder + "/absent", today}, 2, "absent"},
 	} {
-		if status, said, told := does(append([]string{"clock"}, c.words...)...); status != c.status || said != "" ||
-			!strings.Contains(told, c.due) {
-			t.Errorf("%q: status %d, %s%s", c.words, status, said, told)
+		if status, stdout, stderr := does(append([]string{"clock"}, c.arguments...)...); status != c.status || stdout != "" ||
+			!strings.Contains(stderr, c.expected) {
+			t.Errorf("%q: status %d, %s%s", c.arguments, status, stdout, stderr)
 		}
 	}
 	if after, err := os.ReadFile(s.node.namedDay); err != nil || !bytes.Equal(after, named) {
@@ -270,15 +271,15 @@ func TestClock(t *testing.T) {
 	}
 }
 
-// TestCommandLine: the words lead to the commands, and the version is said on the standard output.
+// TestCommandLine checks that the arguments lead to the commands, and that the version is printed on standard output.
 func TestCommandLine(t *testing.T) {
 	for _, c := range []struct {
-		words  []string
-		status int
-		out    string
+		arguments []string
+		status    int
+		out       string
 	}{{[]string{"--version"}, 0, "ctserve unreleased (commit unknown)\n"}, {[]string{"key"}, 2, ""},
 		{[]string{"check", "--help"}, 0, ""}} {
-		command := exec.Command(os.Args[0], c.words...)
+		command := exec.Command(os.Args[0], c.arguments...)
 		command.Env = append(os.Environ(), childKey+"=1")
 		var out bytes.Buffer
 		command.Stdout = &out
@@ -286,25 +287,25 @@ func TestCommandLine(t *testing.T) {
 		command.Run()
 		timer.Stop()
 		if status := command.ProcessState.ExitCode(); status != c.status || out.String() != c.out {
-			t.Errorf("%q: status %d, %q", c.words, status, out.String())
+			t.Errorf("%q: status %d, %q", c.arguments, status, out.String())
 		}
 	}
 }
 
-// TestHelpOfCommands: each command that the help of ctserve names has a help of its own, which begins with the name of
-// the command. A wrong flag prints the command's help too, and not the one of ctserve.
+// TestHelpOfCommands checks that each command that the help of ctserve names has a help of its own, which begins with
+// the name of the command. A wrong flag prints the command's help too, and not the one of ctserve.
 func TestHelpOfCommands(t *testing.T) {
 	named := regexp.MustCompile(`(?m)^  ctserve ([a-z-]+)`).FindAllStringSubmatch(page, -1)
 	if len(named) != len(commands)+1 {
-		t.Errorf("the help names %d commands, and there are %d and signer", len(named), len(commands))
+		t.Errorf("the help names %d commands, and ctserve has %d and signer", len(named), len(commands))
 	}
 	for _, each := range named {
-		for flag, due := range map[string]int{"--help": 0, "--no-such-flag": 2} {
-			var told bytes.Buffer
-			status := run([]string{each[1], flag}, &told, openNode)
-			help := regexp.MustCompile(`(?m)^ctserve ` + each[1] + ` `).MatchString(told.String())
-			if status != due || !help || strings.Contains(told.String(), "Other commands") {
-				t.Errorf("%s %s: status %d: %s", each[1], flag, status, told.String())
+		for flag, expected := range map[string]int{"--help": 0, "--no-such-flag": 2} {
+			var stderr bytes.Buffer
+			status := run([]string{each[1], flag}, &stderr, openNode)
+			help := regexp.MustCompile(`(?m)^ctserve ` + each[1] + ` `).MatchString(stderr.String())
+			if status != expected || !help || strings.Contains(stderr.String(), "Other commands") {
+				t.Errorf("%s %s: status %d: %s", each[1], flag, status, stderr.String())
 			}
 		}
 	}

@@ -24,21 +24,22 @@ import (
 	"wagtenib/internal/testutil"
 )
 
-// The tests start this program again as ctserve, over a log in memory where every is set.
+// The tests start this program again as ctserve. These are the environment variables that make it ctserve, and that set
+// the interval of a log in memory. Without the second one it serves a real log.
 const (
-	childKey = "CTSERVE_TEST"
-	everyKey = "CTSERVE_TEST_EVERY"
+	childKey    = "CTSERVE_TEST"
+	intervalKey = "CTSERVE_TEST_EVERY"
 )
 
 func TestMain(m *testing.M) {
-	// (a log that is opened by the tests themselves starts its signer by the program's own name)
+	// A log that a test opens in its own process starts this program as its signer.
 	if os.Getenv(childKey) == "" && (len(os.Args) < 2 || os.Args[1] != "signer") {
 		os.Exit(m.Run())
 	}
 	open := openNode
-	if every := os.Getenv(everyKey); every != "" {
+	if interval := os.Getenv(intervalKey); interval != "" {
 		open = func(ctx context.Context, n node) (*opened, error) {
-			duration, err := time.ParseDuration(every)
+			duration, err := time.ParseDuration(interval)
 			if err != nil {
 				return nil, err
 			}
@@ -49,9 +50,9 @@ func TestMain(m *testing.M) {
 	os.Exit(run(os.Args[1:], os.Stderr, open))
 }
 
-// program is a ctserve that runs.
+// program is a running ctserve.
 type program struct {
-	// serving is the line of that event, and passed are those before that nobody waited for.
+	// serving is the line of the event serving, and passed has the lines before it for which no test waited.
 	serving           map[string]any
 	passed            []map[string]any
 	t                 *testing.T
@@ -61,31 +62,34 @@ type program struct {
 	done              chan error
 }
 
-// started starts one and waits until it serves.
-func started(t *testing.T, every string, words ...string) *program {
+// started starts a program and waits until it serves. If the interval is empty, it serves a real log, and otherwise one
+// in memory with this interval.
+func started(t *testing.T, interval string, arguments ...string) *program {
 	t.Helper()
 	for until := time.Now().Add(testutil.Longest); ; {
-		p, line := begun(t, every, words...)
+		p, line := launched(t, interval, arguments...)
 		if line["event"] == "serving" {
 			return p
 		}
 		if !isLate(fmt.Sprint(line["fault"])) || time.Now().After(until) {
-			t.Fatalf("it ends: %v", line)
+			t.Fatalf("ctserve ends: %v", line)
 		}
 		p.ends()
 	}
 }
 
-// isLate reports whether a start failed because one of its programs did not reply in time, which may happen on a busy
-// machine. Then the test starts it again.
-func isLate(told string) bool { return strings.Contains(told, "no reply from the signer: none in ") }
+// isLate reports whether the output says that the signer did not reply in time, which may happen on a busy machine.
+// Then the test starts the program again.
+func isLate(output string) bool {
+	return strings.Contains(output, "no reply from the signer: none in ")
+}
 
-// begun starts one, and gives the line by which it serves or ends.
-func begun(t *testing.T, every string, words ...string) (p *program, line map[string]any) {
+// launched starts a program. It returns the program and its line when it serves or ends.
+func launched(t *testing.T, interval string, arguments ...string) (p *program, line map[string]any) {
 	t.Helper()
-	p = &program{t: t, command: exec.Command(os.Args[0], words...), lines: make(chan map[string]any),
+	p = &program{t: t, command: exec.Command(os.Args[0], arguments...), lines: make(chan map[string]any),
 		done: make(chan error, 1)}
-	p.command.Env = append(os.Environ(), childKey+"=1", everyKey+"="+every)
+	p.command.Env = append(os.Environ(), childKey+"=1", intervalKey+"="+interval)
 	errors, err := p.command.StderrPipe()
 	if err != nil {
 		t.Fatal(err)
@@ -93,16 +97,16 @@ func begun(t *testing.T, every string, words ...string) (p *program, line map[st
 	if err := p.command.Start(); err != nil {
 		t.Fatal(err)
 	}
-	come := make(chan map[string]any)
-	go testutil.PassOn(come, p.lines)
+	read := make(chan map[string]any)
+	go testutil.PassOn(read, p.lines)
 	go func() {
-		defer close(come)
+		defer close(read)
 		for scanner := bufio.NewScanner(errors); scanner.Scan(); {
 			line := map[string]any{}
 			if err := json.Unmarshal(scanner.Bytes(), &line); err != nil {
 				line["text"] = scanner.Text()
 			}
-			come <- line
+			read <- line
 		}
 		p.done <- p.command.Wait()
 	}()
@@ -123,13 +127,13 @@ func begun(t *testing.T, every string, words ...string) (p *program, line map[st
 	}
 }
 
-// runs starts one in this process that doesn't get as far as serving, and gives its status and its lines.
-func runs(words []string) (status int, told string) {
+// runs starts ctserve in this process if it ends before it serves. It returns the exit status and the output.
+func runs(arguments []string) (status int, output string) {
 	for until := time.Now().Add(testutil.Longest); ; {
 		var lines strings.Builder
-		status = run(words, &lines, openNode)
-		if told = lines.String(); !isLate(told) || time.Now().After(until) {
-			return status, told
+		status = run(arguments, &lines, openNode)
+		if output = lines.String(); !isLate(output) || time.Now().After(until) {
+			return status, output
 		}
 	}
 }
@@ -141,7 +145,7 @@ func (p *program) until(events ...string) map[string]any {
 		select {
 		case line, more := <-p.lines:
 			if !more {
-				p.t.Fatalf("it ended without a line of %v", events)
+				p.t.Fatalf("ctserve ended without a line of %v", events)
 			}
 			for _, event := range events {
 				if line["event"] == event {
@@ -157,7 +161,7 @@ func (p *program) until(events ...string) map[string]any {
 	}
 }
 
-// shows waits until the operator's figures have a line.
+// shows waits until the operator's metrics have a line.
 func (p *program) shows(line string) {
 	p.t.Helper()
 	for late := time.Now().Add(testutil.Longest); ; time.Sleep(10 * time.Millisecond) {
@@ -166,12 +170,12 @@ func (p *program) shows(line string) {
 			return
 		}
 		if time.Now().After(late) {
-			p.t.Fatalf("the figures have no line %q:\n%s", line, text)
+			p.t.Fatalf("the metrics have no line %q:\n%s", line, text)
 		}
 	}
 }
 
-// ends returns the status by which it ends.
+// ends waits until the program ends, and returns its exit status.
 func (p *program) ends() int {
 	p.t.Helper()
 	go func() {
@@ -186,7 +190,7 @@ func (p *program) ends() int {
 		}
 		return 0
 	case <-time.After(testutil.Longest):
-		p.t.Fatal("it doesn't end")
+		p.t.Fatal("ctserve does not end")
 		return -1
 	}
 }
@@ -198,7 +202,7 @@ func (p *program) signal(which syscall.Signal) {
 	}
 }
 
-// place is a folder with the files that a log needs, and an authority among its roots.
+// place is a folder with the files that a log needs, and the authority that is its root.
 type place struct {
 	t         *testing.T
 	folder    string
@@ -233,17 +237,17 @@ func (p *place) write(name string, content []byte) {
 }
 
 // patient returns arguments with long time limits, for tests of something other than these limits.
-func patient() (words []string) {
+func patient() (arguments []string) {
 	for _, name := range []string{"open-timeout", "shutdown-timeout", "submission-timeout", "header-timeout",
 		"request-timeout", "response-timeout", "idle-timeout"} {
-		words = append(words, "--"+name, testutil.Longest.String())
+		arguments = append(arguments, "--"+name, testutil.Longest.String())
 	}
-	// (so no head without entries is made meanwhile)
-	return append(words, "--max-merge-delay", "24h")
+	// With this delay, no head without entries is made during a test.
+	return append(arguments, "--max-merge-delay", "24h")
 }
 
-// words are those that start a log here, at ports of its own.
-func (p *place) words(more ...string) []string {
+// arguments returns the arguments that start a log in this folder, at free ports.
+func (p *place) arguments(more ...string) []string {
 	return append(append(patient(), "--listen", "127.0.0.1:0", "--operator-listen", "127.0.0.1:0", "--origin",
 		"log.example/test", "--roots", p.path("roots.pem"),
 		"--signing-key", p.path("log.pem"), "--folder", p.path("log")), more...)
@@ -264,13 +268,13 @@ func post(address string, body []byte) (int, string) {
 
 func get(address, path string) (int, string) { return whole(http.Get("http://" + address + path)) }
 
-// read is get, repeated if a reading is late. A reading has a limit of some seconds, in which a busy machine starts no
-// program.
+// read calls get, and repeats it if a read is late. A read has a limit of some seconds, which may be too short on a
+// busy machine.
 func read(address, path string) (int, string) {
 	return unlessLate(func() (int, string) { return get(address, path) })
 }
 
-// unlessLate asks until what is answered isn't that it is late.
+// unlessLate repeats a request until the answer does not say that it is late.
 func unlessLate(ask func() (int, string)) (status int, text string) {
 	for until := time.Now().Add(testutil.Longest); ; {
 		if status, text = ask(); status != 503 || !strings.Contains(text, `"late"`) || time.Now().After(until) {
@@ -292,9 +296,9 @@ func whole(answer *http.Response, err error) (int, string) {
 	return answer.StatusCode, string(text)
 }
 
-// TestRootsThatArentRead: a root that crypto/x509 cannot parse prevents neither a start nor a reload with the others,
-// and each logs which one it is.
-func TestRootsThatArentRead(t *testing.T) {
+// TestLeavesOutUnreadableRoots checks that a root that crypto/x509 cannot parse prevents neither a start nor a reload
+// with the others, and that both log which one it is.
+func TestLeavesOutUnreadableRoots(t *testing.T) {
 	at := newPlace(t)
 	strange := pem.EncodeToMemory(&pem.Block{Type: "CERTIFICATE", Bytes: []byte("of a curve that nobody reads")})
 	leftOut := func(line map[string]any) bool {
@@ -302,25 +306,25 @@ func TestRootsThatArentRead(t *testing.T) {
 			strings.Contains(fmt.Sprint(line["root"]), at.path("roots.pem")+", certificate 2 ")
 	}
 	at.write("roots.pem", append(at.authority.PEM(), strange...))
-	p := started(t, "20ms", at.words()...)
-	told := 0
+	p := started(t, "20ms", at.arguments()...)
+	logged := 0
 	for _, line := range p.passed {
 		if leftOut(line) {
-			told++
+			logged++
 		}
 	}
-	if told != 1 {
-		t.Errorf("at the start it is told %d times: %v", told, p.passed)
+	if logged != 1 {
+		t.Errorf("at the start the root is logged %d times: %v", logged, p.passed)
 	}
 	p.signal(syscall.SIGHUP)
 	if line := p.until("reload"); line["level"] != "info" || line["roots"] != 1.0 {
-		t.Errorf("it says %v", line)
+		t.Errorf("the line is %v", line)
 	}
 	if line := p.until("root-left-out"); !leftOut(line) {
-		t.Errorf("it says %v", line)
+		t.Errorf("the line is %v", line)
 	}
 	if status, text := post(p.clients, at.submission()); status != 200 {
-		t.Errorf("of the root that is read: %d %s", status, text)
+		t.Errorf("a certificate of the other root: %d %s", status, text)
 	}
 }
 
@@ -332,7 +336,7 @@ func TestServesTLSAndAWindow(t *testing.T) {
 	}
 	at.write("tls.pem", certificate)
 	at.write("tls.key", key)
-	p := started(t, "20ms", at.words("--tls-certificate", at.path("tls.pem"), "--tls-key", at.path("tls.key"),
+	p := started(t, "20ms", at.arguments("--tls-certificate", at.path("tls.pem"), "--tls-key", at.path("tls.key"),
 		"--not-after-limit", "2027-01-01")...)
 	roots := x509.NewCertPool()
 	roots.AddCert(at.authority.Root)
@@ -345,9 +349,9 @@ func TestServesTLSAndAWindow(t *testing.T) {
 	}
 	text, _ := io.ReadAll(answer.Body)
 	if answer.StatusCode != 400 || !strings.Contains(string(text), "outside-window") {
-		t.Errorf("a certificate that ends at the window's end: %d %s", answer.StatusCode, text)
+		t.Errorf("a certificate that expires at the window's end: %d %s", answer.StatusCode, text)
 	}
 	if status, _ := get(p.clients, "/"); status != 400 {
-		t.Errorf("in the clear: %d", status)
+		t.Errorf("plain HTTP: %d", status)
 	}
 }

@@ -19,8 +19,8 @@ import (
 	"wagtenib/internal/testutil"
 )
 
-// fill fills the file system below a folder up to so many bytes, and gives the way to make room again.
-func fill(t *testing.T, folder string, but int64) (room func()) {
+// fill fills the file system of a folder, except for so many bytes. The function that it returns makes room again.
+func fill(t *testing.T, folder string, free int64) (makeRoom func()) {
 	t.Helper()
 	path := filepath.Join(folder, "ballast")
 	file, err := os.Create(path)
@@ -34,8 +34,8 @@ func fill(t *testing.T, folder string, but int64) (room func()) {
 			size /= 2
 		}
 	}
-	if written > but {
-		err = file.Truncate(written - but)
+	if written > free {
+		err = file.Truncate(written - free)
 	}
 	if closing := file.Close(); err != nil || closing != nil {
 		t.Fatal(err, closing)
@@ -47,16 +47,16 @@ func fill(t *testing.T, folder string, but int64) (room func()) {
 	}
 }
 
-// TestFullDisk: a disk that is full except for a few bytes, below a whole log (objects, lock, index, the guard's
-// state, the latest head). Submissions are refused by name, and reads are answered. After there is space again,
-// submissions are accepted. What was answered is in its place.
+// TestFullDisk has a whole log (objects, lock, index, the guard's state, the latest head) on a disk that is full except
+// for a few bytes. Submissions are refused with an error of their own, and reads are answered. After there is room
+// again, submissions are accepted. Each answered entry is in its place.
 func TestFullDisk(t *testing.T) {
 	t.Parallel()
 	at := newPlace(t)
 	disk := at.mount(t)
-	words := at.realWords("--signing-key", at.path("log.pem"), "--guard-state", "file:"+at.path("log/guard"),
+	arguments := at.realArguments("--signing-key", at.path("log.pem"), "--guard-state", "file:"+at.path("log/guard"),
 		"--latest-head", at.path("log/latest-head"))
-	p := started(t, "", append(words, "--create")...)
+	p := started(t, "", append(arguments, "--create")...)
 	var answers []logcheck.Answer
 	submit := func() (int, string) {
 		t.Helper()
@@ -82,18 +82,19 @@ func TestFullDisk(t *testing.T) {
 		again()
 	}
 	const puts = `{call="put",store="objects"}`
-	if failed, all := failures(t, p, ""), figure(t, p, "ctserve_store_seconds_count"+puts); failed != 0 || all < 5 {
-		t.Errorf("%v calls are said to have failed, and %v puts were made, with room", failed, all)
+	if failed, all := failures(t, p, ""), metricOf(t, p, "ctserve_store_seconds_count"+puts); failed != 0 || all < 5 {
+		t.Errorf("with room, %v calls count as failed, and %v puts were made", failed, all)
 	}
-	for _, but := range []int64{0, 64 << 10} {
-		// Without a byte the staged batch fails, which comes first. With a few bytes the first failure may be any store's.
+	for _, free := range []int64{0, 64 << 10} {
+		// Without a free byte, the put of the staged batch fails, which is the first one. With a few bytes, any store
+		// may be the first to fail.
 		of := ""
-		if but == 0 {
+		if free == 0 {
 			of = puts
 		}
 		before := failures(t, p, of)
-		room := fill(t, disk, but)
-		// If a few bytes are left, a step without entries may still succeed. Then nothing stops the log until the next
+		makeRoom := fill(t, disk, free)
+		// If a few bytes are free, a step without entries may still succeed. Then the log has no fault until the next
 		// submission.
 		var ready, metrics string
 		atFault := func() bool {
@@ -109,24 +110,24 @@ func TestFullDisk(t *testing.T) {
 				break
 			}
 			if status != 200 && !refused || time.Now().After(until) {
-				t.Fatalf("with %d bytes, and %v calls that failed before: %d %s; /readyz: %s; /metrics: %s", but, before,
+				t.Fatalf("with %d bytes, and %v calls that failed before: %d %s; /readyz: %s; /metrics: %s", free, before,
 					status, text, ready, metrics)
 			}
 		}
-		readsAll(t, p, fmt.Sprintf("with %d bytes", but), answers)
-		room()
+		readsAll(t, p, fmt.Sprintf("with %d bytes", free), answers)
+		makeRoom()
 		again()
 	}
-	// Killed (-9) while the disk is full.
-	room := fill(t, disk, 0)
+	// The log is killed while the disk is full.
+	makeRoom := fill(t, disk, 0)
 	p.signal(syscall.SIGKILL)
 	p.ends()
-	room()
-	p = started(t, "", words...)
+	makeRoom()
+	p = started(t, "", arguments...)
 	again()
 	p.signal(syscall.SIGTERM)
 	if status := p.ends(); status != 0 {
-		t.Errorf("it ended with status %d", status)
+		t.Errorf("ctserve ended with status %d", status)
 	}
 	key, err := signer.OpenKey(at.path("log.pem"))
 	if err != nil {
@@ -138,8 +139,8 @@ func TestFullDisk(t *testing.T) {
 	}
 }
 
-// figures are all that /metrics has of a log.
-func figures(t *testing.T, p *program) map[string]float64 {
+// metricsOf returns the metrics of a log.
+func metricsOf(t *testing.T, p *program) map[string]float64 {
 	t.Helper()
 	_, text := get(p.operator, "/metrics")
 	found := map[string]float64{}
@@ -157,28 +158,29 @@ func figures(t *testing.T, p *program) map[string]float64 {
 	return found
 }
 
-// failures is how many calls of stores failed so far, or how many of one kind.
+// failures returns the number of calls of stores that failed so far, of all or of one kind.
 func failures(t *testing.T, p *program, of string) (sum float64) {
 	t.Helper()
-	for name, times := range figures(t, p) {
-		if kind, is := strings.CutPrefix(name, "ctserve_store_failures_total"); is && (of == "" || kind == of) {
+	for name, times := range metricsOf(t, p) {
+		kind, isFailures := strings.CutPrefix(name, "ctserve_store_failures_total")
+		if isFailures && (of == "" || kind == of) {
 			sum += times
 		}
 	}
 	return sum
 }
 
-// figure is one that /metrics has of a log.
-func figure(t *testing.T, p *program, name string) float64 {
+// metricOf returns the value of a log's metric.
+func metricOf(t *testing.T, p *program, name string) float64 {
 	t.Helper()
-	found, is := figures(t, p)[name]
-	if !is {
-		t.Fatalf("there is no figure %s", name)
+	value, ok := metricsOf(t, p)[name]
+	if !ok {
+		t.Fatalf("there is no metric %s", name)
 	}
-	return found
+	return value
 }
 
-// mount mounts a small file system where the log is.
+// mount mounts a small file system at the log's folder.
 func (at place) mount(t *testing.T) (disk string) {
 	t.Helper()
 	disk = at.path("log")
@@ -186,7 +188,7 @@ func (at place) mount(t *testing.T) (disk string) {
 		t.Fatal(err)
 	}
 	if err := syscall.Mount("tmpfs", disk, "tmpfs", 0, fmt.Sprintf("size=%d", 8<<20)); err != nil {
-		t.Skipf("no small file system can be mounted here, which wants root: %v", err)
+		t.Skipf("no small file system can be mounted here, which only root may: %v", err)
 	}
 	t.Cleanup(func() {
 		if err := syscall.Unmount(disk, syscall.MNT_DETACH); err != nil {
@@ -196,7 +198,7 @@ func (at place) mount(t *testing.T) (disk string) {
 	return disk
 }
 
-// submitted submits a new certificate, and gives what was answered.
+// submitted submits a new certificate. It returns the status and text of the answer, and the parsed answer.
 func (at place) submitted(t *testing.T, p *program) (status int, text string, one logcheck.Answer) {
 	t.Helper()
 	der, err := at.authority.Issue(false, time.Date(2027, 1, 1, 0, 0, 0, 0, time.UTC))
@@ -219,8 +221,8 @@ func (at place) submitted(t *testing.T, p *program) (status int, text string, on
 		Extensions: read.Extensions, Signature: read.Signature}
 }
 
-// readsAll sees that all that readers ask is answered, by a head that has what was answered, and that the process
-// lives.
+// readsAll checks that all kinds of reads are answered, that the head covers all answered submissions, and that the
+// process is alive.
 func readsAll(t *testing.T, p *program, when string, answers []logcheck.Answer) {
 	t.Helper()
 	var head struct {
@@ -242,7 +244,7 @@ func readsAll(t *testing.T, p *program, when string, answers []logcheck.Answer) 
 	}
 }
 
-// leafOf is an answer's MerkleTreeLeaf, of a certificate (RFC 6962, section 3.4).
+// leafOf returns the MerkleTreeLeaf of an answer for a certificate (RFC 6962, section 3.4).
 func leafOf(a logcheck.Answer) []byte {
 	leaf := append([]byte{0, 0}, make([]byte, 8)...)
 	for i := range leaf[2:] {

@@ -18,28 +18,28 @@ import (
 	"wagtenib/internal/testutil"
 )
 
-// The plainest backup of a log, a copy of its folder while it is stopped, is put back: the start is refused by a status
-// of its own, for the guard's state and the latest head lie beside the folder. One that has its guard's state in the
-// folder goes on with it there.
-func TestFolderPutBack(t *testing.T) {
+// TestRefusesRestoredFolder restores the simplest backup of a log, which is a copy of its folder while it is stopped.
+// The start must be refused with a status of its own, because the guard's state and the latest head are beside the
+// folder. Each of these two is enough for that.
+func TestRefusesRestoredFolder(t *testing.T) {
 	t.Parallel()
 	at := newPlace(t)
-	words := at.realWords("--signing-key", at.path("log.pem"))
+	arguments := at.realArguments("--signing-key", at.path("log.pem"))
 	serves := func(more ...string) {
 		t.Helper()
-		p := started(t, "", append(words, more...)...)
+		p := started(t, "", append(arguments, more...)...)
 		if status, text := post(p.clients, at.submission()); status != 200 {
 			t.Fatalf("%d %s", status, text)
 		}
 		p.signal(syscall.SIGTERM)
 		if status := p.ends(); status != 0 {
-			t.Fatalf("it ended with status %d", status)
+			t.Fatalf("ctserve ended with status %d", status)
 		}
 	}
 	refused := func() {
 		t.Helper()
-		if status, told := runs(words); status != statusSetBack {
-			t.Errorf("status %d: %s", status, told)
+		if status, output := runs(arguments); status != statusRolledBack {
+			t.Errorf("status %d: %s", status, output)
 		}
 	}
 	move := func(from, to string) {
@@ -49,8 +49,8 @@ func TestFolderPutBack(t *testing.T) {
 		}
 	}
 	serves("--create")
-	if said, err := exec.Command("cp", "-a", at.path("log"), at.path("copy")).CombinedOutput(); err != nil {
-		t.Fatalf("%v: %s", err, said)
+	if output, err := exec.Command("cp", "-a", at.path("log"), at.path("copy")).CombinedOutput(); err != nil {
+		t.Fatalf("%v: %s", err, output)
 	}
 	serves()
 	move("log", "newest")
@@ -67,19 +67,19 @@ func TestFolderPutBack(t *testing.T) {
 		t.Fatal(err)
 	}
 	move("latest-head", "log.latest-head")
-	if status, told := runs(append(words, "--create")); status != statusSetBack {
-		t.Errorf("all is gone, and a new log is begun: status %d: %s", status, told)
+	if status, output := runs(append(arguments, "--create")); status != statusRolledBack {
+		t.Errorf("a new log in place of the old one: status %d: %s", status, output)
 	}
 }
 
-// TestIndexAnew: if a log's index is lost, the start is refused with a status of its own. After the index was built
-// again, it has the first place of a duplicate.
-func TestIndexAnew(t *testing.T) {
+// TestRebuildsLostIndex checks that a start is refused with a status of its own if the log's index is lost. After the
+// index was built again, it has the first place of a duplicate.
+func TestRebuildsLostIndex(t *testing.T) {
 	t.Parallel()
 	at := newPlace(t)
-	words := at.realWords("--signing-key", at.path("log.pem"))
+	arguments := at.realArguments("--signing-key", at.path("log.pem"))
 	body := at.submission()
-	p := started(t, "", append(words, "--create")...)
+	p := started(t, "", append(arguments, "--create")...)
 	status, answer := post(p.clients, body)
 	if status != 200 {
 		t.Fatalf("%d %s", status, answer)
@@ -90,19 +90,19 @@ func TestIndexAnew(t *testing.T) {
 		t.Fatal("the log has no index in its folder")
 	}
 	testutil.Must(t, os.RemoveAll(at.path("log/index")))
-	if status, told := runs(words); status != statusSetBack {
-		t.Errorf("status %d: %s", status, told)
+	if status, output := runs(arguments); status != statusRolledBack {
+		t.Errorf("status %d: %s", status, output)
 	}
-	if status, told, faults := does(append([]string{"index"}, words...)...); status != 0 ||
-		told != "0 entries are left\n" {
-		t.Errorf("%d, %q, %q", status, told, faults)
+	if status, stdout, stderr := does(append([]string{"index"}, arguments...)...); status != 0 ||
+		stdout != "0 entries are left\n" {
+		t.Errorf("%d, %q, %q", status, stdout, stderr)
 	}
-	p = started(t, "", words...)
-	// Beside the log that runs, the command refuses: only one process can use the folder.
-	if status, told, faults := does(append([]string{"index"}, words...)...); status != 1 || told != "" ||
-		!strings.Contains(faults, "in use") || !strings.Contains(faults, at.path("log/index")) ||
-		!strings.Contains(faults, "stop the log") {
-		t.Errorf("beside the log: %d, %q, %q", status, told, faults)
+	p = started(t, "", arguments...)
+	// While the log runs, the command fails, because only one process can use the folder.
+	if status, stdout, stderr := does(append([]string{"index"}, arguments...)...); status != 1 || stdout != "" ||
+		!strings.Contains(stderr, "in use") || !strings.Contains(stderr, at.path("log/index")) ||
+		!strings.Contains(stderr, "stop the log") {
+		t.Errorf("while the log runs: %d, %q, %q", status, stdout, stderr)
 	}
 	var first, again struct {
 		Timestamp  uint64 `json:"timestamp"`
@@ -115,40 +115,41 @@ func TestIndexAnew(t *testing.T) {
 	}
 }
 
-// TestGuardStateAway: a start whose guard's state isn't answered says so, and of what kind that is.
-func TestGuardStateAway(t *testing.T) {
+// TestReportsUnreadableGuardState checks that a start fails if the guard's state cannot be read, and reports its kind.
+func TestReportsUnreadableGuardState(t *testing.T) {
 	t.Parallel()
 	at := newPlace(t)
-	// (nobody answers there)
+	// This listener never answers.
 	listener, err := net.Listen("tcp", "127.0.0.1:0")
 	if err != nil {
 		t.Fatal(err)
 	}
 	defer listener.Close()
-	words := at.realWords("--signing-key", at.path("log.pem"), "--guard-state", "etcd://"+listener.Addr().String()+
+	arguments := at.realArguments("--signing-key", at.path("log.pem"), "--guard-state", "etcd://"+listener.Addr().String()+
 		"/guard", "--create")
-	// (a signer that says it too late for a busy machine is given more time: of 30 s it has 24 for the state, and 6 are
-	// left on both sides)
+	// On a busy machine the signer may report the error too late. Then it gets more time: of 30 s, it has 24 s for the
+	// state, and 6 s are left for its report.
 	within := 10 * time.Second
 	for until := time.Now().Add(testutil.Longest); ; within = 30 * time.Second {
-		var told strings.Builder
-		status := run(append(words, "--open-timeout", within.String()), &told, openNode)
-		if status == 1 && strings.Contains(told.String(), "the guard's state (guard-state, of etcd) cannot be read") {
+		var output strings.Builder
+		status := run(append(arguments, "--open-timeout", within.String()), &output, openNode)
+		if status == 1 && strings.Contains(output.String(), "the guard's state (guard-state, of etcd) cannot be read") {
 			return
 		}
-		late := isLate(told.String()) || strings.Contains(told.String(),
+		late := isLate(output.String()) || strings.Contains(output.String(),
 			"no reply from the signer: context deadline exceeded")
 		if status != 1 || !late || time.Now().After(until) {
-			t.Fatalf("status %d: %s", status, told.String())
+			t.Fatalf("status %d: %s", status, output.String())
 		}
 	}
 }
 
-// A signer that is started again does not create the state of its guard if the state is missing.
-func TestSignerIsCreatedOnce(t *testing.T) {
+// TestSignerCreatesStateOnce checks that a signer that is started again does not create the state of its guard if the
+// state is missing.
+func TestSignerCreatesStateOnce(t *testing.T) {
 	t.Parallel()
 	at := newPlace(t)
-	at.realWords()
+	at.realArguments()
 	ctx, cancel := context.WithTimeout(context.Background(), testutil.Longest)
 	defer cancel()
 	asked, err := askSigner(ctx, node{signingKey: at.path("log.pem"), guardState: "file:" +
@@ -179,23 +180,23 @@ func TestSignerIsCreatedOnce(t *testing.T) {
 		}
 	}
 	if _, err := os.Stat(at.path("guard/text")); err == nil {
-		t.Error("it is made again")
+		t.Error("the state is created again")
 	}
 }
 
-// A signer at a socket: it is killed and started again below a log, one of another key isn't taken, and two nodes share
-// it.
+// TestSignerAtASocket kills a signer at a socket and starts it again while a log uses it. A signer with another key
+// must not be accepted. Two nodes can share a signer.
 func TestSignerAtASocket(t *testing.T) {
 	t.Parallel()
 	at := newPlace(t)
 	socket := at.path("signer")
-	words := at.realWords("--signer-socket", socket, "--index", at.sharedIndex())
+	arguments := at.realArguments("--signer-socket", socket, "--index", at.sharedIndex())
 	listening := func(key string) (kills func()) {
 		t.Helper()
 		for until := time.Now().Add(testutil.Longest); ; {
-			command, said, ended := exec.Command(os.Args[0], "signer", "--signing-key", key, "--guard-state", "file:"+
+			command, output, ended := exec.Command(os.Args[0], "signer", "--signing-key", key, "--guard-state", "file:"+
 				at.path("guard"), "--create", "--listen", socket), &strings.Builder{}, make(chan struct{})
-			command.Env, command.Stderr = append(os.Environ(), childKey+"=1"), said
+			command.Env, command.Stderr = append(os.Environ(), childKey+"=1"), output
 			if err := command.Start(); err != nil {
 				t.Fatal(err)
 			}
@@ -215,19 +216,19 @@ func TestSignerAtASocket(t *testing.T) {
 				}
 				select {
 				case <-ended:
-					if waits = false; !isLate(said.String()) {
-						t.Fatalf("the signer ends: %s", said)
+					if waits = false; !isLate(output.String()) {
+						t.Fatalf("the signer ends: %s", output)
 					}
 				case <-time.After(5 * time.Millisecond):
 				}
 				if time.Now().After(until) {
-					t.Fatal("the signer doesn't listen")
+					t.Fatal("the signer does not listen")
 				}
 			}
 		}
 	}
 	first := listening(at.path("log.pem"))
-	p := started(t, "", append(words, "--create")...)
+	p := started(t, "", append(arguments, "--create")...)
 	if status, text := post(p.clients, at.submission()); status != 200 {
 		t.Fatalf("%d %s", status, text)
 	}
@@ -246,7 +247,7 @@ func TestSignerAtASocket(t *testing.T) {
 	at.write("other.pem", otherKey)
 	wrong := listening(at.path("other.pem"))
 	if status, text := post(p.clients, at.submission()); status != 503 || !strings.Contains(text, `"store"`) {
-		t.Errorf("with another's key: %d %s", status, text)
+		t.Errorf("with another key: %d %s", status, text)
 	}
 	wrong()
 	listening(at.path("log.pem"))
@@ -261,7 +262,7 @@ func TestSignerAtASocket(t *testing.T) {
 		}
 		time.Sleep(50 * time.Millisecond)
 	}
-	q := started(t, "", words...)
+	q := started(t, "", arguments...)
 	answers := make(chan string, 20)
 	for i := 0; i < cap(answers); i++ {
 		body, to := at.submission(), []string{p.clients, q.clients}[i%2]
@@ -278,39 +279,40 @@ func TestSignerAtASocket(t *testing.T) {
 	q.signal(syscall.SIGKILL)
 	q.ends()
 	if status, text := post(p.clients, at.submission()); status != 200 {
-		t.Errorf("behind the other's end: %d %s", status, text)
+		t.Errorf("after the other node was killed: %d %s", status, text)
 	}
 	p.signal(syscall.SIGTERM)
 	if status := p.ends(); status != 0 {
-		t.Errorf("it ended with status %d", status)
+		t.Errorf("ctserve ended with status %d", status)
 	}
 	opened, err := signer.OpenKey(at.path("log.pem"))
 	if err != nil {
 		t.Fatal(err)
 	}
-	// (what was refused without a signer, with another's, and until it was found again, may have come in all the same)
+	// Submissions that were refused without the signer may be in the log anyway.
 	if report, err := logcheck.Folder(at.path("log/objects"), opened.Key(), nil); err != nil || report.Leaves < 23 ||
 		report.Leaves > 25+refused || report.Repeats != 0 {
 		t.Errorf("%+v, %v", report, err)
 	}
 }
 
-// TestGuards: a start logs what the log's signing lacks. Without a guard a log signs only if the settings say so.
+// TestGuards checks that a start reports what is missing for signing. A log signs without a guard only if the settings
+// say so.
 func TestGuards(t *testing.T) {
 	t.Parallel()
 	at := newPlace(t)
-	words := at.realWords("--signing-key", at.path("log.pem"), "--create")
+	arguments := at.realArguments("--signing-key", at.path("log.pem"), "--create")
 	lacks := func(what string, more ...string) {
 		t.Helper()
 		for until := time.Now().Add(testutil.Longest); ; {
-			command := exec.Command(os.Args[0], append(append([]string{}, words...), more...)...)
+			command := exec.Command(os.Args[0], append(append([]string{}, arguments...), more...)...)
 			command.Env = append(os.Environ(), childKey+"=1")
-			said, err := command.CombinedOutput()
-			if isLate(string(said)) && time.Now().Before(until) {
+			output, err := command.CombinedOutput()
+			if isLate(string(output)) && time.Now().Before(until) {
 				continue
 			}
-			if err == nil || !strings.Contains(string(said), what) {
-				t.Errorf("%q: %v: %s", more, err, said)
+			if err == nil || !strings.Contains(string(output), what) {
+				t.Errorf("%q: %v: %s", more, err, output)
 			}
 			return
 		}
@@ -318,18 +320,18 @@ func TestGuards(t *testing.T) {
 	lacks(`"no-such-guard" is neither true nor false`, "--guard=no-such-guard")
 	lacks("no valid guard state: there is none", "--create=false")
 	lacks("no such file", "--signing-key", at.path("nowhere"))
-	words = at.realWords("--create")
+	arguments = at.realArguments("--create")
 	lacks("no such file", "--signer-socket", at.path("nowhere"))
-	words = at.realWords("--signing-key", at.path("log.pem"))
-	p := started(t, "", append(words, "--create", "--guard=false")...)
+	arguments = at.realArguments("--signing-key", at.path("log.pem"))
+	p := started(t, "", append(arguments, "--create", "--guard=false")...)
 	if status, text := post(p.clients, at.submission()); status != 200 {
 		t.Errorf("%d %s", status, text)
 	}
 	p.signal(syscall.SIGTERM)
 	if status := p.ends(); status != 0 {
-		t.Errorf("it ended with status %d", status)
+		t.Errorf("ctserve ended with status %d", status)
 	}
-	// A log that was created without the file does not start with a file that has no head of it.
+	// This log had no guard, so a guard whose state is new refuses to start with it.
 	lacks("it is older than the log", "--create")
 }
 

@@ -17,7 +17,7 @@ import (
 	"wagtenib/internal/testutil"
 )
 
-// largeTile is a data tile of so many entries, each of a certificate of so many bytes (C2SP static-ct-api).
+// largeTile returns a data tile of so many entries, each with a certificate of so many bytes (C2SP static-ct-api).
 func largeTile(t *testing.T, entries, bytes int) []byte {
 	t.Helper()
 	var b cryptobyte.Builder
@@ -33,36 +33,36 @@ func largeTile(t *testing.T, entries, bytes int) []byte {
 	return made
 }
 
-// memoryOf is how many bytes a process has had in memory at most.
+// memoryOf returns the maximum number of bytes that a process had in memory.
 func memoryOf(t *testing.T, process int) int64 {
 	t.Helper()
 	text, err := os.ReadFile(fmt.Sprintf("/proc/%d/status", process))
 	testutil.Must(t, err)
 	found := regexp.MustCompile(`VmHWM:\s+(\d+) kB`).FindSubmatch(text)
 	if found == nil {
-		t.Fatalf("it doesn't say how much memory it had: %s", text)
+		t.Fatalf("the process's status has no VmHWM: %s", text)
 	}
-	most, err := strconv.ParseInt(string(found[1]), 10, 64)
+	peak, err := strconv.ParseInt(string(found[1]), 10, 64)
 	testutil.Must(t, err)
-	return most << 10
+	return peak << 10
 }
 
-// TestLargeTileByMany: of many who ask for a tile of the largest entries at once, and read next to nothing of it, again
-// and again, few are answered. The program stays within the memory that its unit has, and another address is answered
-// all the while.
+// TestLargeTileByMany checks what happens if many clients request a tile of the largest entries at the same time, again
+// and again, and read almost nothing of it. Few are answered, the program stays within the memory of its systemd unit,
+// and another address is answered all the time.
 func TestLargeTileByMany(t *testing.T) {
 	t.Parallel()
 	unit, err := os.ReadFile("../../release/systemd/ctserve@.service")
 	testutil.Must(t, err)
 	bound := regexp.MustCompile(`(?m)^MemoryMax=(\d+)G$`).FindSubmatch(unit)
 	if bound == nil {
-		t.Fatal("the unit bounds no memory")
+		t.Fatal("the unit has no MemoryMax")
 	}
 	gigabytes, err := strconv.ParseInt(string(bound[1]), 10, 64)
 	testutil.Must(t, err)
 	at := newPlace(t)
-	words := at.realWords("--signing-key", at.path("log.pem"), "--scrub-interval", "1h")
-	p := started(t, "", append(words, "--create")...)
+	arguments := at.realArguments("--signing-key", at.path("log.pem"), "--scrub-interval", "1h")
+	p := started(t, "", append(arguments, "--create")...)
 	const entries = 5
 	for i := 0; i < entries; i++ {
 		if status, text := post(p.clients, at.submission()); status != 200 {
@@ -76,7 +76,7 @@ func TestLargeTileByMany(t *testing.T) {
 	if int64(addresses*each*len(tile)) < gigabytes<<30 {
 		t.Fatalf("%d tiles of %d bytes are fewer than %d GB", addresses*each, len(tile), gigabytes)
 	}
-	told := map[string]int{}
+	statuses := map[string]int{}
 	for round := 0; round < rounds; round++ {
 		var all, open sync.WaitGroup
 		var mu sync.Mutex
@@ -88,7 +88,7 @@ func TestLargeTileByMany(t *testing.T) {
 				defer all.Done()
 				status := statusOf(p.clients, fmt.Sprintf("127.0.0.%d", 10+i%addresses), path, closes, open.Done)
 				mu.Lock()
-				told[status]++
+				statuses[status]++
 				mu.Unlock()
 			}(i)
 		}
@@ -103,33 +103,33 @@ func TestLargeTileByMany(t *testing.T) {
 		close(closes)
 		all.Wait()
 	}
-	if most := memoryOf(t, p.command.Process.Pid); most >= gigabytes<<30 {
-		t.Errorf("it had %d bytes in memory, and the unit lets it have %d GiB; answered: %v", most, gigabytes, told)
+	if peak := memoryOf(t, p.command.Process.Pid); peak >= gigabytes<<30 {
+		t.Errorf("the process had %d bytes in memory, and the unit allows %d GiB. Answers: %v", peak, gigabytes, statuses)
 	}
-	if told["200"] == 0 || told["429"]+told["503"] == 0 ||
-		told["200"]+told["429"]+told["503"] != addresses*each*rounds {
-		t.Errorf("answered: %v", told)
+	if statuses["200"] == 0 || statuses["429"]+statuses["503"] == 0 ||
+		statuses["200"]+statuses["429"]+statuses["503"] != addresses*each*rounds {
+		t.Errorf("answers: %v", statuses)
 	}
 	p.signal(syscall.SIGTERM)
 	if status := p.ends(); status != 0 {
-		t.Errorf("it ended with status %d", status)
+		t.Errorf("ctserve ended with status %d", status)
 	}
 }
 
-// statusOf requests something over a connection with a small buffer, and reads only the status. Then it reports this,
-// and waits until it may close.
-func statusOf(address, own, path string, closes <-chan struct{}, came func()) string {
-	status, connection := statusAlone(address, own, path)
+// statusOf requests a path over a connection with a small buffer, and reads only the status. Then it calls answered,
+// and waits until it may close the connection.
+func statusOf(address, own, path string, closes <-chan struct{}, answered func()) string {
+	status, connection := readStatus(address, own, path)
 	if connection != nil {
 		defer connection.Close()
 	}
-	came()
+	answered()
 	<-closes
 	return status
 }
 
-func statusAlone(address, own, path string) (string, net.Conn) {
-	takesLittle := func(_, _ string, raw syscall.RawConn) (err error) {
+func readStatus(address, own, path string) (string, net.Conn) {
+	setSmallBuffer := func(_, _ string, raw syscall.RawConn) (err error) {
 		failed := raw.Control(func(socket uintptr) {
 			err = syscall.SetsockoptInt(int(socket), syscall.SOL_SOCKET, syscall.SO_RCVBUF, 4<<10)
 		})
@@ -138,7 +138,7 @@ func statusAlone(address, own, path string) (string, net.Conn) {
 		}
 		return err
 	}
-	connection, err := (&net.Dialer{LocalAddr: &net.TCPAddr{IP: net.ParseIP(own)}, Control: takesLittle}).Dial(
+	connection, err := (&net.Dialer{LocalAddr: &net.TCPAddr{IP: net.ParseIP(own)}, Control: setSmallBuffer}).Dial(
 		"tcp", address)
 	if err != nil {
 		return err.Error(), nil

@@ -29,51 +29,52 @@ import (
 	"wagtenib/internal/version"
 )
 
-// opened is a log that was opened.
+// opened is an open log, with all that a front needs of it.
 type opened struct {
 	log loginterface.Log
-	// proofs makes proofs from its tiles, and cutter a precertificate's entry.
+	// proofs makes proofs from its tiles, and cutter cuts the poison out of precertificates.
 	proofs *tile.Prover
 	cutter chains.Cutter
-	// nodes returns the handler of what other nodes forward, forward forwards to them, and secured has the certificates
-	// for both. All are nil if the log has one node.
+	// nodes returns the handler for submissions that other nodes forward, forward forwards to them, and secured has the
+	// certificates for both. All are nil if the log has one node.
 	nodes   func(front http.Handler) http.Handler
 	forward httpserver.Forwarder
 	secured *secured
 	key     []byte
 	// putEntry puts the log's entry for a log list into the store. It is nil unless the log is read from there.
 	putEntry func(ctx context.Context, entry []byte) error
-	// calls has counted what the stores were asked.
+	// calls counts the calls of the stores.
 	calls *stores.Calls
-	// close closes what the log uses.
+	// close closes the stores, the signer and the connections to other nodes.
 	close func()
 }
 
 type opener func(context.Context, node) (*opened, error)
 
-// looksEvery is the time between two checks of the log for something that an operator must know.
-const looksEvery = time.Second
+// faultLogInterval is the time between two checks of the log for faults.
+const faultLogInterval = time.Second
 
 func main() {
 	setCollectorLimits()
 	os.Exit(run(os.Args[1:], os.Stderr, openNode))
 }
 
-// statusSetBack is the status of a start that is refused, and will be until an operator has looked at the log's stores.
-const statusSetBack = 3
+// statusRolledBack is the exit status of a start that is refused until an operator repairs the log's stores.
+const statusRolledBack = 3
 
-// run serves until a signal ends it, and gives the status: 0 at an end in order, 1 at another, 2 where the words aren't
-// ones, statusSetBack where the log, or its guard's state, is gone or older than it was, or the places aren't its.
-func run(words []string, to io.Writer, open opener) int {
+// run serves until a signal ends it, and returns the exit status. It is 0 after an orderly end, 1 after a fault, and 2
+// if the arguments are wrong. It is statusRolledBack if the lock, the index or the guard's state is missing, damaged or
+// older than the log.
+func run(arguments []string, to io.Writer, open opener) int {
 	switch {
-	case version.Asked(words):
+	case version.Asked(arguments):
 		return runVersion(os.Stdout)
-	case len(words) > 0 && words[0] == "signer":
-		return runSigner(words[1:], os.Stdin, os.Stdout, to)
-	case len(words) > 0 && commands[words[0]] != nil:
-		return runCommand(words[0], words[1:], os.Stdout, to)
+	case len(arguments) > 0 && arguments[0] == "signer":
+		return runSigner(arguments[1:], os.Stdin, os.Stdout, to)
+	case len(arguments) > 0 && commands[arguments[0]] != nil:
+		return runCommand(arguments[0], arguments[1:], os.Stdout, to)
 	}
-	s, err := parse(words, to)
+	s, err := parse(arguments, to)
 	if status, ends := settingsfile.Ends(err, to); ends {
 		return status
 	}
@@ -87,7 +88,7 @@ func run(words []string, to io.Writer, open opener) int {
 	if err := serveLog(s, lines, signals, open); err != nil {
 		lines.Error("end", "fault", err)
 		if logservice.NeedsOperator(err) {
-			return statusSetBack
+			return statusRolledBack
 		}
 		return 1
 	}
@@ -95,9 +96,9 @@ func run(words []string, to io.Writer, open opener) int {
 	return 0
 }
 
-// surviveReader has a write to standard error fail once nobody reads it any more, instead of ending this process by
-// SIGPIPE: the log must go on without its lines. The signal is caught and not ignored, since what is ignored would be
-// so in the programs that this process starts.
+// surviveReader keeps SIGPIPE from ending this process if nothing reads its standard error any more. Then a write to it
+// fails, and the log goes on without its lines. The signal is caught and not ignored, because the programs that this
+// process starts would ignore it, too.
 func surviveReader() { signal.Notify(make(chan os.Signal, 1), syscall.SIGPIPE) }
 
 // serveLog opens the log of the settings, and serves it until a signal ends it or a server fails.
@@ -106,7 +107,7 @@ func serveLog(s *settings, lines *httpserver.Lines, signals <-chan os.Signal, op
 	if err != nil {
 		return err
 	}
-	tellLeftOut(roots, lines)
+	logLeftOut(roots, lines)
 	certificate, over, err := s.loadCertificate()
 	if err != nil {
 		return err
@@ -134,11 +135,13 @@ func serveLog(s *settings, lines *httpserver.Lines, signals <-chan os.Signal, op
 	servers, ending := serversOf(s, of, front, over), os.Signal(nil)
 	if err = listen(servers, lines); err == nil {
 		failed := start(servers)
-		tellHead(s, of.log, lines)
-		telling, stop := context.WithCancel(context.Background())
+		logHead(s, of.log, lines)
+		ctx, stop := context.WithCancel(context.Background())
 		defer stop()
-		go front.Tell(telling, looksEvery)
-		ending, err = wait(func() { reload(s, front, checker, []*httpserver.Certificate{certificate, of.secured.its()}, lines) },
+		go front.LogFaults(ctx, faultLogInterval)
+		ending, err = wait(func() {
+			reload(s, front, checker, []*httpserver.Certificate{certificate, of.secured.nodeCertificate()}, lines)
+		},
 			signals, failed)
 	}
 	// From now on another signal ends the process. The end is logged after that.
@@ -160,11 +163,11 @@ func putEntry(s *settings, of *opened, entry []byte) error {
 	return of.putEntry(ctx, entry)
 }
 
-// lookForHead is how often awaitHead looks. Each look is a request to the store, and a node makes its first round a
-// second after its start at the latest.
-const lookForHead = 100 * time.Millisecond
+// headInterval is the interval at which awaitHead looks for a head. Each look is a request to the store. A node makes
+// its first round at most a second after its start.
+const headInterval = 100 * time.Millisecond
 
-// awaitHead waits for the first head of a log, for as long as a reading may take.
+// awaitHead waits for the first head of a log, but not longer than a read may take.
 func awaitHead(s *settings, of loginterface.Log) {
 	ctx, cancel := context.WithTimeout(context.Background(), s.limits.Reading)
 	defer cancel()
@@ -173,22 +176,22 @@ func awaitHead(s *settings, of loginterface.Log) {
 			return
 		}
 		select {
-		case <-time.After(lookForHead):
+		case <-time.After(headInterval):
 		case <-ctx.Done():
 			return
 		}
 	}
 }
 
-// tellLeftOut logs which certificates in the files of roots are not roots of the log.
-func tellLeftOut(roots *chains.Roots, lines *httpserver.Lines) {
+// logLeftOut logs the certificates in the files of roots that are not roots of the log.
+func logLeftOut(roots *chains.Roots, lines *httpserver.Lines) {
 	for _, each := range roots.LeftOut() {
 		lines.Warn("root-left-out", "root", each)
 	}
 }
 
-// tellHead logs the published head at a start.
-func tellHead(s *settings, of loginterface.Log, lines *httpserver.Lines) {
+// logHead logs the newest published head at the start.
+func logHead(s *settings, of loginterface.Log, lines *httpserver.Lines) {
 	ctx, cancel := context.WithTimeout(context.Background(), s.limits.Reading)
 	defer cancel()
 	head, err := of.Checkpoint(ctx)
@@ -201,13 +204,13 @@ func tellHead(s *settings, of loginterface.Log, lines *httpserver.Lines) {
 		"head_of", time.UnixMilli(int64(head.Timestamp)).UTC().Format(time.RFC3339))
 }
 
-// wait has everything reloaded at SIGHUP, and returns at a signal that ends, which it gives, or if a server fails. A
-// file that can't be read for long, as on a network's disk, must not keep it from ending.
+// wait calls reload at SIGHUP. It returns the first other signal, or the error of a server that fails. A reload may
+// hang for long, for example on a network disk, and must not keep the program from ending, so it runs in a goroutine.
 func wait(reload func(), signals <-chan os.Signal, failed <-chan error) (os.Signal, error) {
-	reloaded, reloads, again := make(chan struct{}, 1), false, false
+	reloaded, isReloading, isRequested := make(chan struct{}, 1), false, false
 	for {
-		if again && !reloads {
-			reloads, again = true, false
+		if isRequested && !isReloading {
+			isReloading, isRequested = true, false
 			go func() {
 				reload()
 				reloaded <- struct{}{}
@@ -217,18 +220,19 @@ func wait(reload func(), signals <-chan os.Signal, failed <-chan error) (os.Sign
 		case err := <-failed:
 			return nil, err
 		case <-reloaded:
-			reloads = false
-		case came := <-signals:
-			if came != syscall.SIGHUP {
-				return came, nil
+			isReloading = false
+		case received := <-signals:
+			if received != syscall.SIGHUP {
+				return received, nil
 			}
-			again = true
+			isRequested = true
 		}
 	}
 }
 
-// reload reads the roots and the certificate again, and logs the result.
-func reload(s *settings, front *httpserver.Front, checker *chains.Checker, certificates []*httpserver.Certificate, lines *httpserver.Lines) {
+// reload reads the roots and the certificates again, and logs the results.
+func reload(s *settings, front *httpserver.Front, checker *chains.Checker, certificates []*httpserver.Certificate,
+	lines *httpserver.Lines) {
 	reloaded := func(of string, err error, more ...any) {
 		front.Reloaded(of, err)
 		if err != nil {
@@ -241,7 +245,7 @@ func reload(s *settings, front *httpserver.Front, checker *chains.Checker, certi
 		added, removed, err := checker.Reload(s.roots)
 		reloaded("roots", err, "roots", len(checker.Roots().Certificates()), "added", added, "removed", removed)
 		if err == nil {
-			tellLeftOut(checker.Roots(), lines)
+			logLeftOut(checker.Roots(), lines)
 		}
 	}
 	for at, name := range []string{"certificate", "nodes-certificate"} {

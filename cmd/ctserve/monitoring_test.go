@@ -6,15 +6,15 @@ import (
 	"testing"
 )
 
-// TestMonitoringURL: a log may be read at another host than it is submitted to. The submission prefix is that of the
-// origin, whatever the settings say.
+// TestMonitoringURL checks that a log's monitoring prefix may have another host than its submission prefix, which
+// always follows from the origin.
 func TestMonitoringURL(t *testing.T) {
 	_, file := settingsFile(t, "monitoring-url https://read.example/a/2027h1/")
-	status, said, told := does("list-entry", "--config", file, "--operator", "o", "--email", "e")
+	status, stdout, stderr := does("list-entry", "--config", file, "--operator", "o", "--email", "e")
 	for _, want := range []string{`"submission_url": "https://log.example/2027h1/",`,
 		`"monitoring_url": "https://read.example/a/2027h1/",`} {
-		if status != 0 || !strings.Contains(said, want) {
-			t.Errorf("status %d, without %s: %s%s", status, want, said, told)
+		if status != 0 || !strings.Contains(stdout, want) {
+			t.Errorf("status %d, without %s: %s%s", status, want, stdout, stderr)
 		}
 	}
 	s, err := parse([]string{"--config", file}, io.Discard)
@@ -30,7 +30,7 @@ func TestMonitoringURL(t *testing.T) {
 		"https://read.example/#/", ":"} {
 		if _, err := parse([]string{"--roots", "r", "--origin", "o.example", "--signing-key", "k", "--monitoring-url",
 			address}, io.Discard); err == nil ||
-			!strings.Contains(err.Error(), "is no https URL that ends with a slash") {
+			!strings.Contains(err.Error(), "is not an https URL that ends with a slash") {
 			t.Errorf("%q: %v", address, err)
 		}
 	}

@@ -20,20 +20,20 @@ import (
 	"wagtenib/internal/testutil"
 )
 
-// nginxFound is the program, without which nothing of this is tried.
+// nginxFound returns the path of nginx. It skips the test if nginx is not installed.
 func nginxFound(t *testing.T) string {
 	t.Helper()
 	nginx, err := exec.LookPath("nginx")
 	if err != nil {
 		if nginx = "/usr/sbin/nginx"; !isThere(nginx) {
-			t.Skip("nginx isn't installed")
+			t.Skip("nginx is not installed")
 		}
 	}
 	return nginx
 }
 
-// exampleSite is the example configuration that operators copy, with each of these texts replaced. A text that it does
-// not have fails the test.
+// exampleSite returns the example configuration that operators copy. The replacements are pairs of an old and a new
+// text. If the example does not have an old text, the test fails.
 func exampleSite(t *testing.T, replacements ...string) string {
 	t.Helper()
 	text, err := os.ReadFile("../../release/nginx/ctserve.nginx.conf")
@@ -48,8 +48,8 @@ func exampleSite(t *testing.T, replacements ...string) string {
 	return site
 }
 
-// siteInClear is the example without TLS: nginx listens at one address, ctserve at another, tiles are kept in a folder,
-// and one address may have so many requests at once.
+// siteInClear returns the example without TLS. nginx listens at one address, ctserve at another, tiles are cached in a
+// folder, and one address may have so many requests at once.
 func siteInClear(t *testing.T, address, clients, cache string, atOnce int) string {
 	t.Helper()
 	return exampleSite(t,
@@ -61,13 +61,13 @@ func siteInClear(t *testing.T, address, clients, cache string, atOnce int) strin
 		"limit_conn ctserve_clients 64;", fmt.Sprintf("limit_conn ctserve_clients %d;", atOnce))
 }
 
-// nginxWith starts nginx with a site, and waits until it answers at an address, whatever it does.
+// nginxWith starts nginx with a site, and waits until it accepts connections at an address.
 func nginxWith(t *testing.T, site, address string) {
 	t.Helper()
 	nginxHaving(t, site, address, "events {}")
 }
 
-// nginxHaving starts nginx with a site, and with additional lines of its own.
+// nginxHaving starts nginx with a site, and with additional lines in the main part of its configuration.
 func nginxHaving(t *testing.T, site, address, main string) {
 	t.Helper()
 	nginx, folder := nginxFound(t), t.TempDir()
@@ -75,7 +75,7 @@ func nginxHaving(t *testing.T, site, address, main string) {
 	for _, kind := range []string{"client_body", "proxy", "fastcgi", "uwsgi", "scgi"} {
 		paths += fmt.Sprintf("%s_temp_path %s/%s;\n", kind, folder, kind)
 	}
-	// (as Debian's own does, nginx writes down who asks where a site doesn't say otherwise)
+	// As in Debian's configuration, nginx logs the addresses of clients unless a site turns that off.
 	whole := fmt.Sprintf("daemon off; pid %s/pid; error_log stderr; %s\nhttp { access_log %s/access.log;\n%s%s}\n",
 		folder, main, folder, paths, site)
 	conf := filepath.Join(folder, "nginx.conf")
@@ -83,17 +83,17 @@ func nginxHaving(t *testing.T, site, address, main string) {
 		t.Fatal(err)
 	}
 	if os.Getuid() == 0 {
-		// Its workers are of another user.
+		// Its workers run as another user.
 		if err := os.Chmod(filepath.Dir(folder), 0o711); err != nil {
 			t.Fatal(err)
 		}
 	}
-	if said, err := exec.Command(nginx, "-t", "-p", folder, "-c", conf).CombinedOutput(); err != nil {
-		t.Fatalf("nginx -t: %s", said)
+	if output, err := exec.Command(nginx, "-t", "-p", folder, "-c", conf).CombinedOutput(); err != nil {
+		t.Fatalf("nginx -t: %s", output)
 	}
-	var said bytes.Buffer
+	var output bytes.Buffer
 	command := exec.Command(nginx, "-p", folder, "-c", conf)
-	command.Stderr = &said
+	command.Stderr = &output
 	if err := command.Start(); err != nil {
 		t.Fatal(err)
 	}
@@ -101,7 +101,7 @@ func nginxHaving(t *testing.T, site, address, main string) {
 		command.Process.Signal(syscall.SIGTERM)
 		command.Wait()
 		if written, err := os.ReadFile(filepath.Join(folder, "access.log")); err != nil || len(written) > 0 {
-			t.Errorf("nginx writes down who asks: %v %.300s", err, written)
+			t.Errorf("nginx logs the addresses of clients: %v %.300s", err, written)
 		}
 	})
 	for until := time.Now().Add(testutil.Longest); ; time.Sleep(20 * time.Millisecond) {
@@ -110,12 +110,12 @@ func nginxHaving(t *testing.T, site, address, main string) {
 			return
 		}
 		if time.Now().After(until) {
-			t.Fatalf("nginx doesn't answer: %s", said.String())
+			t.Fatalf("nginx does not answer: %s", output.String())
 		}
 	}
 }
 
-// nginxBefore starts nginx in front of a log, without TLS, by the example, and returns nginx's address. One address may
+// nginxBefore starts nginx in front of a log with the example without TLS, and returns nginx's address. One address may
 // have so many requests at once.
 func nginxBefore(t *testing.T, clients string, atOnce int) string {
 	t.Helper()
@@ -125,24 +125,24 @@ func nginxBefore(t *testing.T, clients string, atOnce int) string {
 	return address
 }
 
-// TestFolderOfTiles: Debian's nginx can create the folder in which the example keeps tiles. nginx creates only that
-// folder, and none above it.
+// TestFolderOfTiles checks that Debian's nginx can create the folder in which the example caches tiles. nginx creates
+// only that folder, and none above it.
 func TestFolderOfTiles(t *testing.T) {
 	nginxFound(t)
 	if !isThere("/etc/nginx/nginx.conf") {
-		t.Skip("it isn't Debian's nginx")
+		t.Skip("nginx is not that of Debian")
 	}
 	cache := regexp.MustCompile(`(?m)^proxy_cache_path (\S+) `).FindStringSubmatch(exampleSite(t))
 	if cache == nil {
-		t.Fatal("the example keeps no tiles")
+		t.Fatal("the example caches no tiles")
 	}
 	if above := filepath.Dir(cache[1]); !isThere(above) {
-		t.Errorf("%s isn't there", above)
+		t.Errorf("the folder %s does not exist", above)
 	}
 }
 
-// TestExampleHasTheDefaults: the numbers of the example are those of ctserve's defaults, and nginx closes an idle
-// connection well before ctserve does.
+// TestExampleHasTheDefaults checks that the example has the numbers of ctserve's defaults, and that nginx closes an
+// idle connection well before ctserve does.
 func TestExampleHasTheDefaults(t *testing.T) {
 	site, limits := exampleSite(t), httpserver.DefaultLimits()
 	defaults, err := parse([]string{"--roots", "a", "--origin", "b", "--signing-key", "c"}, io.Discard)
@@ -166,11 +166,12 @@ func TestExampleHasTheDefaults(t *testing.T) {
 	}
 }
 
-// TestExampleOverTLS: the example, with other addresses and folders, answers the log's calls with HTTP/2 over TLS.
+// TestExampleOverTLS checks that nginx with the example, except for addresses and folders, answers the log's calls with
+// HTTP/2 over TLS.
 func TestExampleOverTLS(t *testing.T) {
 	nginxFound(t)
 	at, address := newPlace(t), testutil.Free(t)
-	p := started(t, "20ms", at.words("--trusted-proxies", "127.0.0.1")...)
+	p := started(t, "20ms", at.arguments("--trusted-proxies", "127.0.0.1")...)
 	certificate, key, err := at.authority.KeyPair()
 	testutil.Must(t, err)
 	at.write("log.example.pem", certificate)
@@ -194,17 +195,17 @@ func TestExampleOverTLS(t *testing.T) {
 	}
 }
 
-// Behind nginx: submissions and reading go through, tiles are kept by nginx and refusals aren't, and a client is
-// counted by its own address.
+// TestBehindNginx checks that nginx passes submissions and reads on, that it caches tiles but no refusals, and that a
+// client is counted by its own address.
 func TestBehindNginx(t *testing.T) {
 	at := newPlace(t)
-	p := started(t, "20ms", at.words("--trusted-proxies", "127.0.0.1", "--max-connections-per-address", "1",
+	p := started(t, "20ms", at.arguments("--trusted-proxies", "127.0.0.1", "--max-connections-per-address", "1",
 		"--log-requests")...)
 	address := nginxBefore(t, p.clients, 64)
 	if status, text := post(address, at.submission()); status != 200 {
 		t.Fatalf("%d %s", status, text)
 	}
-	// A body in chunks comes as one with a length.
+	// nginx passes a body in chunks on as one with a length.
 	request, _ := http.NewRequest("POST", "http://"+address+"/ct/v1/add-chain",
 		io.MultiReader(bytes.NewReader(at.submission())))
 	if answer, err := http.DefaultClient.Do(request); err != nil || answer.StatusCode != 200 {
@@ -237,10 +238,10 @@ func TestBehindNginx(t *testing.T) {
 	}
 	// Whatever the query and the accepted encodings are, it is the same tile.
 	plain := http.Client{Transport: &http.Transport{DisableCompression: true}}
-	for i, takes := range []string{"", "gzip", "br", "gzip, br", "identity"} {
+	for i, accepts := range []string{"", "gzip", "br", "gzip, br", "identity"} {
 		request, _ := http.NewRequest("GET", fmt.Sprintf("http://%s/tile/data/000.p/2?%d", address, i), nil)
-		if takes != "" {
-			request.Header.Set("Accept-Encoding", takes)
+		if accepts != "" {
+			request.Header.Set("Accept-Encoding", accepts)
 		}
 		answer, err := plain.Do(request)
 		if err != nil {
@@ -248,11 +249,11 @@ func TestBehindNginx(t *testing.T) {
 		}
 		answer.Body.Close()
 		if packed := answer.Header.Get("Content-Encoding") == "gzip"; answer.StatusCode != 200 ||
-			packed != strings.Contains(takes, "gzip") {
-			t.Errorf("to who takes %q: %d %v", takes, answer.StatusCode, answer.Header)
+			packed != strings.Contains(accepts, "gzip") {
+			t.Errorf("to a client that accepts %q: %d %v", accepts, answer.StatusCode, answer.Header)
 		}
 	}
-	// Its parts are the same too.
+	// A range of the tile is the same, too.
 	_, whole := get(address, "/tile/data/000.p/2")
 	request, _ = http.NewRequest("GET", "http://"+address+"/tile/data/000.p/2", nil)
 	request.Header.Set("Range", "bytes=7-20")
@@ -266,7 +267,7 @@ func TestBehindNginx(t *testing.T) {
 	}
 	if _, text := get(p.operator, "/metrics"); !strings.Contains(text,
 		`ctserve_requests_total{call="tile",status="404"} 3`+"\n") {
-		t.Error("a tile that isn't there is kept as one")
+		t.Error("the refusal of a missing tile is cached")
 	}
 	// An address that a client claims is ignored: nginx says 127.0.0.1.
 	request, _ = http.NewRequest("GET", "http://"+address+"/ct/v1/get-roots", nil)
@@ -287,15 +288,15 @@ func TestBehindNginx(t *testing.T) {
 	}
 }
 
-// TestBentTileBehindNginx: a full tile that was damaged on the disk is a 503 through nginx too. nginx caches neither
-// that nor the damaged tile. After the tile is repaired, nginx serves and caches it, whatever happens to the disk
-// later.
-func TestBentTileBehindNginx(t *testing.T) {
+// TestDamagedTileBehindNginx checks that a full tile that was damaged on the disk is answered with 503 through nginx
+// too. nginx caches neither that answer nor the damaged tile. After the tile is repaired, nginx serves and caches it,
+// whatever happens to the disk later.
+func TestDamagedTileBehindNginx(t *testing.T) {
 	t.Parallel()
 	at := newPlace(t)
-	words := at.realWords("--signing-key", at.path("log.pem"), "--trusted-proxies", "127.0.0.1", "--scrub-interval",
-		"1h", "--interval", "500ms", "--max-connections-per-address", "500")
-	p := started(t, "", append(words, "--create")...)
+	arguments := at.realArguments("--signing-key", at.path("log.pem"), "--trusted-proxies", "127.0.0.1",
+		"--scrub-interval", "1h", "--interval", "500ms", "--max-connections-per-address", "500")
+	p := started(t, "", append(arguments, "--create")...)
 	address := nginxBefore(t, p.clients, 64)
 	const atOnce = 257
 	bodies, failed := [][]byte{}, make(chan string, atOnce)
@@ -335,26 +336,26 @@ func TestBentTileBehindNginx(t *testing.T) {
 		if err != nil {
 			t.Fatal(err)
 		}
-		bent := append([]byte{}, right...)
-		bent[20] ^= 1
-		at.write("log/objects/"+name, bent)
+		damaged := append([]byte{}, right...)
+		damaged[20] ^= 1
+		at.write("log/objects/"+name, damaged)
 		for try := 0; try < 3; try++ {
 			if status, text := get(address, "/"+name); status != 503 || !strings.Contains(text, `"store"`) {
-				t.Errorf("%s, bent: %d %.80q", name, status, text)
+				t.Errorf("%s, damaged: %d %.80q", name, status, text)
 			}
 		}
 		if asked += 3; refused() != asked {
 			t.Errorf("%s: the log refused %d times, and was asked %d times", name, refused(), asked)
 		}
 		at.write("log/objects/"+name, right)
-		for _, now := range [][]byte{right, bent} {
+		for _, now := range [][]byte{right, damaged} {
 			at.write("log/objects/"+name, now)
 			if status, text := get(address, "/"+name); status != 200 || text != string(right) {
-				t.Errorf("%s, put right: %d", name, status)
+				t.Errorf("%s, after it was repaired: %d", name, status)
 			}
 		}
 		if status, _ := get(p.clients, "/"+name); status != 503 {
-			t.Errorf("%s, bent once more, from the log itself: %d", name, status)
+			t.Errorf("%s, damaged again, from the log itself: %d", name, status)
 		}
 		asked++
 		at.write("log/objects/"+name, right)

@@ -13,16 +13,16 @@ import (
 	"wagtenib/internal/testutil"
 )
 
-// defaults are the settings that --help lists, with what it says of each; a setting whose default isn't said has none.
-func defaults(t *testing.T, words ...string) map[string]string {
+// defaults returns the settings that --help lists, each with its help text, which has the default if there is one.
+func defaults(t *testing.T, arguments ...string) map[string]string {
 	t.Helper()
 	var help bytes.Buffer
-	if len(words) == 0 {
+	if len(arguments) == 0 {
 		if _, err := parse([]string{"--help"}, &help); err == nil {
 			t.Fatal("no help")
 		}
 	} else {
-		run(words, &help, openNode)
+		run(arguments, &help, openNode)
 	}
 	found := map[string]string{}
 	for _, part := range regexp.MustCompile(`(?m)^  -`).Split(help.String(), -1)[1:] {
@@ -32,18 +32,18 @@ func defaults(t *testing.T, words ...string) map[string]string {
 	return found
 }
 
-// TestPagesNameSettings: each setting that docs/OPERATING.md and INCIDENTS.md name exists, and has the default that
-// they state.
+// TestPagesNameSettings checks that each setting that docs/OPERATING.md and INCIDENTS.md name exists, and has the
+// default that they state.
 func TestPagesNameSettings(t *testing.T) {
 	settings := defaults(t)
-	for name, said := range defaults(t, "signer", "--help") {
+	for name, help := range defaults(t, "signer", "--help") {
 		if settings[name] == "" {
-			settings[name] = said
+			settings[name] = help
 		}
 	}
 	for _, name := range []string{"listen", "max-write-rate", "guard-state", "require-synchronized-clock"} {
 		if settings[name] == "" {
-			t.Fatalf("--help doesn't list %s: %d settings", name, len(settings))
+			t.Fatalf("--help does not list %s: %d settings", name, len(settings))
 		}
 	}
 	// These have a hyphen and are not settings.
@@ -66,7 +66,7 @@ func TestPagesNameSettings(t *testing.T) {
 			}
 		}
 	}
-	for _, said := range []struct{ name, onPage, standard string }{
+	for _, stated := range []struct{ name, onPage, inHelp string }{
 		{"operator-listen", "`operator-listen` (127.0.0.1:8619;", `default "127.0.0.1:8619"`},
 		{"max-connections-per-address",
 			"64 connections at once, or 64 requests at once through nginx (`max-connections-per-address`)",
@@ -83,16 +83,16 @@ func TestPagesNameSettings(t *testing.T) {
 		{"interval", "| 50 ms, the default with witnesses and with stores on other machines |",
 			"By default, 50ms with witnesses and with stores on other machines"},
 	} {
-		if !strings.Contains(whole, said.onPage) {
-			t.Errorf("the pages don't say %q", said.onPage)
+		if !strings.Contains(whole, stated.onPage) {
+			t.Errorf("the pages do not say %q", stated.onPage)
 		}
-		if !strings.Contains(settings[said.name], said.standard) {
-			t.Errorf("%s isn't %s: %s", said.name, said.standard, settings[said.name])
+		if !strings.Contains(settings[stated.name], stated.inHelp) {
+			t.Errorf("the help of %s does not say %s: %s", stated.name, stated.inHelp, settings[stated.name])
 		}
 	}
 }
 
-// TestPageSaysBounds: the bounds that docs/SERVICE.md says of the program are those that are here.
+// TestPageSaysBounds checks that docs/SERVICE.md states the limits that are the program's defaults.
 func TestPageSaysBounds(t *testing.T) {
 	s, err := parse([]string{"--roots", "r", "--origin", "o.example", "--signing-key", "k"}, &bytes.Buffer{})
 	testutil.Must(t, err)
@@ -100,12 +100,12 @@ func TestPageSaysBounds(t *testing.T) {
 		"more than `max-write-rate` allows in a second (16 MiB)": s.node.maxWritten == 16<<20,
 	})
 	if s.node.maxProofs != 64 || s.limits.ProofsByAddress != 16 {
-		t.Errorf("%d proofs at once, of one address %d", s.node.maxProofs, s.limits.ProofsByAddress)
+		t.Errorf("the limits are %d proofs at once, and %d of one address", s.node.maxProofs, s.limits.ProofsByAddress)
 	}
 }
 
-// TestScraped: Prometheus's configuration reads a log's metrics, with the job name of the alert rules, and includes the
-// rules.
+// TestScraped checks that Prometheus's configuration reads a log's metrics with the job name of the alert rules, and
+// includes the rules.
 func TestScraped(t *testing.T) {
 	s, err := parse([]string{"--roots", "r", "--origin", "o.example", "--signing-key", "k"}, &bytes.Buffer{})
 	testutil.Must(t, err)
@@ -113,7 +113,7 @@ func TestScraped(t *testing.T) {
 	testutil.Must(t, err)
 	jobs := regexp.MustCompile(`job="(\w+)"`).FindAllSubmatch(rules, -1)
 	if len(jobs) == 0 {
-		t.Fatal("no alarm names a job")
+		t.Fatal("no alert names a job")
 	}
 	settings := testutil.Page(t, "../../release/prometheus/prometheus.yml")
 	testutil.Says(t, settings, map[string]bool{
@@ -123,7 +123,7 @@ func TestScraped(t *testing.T) {
 	})
 	for _, job := range jobs {
 		if string(job[1]) != string(jobs[0][1]) {
-			t.Errorf("one alarm is of %s, and another of %s", jobs[0][1], job[1])
+			t.Errorf("one alert is of %s, and another of %s", jobs[0][1], job[1])
 		}
 	}
 	testutil.Says(t, testutil.Page(t, "../../docs/OPERATING.md"), map[string]bool{
@@ -131,8 +131,9 @@ func TestScraped(t *testing.T) {
 	})
 }
 
-// TestUnit: the systemd unit waits for longer than an end takes. It does not restart a log with wrong settings or
-// rolled back stores. It allows as many connections as ctserve accepts, and starts after the clock is synchronized.
+// TestUnit checks that the systemd unit waits for longer than an end takes, and does not restart a log with wrong
+// settings or rolled back stores. It must allow as many connections as ctserve accepts, and start after the clock is
+// synchronized.
 func TestUnit(t *testing.T) {
 	text, err := os.ReadFile("../../release/systemd/ctserve@.service")
 	testutil.Must(t, err)
@@ -146,20 +147,20 @@ func TestUnit(t *testing.T) {
 	testutil.Must(t, err)
 	seconds, err := time.ParseDuration(unit["TimeoutStopSec"] + "s")
 	if err != nil || seconds <= s.endWithin {
-		t.Errorf("systemd kills it behind %v, %v, and an end takes up to %v", seconds, err, s.endWithin)
+		t.Errorf("systemd kills it after %v, %v, and an end takes up to %v", seconds, err, s.endWithin)
 	}
 	var files, memory int
 	if _, err := fmt.Sscanf(unit["LimitNOFILE"]+" "+unit["MemoryMax"], "%d %dG", &files, &memory); err != nil ||
 		files < 2*s.limits.Connections {
 		t.Errorf("%d files, %v, for %d connections", files, err, s.limits.Connections)
 	}
-	// (beside what a log of any size holds)
+	// Half of the memory is for what a log needs apart from answers and submissions.
 	if wanted := s.limits.AnswerBytes + s.limits.WaitingBytes; int64(memory)<<30 < 2*wanted {
-		t.Errorf("%d GiB of memory, and answers and submissions alone have %d bytes", memory, wanted)
+		t.Errorf("%d GiB of memory, and answers and submissions may have %d bytes", memory, wanted)
 	}
-	if wanted := fmt.Sprint(2, statusSetBack); unit["RestartPreventExitStatus"] != wanted ||
+	if wanted := fmt.Sprint(2, statusRolledBack); unit["RestartPreventExitStatus"] != wanted ||
 		unit["Restart"] != "always" {
-		t.Errorf("it is started anew behind all but %q, and not %q", unit["RestartPreventExitStatus"], wanted)
+		t.Errorf("the unit restarts it except after %q, and not %q", unit["RestartPreventExitStatus"], wanted)
 	}
 	for _, name := range []string{"After", "Wants"} {
 		if !strings.Contains(unit[name], "time-sync.target") {
@@ -167,7 +168,7 @@ func TestUnit(t *testing.T) {
 		}
 	}
 	testutil.Says(t, testutil.Page(t, "../../docs/OPERATING.md"), map[string]bool{
-		"ends with status 3, and the unit does not start the log again": statusSetBack == 3,
+		"ends with status 3, and the unit does not start the log again": statusRolledBack == 3,
 		"A setting with an unknown name ends a start with status 2": run([]string{"--no-such-word"}, &bytes.Buffer{},
 			openNode) == 2,
 	})

@@ -17,7 +17,8 @@ import (
 type peers struct {
 	// listen is the address for the other nodes, and address the URL at which they reach this one.
 	listen, address string
-	// certificate and key are this node's, and authority is the CA of all nodes: files in PEM.
+	// certificate and key are the files with this node's certificate and key in PEM, and authority is that with the CA
+	// of all nodes.
 	certificate, key, authority string
 }
 
@@ -39,7 +40,7 @@ func (p *peers) flags(flags *flag.FlagSet) {
 // isSet reports whether the log has several nodes.
 func (p *peers) isSet() bool { return p.address != "" }
 
-// check returns an error unless the settings go together.
+// check returns an error unless all settings of nodes are set and right, or none is set.
 func (p *peers) check() error {
 	given := 0
 	all := []string{p.listen, p.address, p.certificate, p.key, p.authority}
@@ -65,7 +66,7 @@ func (p *peers) check() error {
 	return err
 }
 
-// maxNodeAddress is how many bytes a node's address may have, since the lock's text has it.
+// maxNodeAddress is the maximum number of bytes of a node's address, which is part of the lock's text.
 const maxNodeAddress = 200
 
 // load reads the files.
@@ -86,14 +87,14 @@ func (p *peers) load() (*httpserver.Certificate, *x509.CertPool, error) {
 	return certificate, pool, nil
 }
 
-// secured are the configurations of TLS between the nodes: of the one that listens, and of the one that forwards. Both
-// ask for a certificate of the CA.
+// secured has the TLS configurations between nodes: for a node that listens, and for one that forwards. Both require a
+// certificate of the CA.
 type secured struct {
 	certificate    *httpserver.Certificate
 	listens, dials *tls.Config
 }
 
-// secure returns the configurations of TLS, or nil if the log has one node.
+// secure returns the TLS configurations, or nil if the log has one node.
 func (p *peers) secure() (*secured, error) {
 	if !p.isSet() {
 		return nil, nil
@@ -111,8 +112,8 @@ func (p *peers) secure() (*secured, error) {
 	return &secured{certificate, listens, dials}, nil
 }
 
-// its returns the node's certificate, or nil if the log has one node.
-func (s *secured) its() *httpserver.Certificate {
+// nodeCertificate returns the node's certificate, or nil if the log has one node.
+func (s *secured) nodeCertificate() *httpserver.Certificate {
 	if s == nil {
 		return nil
 	}

@@ -75,7 +75,7 @@ func (a *nodesAuthority) issue(p *place, name string) {
 	p.write(name+".key", pem.EncodeToMemory(&pem.Block{Type: "PRIVATE KEY", Bytes: private}))
 }
 
-// freeAddress returns an address of this machine at which nobody listens.
+// freeAddress returns an address of this machine at which no process listens.
 func freeAddress(t *testing.T) string {
 	t.Helper()
 	l, err := net.Listen("tcp", "127.0.0.1:0")
@@ -86,14 +86,14 @@ func freeAddress(t *testing.T) string {
 	return l.Addr().String()
 }
 
-// nodeWords are the settings of a node among others.
-func (p *place) nodeWords(name, address string) []string {
+// nodeArguments returns the arguments of a node of a log with several nodes.
+func (p *place) nodeArguments(name, address string) []string {
 	return []string{"--nodes-listen", address, "--nodes-address", "https://" + address, "--nodes-certificate",
 		p.path(name + ".pem"), "--nodes-key", p.path(name + ".key"),
 		"--nodes-ca", p.path("nodes.pem"), "--latest-head", p.path(name + ".latest-head")}
 }
 
-// metric returns the value of a metric of the operator's address.
+// metric returns the value of a metric, or "" if there is none.
 func (p *program) metric(name string) string {
 	p.t.Helper()
 	_, text := get(p.operator, "/metrics")
@@ -105,18 +105,18 @@ func (p *program) metric(name string) string {
 	return ""
 }
 
-// TestForwards: of two nodes, the one that does not make the steps forwards its submissions, and accepts them itself
-// after the other one was killed. Nobody else can use the address for nodes.
+// TestForwards checks that the one of two nodes that does not make the steps forwards its submissions, and accepts them
+// itself after the other one was killed. Other clients cannot use the address for nodes.
 func TestForwards(t *testing.T) {
 	t.Parallel()
 	at := newPlace(t)
 	authority := at.newNodesAuthority("nodes")
 	authority.issue(at, "one")
 	authority.issue(at, "two")
-	words := at.realWords("--signing-key", at.path("log.pem"), "--index", at.sharedIndex())
+	arguments := at.realArguments("--signing-key", at.path("log.pem"), "--index", at.sharedIndex())
 	first, second := freeAddress(t), freeAddress(t)
-	one := started(t, "", append(append(words, at.nodeWords("one", first)...), "--create")...)
-	two := started(t, "", append(words, at.nodeWords("two", second)...)...)
+	one := started(t, "", append(append(arguments, at.nodeArguments("one", first)...), "--create")...)
+	two := started(t, "", append(arguments, at.nodeArguments("two", second)...)...)
 	for until := time.Now().Add(testutil.Longest); two.metric("ctserve_forwarded_submissions_total") == "0"; {
 		for _, node := range []*program{one, two} {
 			if status, text := post(node.clients, at.submission()); status != 200 {
@@ -142,8 +142,8 @@ func TestForwards(t *testing.T) {
 	}
 }
 
-// refusesOthers sees that a node lets in neither plain HTTP nor a client without a certificate of the nodes' CA, and
-// that a node's certificate gets nothing but submissions.
+// refusesOthers checks that a node accepts no client without a certificate of the nodes' CA, and that a client with one
+// may only submit.
 func (p *place) refusesOthers(address string) {
 	p.t.Helper()
 	pool := x509.NewCertPool()
@@ -197,20 +197,22 @@ func (p *place) read(name string) *x509.Certificate {
 	return certificate
 }
 
-// Settings of several nodes that do not go together are refused by name.
+// TestSettingsOfNodes checks that wrong or incomplete settings of several nodes are refused with an error that names
+// them.
 func TestSettingsOfNodes(t *testing.T) {
 	at := newPlace(t)
 	at.newNodesAuthority("nodes").issue(at, "one")
 	at.write("empty.pem", nil)
 	with := func(changed ...string) []string {
-		words := append(at.words("--index", "postgres://127.0.0.1/none?log=test"), at.nodeWords("one", "127.0.0.1:1")...)
-		return append(words, changed...)
+		arguments := append(at.arguments("--index", "postgres://127.0.0.1/none?log=test"),
+			at.nodeArguments("one", "127.0.0.1:1")...)
+		return append(arguments, changed...)
 	}
 	for _, test := range []struct {
-		words []string
-		why   string
+		arguments []string
+		why       string
 	}{
-		{at.words("--nodes-listen", "127.0.0.1:1"), "need one another"},
+		{at.arguments("--nodes-listen", "127.0.0.1:1"), "need one another"},
 		{with("--nodes-ca", ""), "need one another"},
 		{with("--index", "leveldb:"+at.path("index")), "must share one index"},
 		{with("--nodes-address", "http://127.0.0.1:1"), "write https://HOST:PORT"},
@@ -219,8 +221,8 @@ func TestSettingsOfNodes(t *testing.T) {
 		{with("--nodes-ca", at.path("none")), "no such file"},
 		{with("--nodes-ca", at.path("empty.pem")), "has no certificate in PEM"},
 	} {
-		if _, err := parse(test.words, io.Discard); err == nil || !strings.Contains(err.Error(), test.why) {
-			t.Errorf("%q: %v, and not %s", test.words, err, test.why)
+		if _, err := parse(test.arguments, io.Discard); err == nil || !strings.Contains(err.Error(), test.why) {
+			t.Errorf("%q: %v, and not %s", test.arguments, err, test.why)
 		}
 	}
 	if s, err := parse(with(), io.Discard); err != nil || s.node.peers.address != "https://127.0.0.1:1" {

@@ -19,30 +19,30 @@ import (
 	"wagtenib/internal/testutil/softhsm"
 )
 
-// realWords are those of a log on a folder.
-func (p *place) realWords(more ...string) []string {
+// realArguments returns the arguments of a log on a folder.
+func (p *place) realArguments(more ...string) []string {
 	p.t.Helper()
 	return append(append(patient(), "--listen", "127.0.0.1:0", "--operator-listen", "127.0.0.1:0", "--origin",
 		"log.example/test", "--roots", p.path("roots.pem"),
 		"--folder", p.path("log"), "--interval", "50ms"), more...)
 }
 
-// TestRealLog: over the real log on a folder, a start creates a log only if it is asked to. What was answered exists
-// after a kill, and a duplicate gets the same place. Everything that is read is consistent.
+// TestRealLog checks that a start creates a log on a folder only with --create. Each answered entry exists after a
+// kill, and a duplicate gets the same place. All reads are consistent.
 func TestRealLog(t *testing.T) {
 	t.Parallel()
 	var at *place
-	var words []string
+	var arguments []string
 	var p *program
 	for until := time.Now().Add(testutil.Longest); ; {
 		at = newPlace(t)
-		words = at.realWords("--signing-key", at.path("log.pem"))
-		if status, told := runs(words); status != statusSetBack {
-			t.Errorf("a log is made unasked: status %d: %s", status, told)
+		arguments = at.realArguments("--signing-key", at.path("log.pem"))
+		if status, output := runs(arguments); status != statusRolledBack {
+			t.Errorf("a log is made without --create: status %d: %s", status, output)
 		}
 		began := time.Now()
-		p = started(t, "", append(words, "--create")...)
-		// (a first head is waited for as long as a reading may take, and no longer)
+		p = started(t, "", append(arguments, "--create")...)
+		// ctserve does not wait for the first head longer than a read may take.
 		isLate := p.serving["level"] == "warn" && p.serving["fault"] != nil &&
 			time.Since(began) >= httpserver.DefaultLimits().Reading
 		if !isLate || time.Now().After(until) {
@@ -52,11 +52,11 @@ func TestRealLog(t *testing.T) {
 		p.ends()
 	}
 	if p.serving["level"] != "info" || p.serving["entries"] != 0.0 {
-		t.Errorf("it serves before a head is published: %v", p.serving)
+		t.Errorf("ctserve serves before a head is published: %v", p.serving)
 	}
 	if at, err := time.Parse(time.RFC3339, fmt.Sprint(p.serving["head_of"])); err != nil ||
 		time.Since(at) < -time.Second || time.Since(at) > 10*time.Minute {
-		t.Errorf("who makes a log isn't told its first moment: %v", p.serving)
+		t.Errorf("the line serving does not have the time of the first head: %v", p.serving)
 	}
 	first := at.submission()
 	status, answer := post(p.clients, first)
@@ -78,38 +78,38 @@ func TestRealLog(t *testing.T) {
 	}
 	p.signal(syscall.SIGKILL)
 	p.ends()
-	p = started(t, "", words...)
+	p = started(t, "", arguments...)
 	if status, text := read(p.clients, "/readyz"); status != 200 {
 		t.Errorf("/readyz: %d %s", status, text)
 	}
 	place := func(text string) string {
-		var told struct {
+		var reply struct {
 			Timestamp  uint64 `json:"timestamp"`
 			Extensions []byte `json:"extensions"`
 		}
-		if err := json.Unmarshal([]byte(text), &told); err != nil {
+		if err := json.Unmarshal([]byte(text), &reply); err != nil {
 			t.Fatalf("%s: %v", text, err)
 		}
-		return fmt.Sprint(told)
+		return fmt.Sprint(reply)
 	}
 	if status, text := post(p.clients, first); status != 200 || place(text) != place(answer) {
-		t.Errorf("again: %d %s, first %s", status, text, answer)
+		t.Errorf("a duplicate: %d %s, first %s", status, text, answer)
 	}
 	_, checkpoint := read(p.clients, "/checkpoint")
 	if !strings.HasPrefix(checkpoint, "log.example/test\n21\n") {
 		t.Errorf("/checkpoint: %q", checkpoint)
 	}
-	// Calls to its stores are counted, for each kind.
+	// The calls of the stores are counted by kind.
 	for _, call := range []string{`call="get",store="objects"`, `call="read",store="lock"`,
 		`call="find",store="index"`} {
-		if asked, failed := figure(t, p, "ctserve_store_seconds_count{"+call+"}"),
-			figure(t, p, "ctserve_store_failures_total{"+call+"}"); asked < 1 || failed != 0 {
+		if asked, failed := metricOf(t, p, "ctserve_store_seconds_count{"+call+"}"),
+			metricOf(t, p, "ctserve_store_failures_total{"+call+"}"); asked < 1 || failed != 0 {
 			t.Errorf("{%s}: %v calls, of which %v failed", call, asked, failed)
 		}
 	}
-	if behind, since := figure(t, p, "ctserve_unpublished_entries"),
-		figure(t, p, "ctserve_round_age_seconds"); behind != 0 || since < 0 || since > 3600 {
-		t.Errorf("%v entries aren't published, and for %v s no round went well", behind, since)
+	if unpublished, since := metricOf(t, p, "ctserve_unpublished_entries"),
+		metricOf(t, p, "ctserve_round_age_seconds"); unpublished != 0 || since < 0 || since > 3600 {
+		t.Errorf("%v entries are not published, and no round succeeded for %v s", unpublished, since)
 	}
 	var head struct {
 		Size uint64 `json:"tree_size"`
@@ -132,7 +132,7 @@ func TestRealLog(t *testing.T) {
 		hashes = append(hashes, fakelog.LeafHash(entry.LeafInput))
 	}
 	if root := fakelog.MerkleTreeHash(hashes); !bytes.Equal(root[:], head.Root) {
-		t.Error("the entries haven't the head's root")
+		t.Error("the entries do not have the head's root")
 	}
 	if _, tile := read(p.clients, "/tile/0/000.p/21"); len(tile) != 21*32 ||
 		!strings.HasPrefix(tile, string(hashes[0][:])) {
@@ -140,29 +140,29 @@ func TestRealLog(t *testing.T) {
 	}
 	p.signal(syscall.SIGTERM)
 	if status := p.ends(); status != 0 {
-		t.Errorf("it ended with status %d", status)
+		t.Errorf("ctserve ended with status %d", status)
 	}
 }
 
-// TestKeyInAToken: a log whose key is in a PKCS#11 token. Its signer logs in to the token, and the token's key signs
-// everything that is answered and published, also after another start.
+// TestKeyInAToken runs a log whose key is in a PKCS#11 token. Its signer must log in to the token, and the token's key
+// must sign everything that is answered and published, also after another start.
 func TestKeyInAToken(t *testing.T) {
 	module, pin := softhsm.Token(t)
 	at := newPlace(t)
 	uri := "pkcs11:token=log-token;object=key?module-path=" + module + "&pin-source=file:" + pin
-	words := at.realWords("--signing-key", uri)
-	status, said, told := does("key", "--show", uri)
+	arguments := at.realArguments("--signing-key", uri)
+	status, stdout, stderr := does("key", "--show", uri)
 	if status != 0 {
-		t.Fatalf("its key isn't shown: %s", told)
+		t.Fatalf("its key is not shown: %s", stderr)
 	}
-	_, public, _ := strings.Cut(said, "-----BEGIN")
+	_, public, _ := strings.Cut(stdout, "-----BEGIN")
 	block, _ := pem.Decode([]byte("-----BEGIN" + public))
 	if block == nil {
-		t.Fatalf("no key: %s", said)
+		t.Fatalf("no key: %s", stdout)
 	}
 	var answers []logcheck.Answer
 	for i, create := range []string{"true", "false"} {
-		p := started(t, "", append(words, "--create="+create)...)
+		p := started(t, "", append(arguments, "--create="+create)...)
 		der, err := at.authority.Issue(false, time.Date(2027, 1, 1, 0, 0, 0, 0, time.UTC))
 		if err != nil {
 			t.Fatal(err)
@@ -181,7 +181,7 @@ func TestKeyInAToken(t *testing.T) {
 			Extensions: read.Extensions, Signature: read.Signature})
 		p.signal(syscall.SIGTERM)
 		if status := p.ends(); status != 0 {
-			t.Fatalf("it ended with status %d", status)
+			t.Fatalf("ctserve ended with status %d", status)
 		}
 	}
 	if report, err := logcheck.Folder(filepath.Join(at.path("log"), "objects"), block.Bytes, answers); err != nil ||
@@ -190,20 +190,20 @@ func TestKeyInAToken(t *testing.T) {
 	}
 }
 
-// TestDamageIsTold: a damaged tile that no step needs. A duplicate of its entry is refused, the log stays ready, and
-// the tile's name is logged until it is repaired.
-func TestDamageIsTold(t *testing.T) {
+// TestLogsDamage checks what happens if a tile that no step needs is damaged. A duplicate of its entry is refused, the
+// log stays ready, and the tile's name is logged until the tile is repaired.
+func TestLogsDamage(t *testing.T) {
 	t.Parallel()
 	at := newPlace(t)
-	words := at.realWords("--signing-key", at.path("log.pem"), "--scrub-interval", "50ms")
-	p := started(t, "", append(words, "--create")...)
+	arguments := at.realArguments("--signing-key", at.path("log.pem"), "--scrub-interval", "50ms")
+	p := started(t, "", append(arguments, "--create")...)
 	body := at.submission()
 	if status, text := post(p.clients, body); status != 200 {
 		t.Fatalf("%d %s", status, text)
 	}
 	p.signal(syscall.SIGTERM)
 	if status := p.ends(); status != 0 {
-		t.Errorf("it ended with status %d", status)
+		t.Errorf("ctserve ended with status %d", status)
 	}
 	const tile = "tile/data/000.p/1"
 	content, err := os.ReadFile(at.path("log/objects/" + tile))
@@ -213,13 +213,13 @@ func TestDamageIsTold(t *testing.T) {
 	if err := os.Remove(at.path("log/objects/" + tile)); err != nil {
 		t.Fatal(err)
 	}
-	p = started(t, "", words...)
+	p = started(t, "", arguments...)
 	if status, text := post(p.clients, body); status != 503 || !strings.Contains(text, `"store"`) {
 		t.Errorf("%d %s", status, text)
 	}
 	if line := p.until("damage"); line["level"] != "error" ||
 		!strings.Contains(fmt.Sprint(line["detail"]), tile+" is missing") {
-		t.Errorf("it says %v", line)
+		t.Errorf("the line is %v", line)
 	}
 	if status, text := read(p.clients, "/readyz"); status != 200 {
 		t.Errorf("/readyz: %d %s", status, text)
@@ -233,6 +233,6 @@ func TestDamageIsTold(t *testing.T) {
 	at.write("log/objects/"+tile, content)
 	p.until("mended")
 	if status, text := post(p.clients, body); status != 200 {
-		t.Errorf("put right: %d %s", status, text)
+		t.Errorf("after the tile was repaired: %d %s", status, text)
 	}
 }

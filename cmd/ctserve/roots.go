@@ -36,15 +36,15 @@ func (r *rootsFlags) add(to *flag.FlagSet) {
 	to.StringVar(&r.ca, "ca-file", "", "`file` in PEM with the CA of the addresses (default: the CAs of the system)")
 }
 
-// tableWithin is how long fetching a table may take.
+// tableWithin is the maximum time to fetch a table.
 const tableWithin = 5 * time.Minute
 
-// runRoots writes the roots of tables of CCADB.
-func runRoots(words []string, answers, faults io.Writer) error {
-	flags := commandFlags("roots", rootsPage, faults)
+// runRoots writes the roots of tables of CCADB into a file.
+func runRoots(arguments []string, stdout, stderr io.Writer) error {
+	flags := commandFlags("roots", rootsPage, stderr)
 	var given rootsFlags
 	given.add(flags)
-	if err := parseWords(flags, words); err != nil {
+	if err := parseArguments(flags, arguments); err != nil {
 		return err
 	}
 	if given.into == "" || flags.NArg() == 0 || !isPercentage(given.maxFall) {
@@ -63,17 +63,17 @@ func runRoots(words []string, answers, faults io.Writer) error {
 		from = append(from, roots.Source{Name: table, Text: text, AllIncluded: given.allIncluded})
 	}
 	change, err := roots.Update(given.into, from, given.maxFall)
-	tellChange(answers, change)
+	printChange(stdout, change)
 	if err != nil {
 		return fmt.Errorf("%s stays as it was: %w", roots.File(given.into), err)
 	}
-	fmt.Fprintf(answers, "%s: %d roots, %d added, %d removed\n", roots.File(given.into), change.Roots, len(change.Added),
+	fmt.Fprintf(stdout, "%s: %d roots, %d added, %d removed\n", roots.File(given.into), change.Roots, len(change.Added),
 		len(change.Removed))
 	return nil
 }
 
-// tellChange prints what changed, or would have changed.
-func tellChange(to io.Writer, change roots.Change) {
+// printChange prints the roots that changed, or would have changed.
+func printChange(to io.Writer, change roots.Change) {
 	for _, root := range change.Added {
 		fmt.Fprintln(to, "added", root)
 	}
@@ -92,7 +92,7 @@ func (r *rootsFlags) table(from string) ([]byte, error) {
 		return os.ReadFile(from)
 	}
 	if !strings.HasPrefix(from, "https://") {
-		return nil, errors.New("the address must begin with https://, since the log would accept whatever comes")
+		return nil, errors.New("the address must begin with https:// (otherwise others on the network could add roots)")
 	}
 	options, err := clientOptions("ctserve-roots", r.ca, "")
 	if err != nil {
@@ -120,6 +120,6 @@ func (r *rootsFlags) table(from string) ([]byte, error) {
 	if answer.StatusCode != http.StatusOK {
 		return nil, fmt.Errorf("status %d", answer.StatusCode)
 	}
-	// (ReadTable refuses one byte more)
+	// ReadTable refuses a table that is longer.
 	return io.ReadAll(io.LimitReader(answer.Body, chains.MaxRootBytes+1))
 }

@@ -13,7 +13,7 @@ import (
 	"wagtenib/internal/testutil"
 )
 
-// tableOf is a table of CCADB with a root of TLS servers and a root of mail.
+// tableOf returns a table of CCADB with a root for TLS servers and a root for mail.
 func tableOf(t *testing.T, servers, mail *place) string {
 	t.Helper()
 	text := "Certificate Name,SHA-256 Fingerprint,Trust Bits,Mozilla Status,X.509 Certificate (PEM)\n"
@@ -28,8 +28,8 @@ func tableOf(t *testing.T, servers, mail *place) string {
 	return text
 }
 
-// ctserve roots fetches a table, prints what changed, and refuses with status 1 what takes too many roots away. The
-// setting roots takes the same rows of a table.
+// TestRootsOfCCADB checks that ctserve roots fetches a table, prints what changed, and ends with status 1 if too many
+// roots would be removed. The setting roots uses the same rows of a table.
 func TestRootsOfCCADB(t *testing.T) {
 	t.Parallel()
 	servers, mail := newPlace(t), newPlace(t)
@@ -44,16 +44,16 @@ func TestRootsOfCCADB(t *testing.T) {
 	defer server.Close()
 	servers.write("ca.pem", pem.EncodeToMemory(&pem.Block{Type: "CERTIFICATE", Bytes: server.Certificate().Raw}))
 	into := t.TempDir()
-	update := func(words ...string) (int, string) {
-		var said strings.Builder
-		status := runCommand("roots", append([]string{"--into", into, "--ca-file", servers.path("ca.pem")}, words...),
-			&said, &said)
-		return status, said.String()
+	update := func(arguments ...string) (int, string) {
+		var output strings.Builder
+		status := runCommand("roots", append([]string{"--into", into, "--ca-file", servers.path("ca.pem")}, arguments...),
+			&output, &output)
+		return status, output.String()
 	}
-	status, said := update(server.URL + "/all.csv")
-	if status != 0 || !strings.Contains(said, "ccadb.pem: 1 roots, 1 added, 0 removed\n") ||
-		!strings.Contains(said, " A root of servers\nleft out: 1 not for TLS servers, 0 not included\n") {
-		t.Errorf("%d %s", status, said)
+	status, output := update(server.URL + "/all.csv")
+	if status != 0 || !strings.Contains(output, "ccadb.pem: 1 roots, 1 added, 0 removed\n") ||
+		!strings.Contains(output, " A root of servers\nleft out: 1 not for TLS servers, 0 not included\n") {
+		t.Errorf("%d %s", status, output)
 	}
 	content, err := os.ReadFile(into + "/ccadb.pem")
 	testutil.Must(t, err)
@@ -63,25 +63,25 @@ func TestRootsOfCCADB(t *testing.T) {
 	}
 	other := strings.Replace(strings.Replace(table, "Websites", "Mail", 1), "Email", "Websites", 1)
 	servers.write("other.csv", []byte(other))
-	for words, due := range map[string]int{server.URL + "/none.csv": 1, "http" + strings.TrimPrefix(server.URL, "https") +
-		"/all.csv": 1, servers.path("none.csv"): 1, servers.path("other.csv"): 1, "": 2, "--max-fall NaN " +
-		servers.path("none.csv"): 2, "--max-fall -1 " + servers.path("none.csv"): 2, "--max-fall 101 " +
-		servers.path("none.csv"): 2} {
-		if status, said := update(strings.Fields(words)...); status != due {
-			t.Errorf("%s: %d %s", words, status, said)
+	for arguments, expected := range map[string]int{server.URL + "/none.csv": 1,
+		"http" + strings.TrimPrefix(server.URL, "https") + "/all.csv": 1, servers.path("none.csv"): 1,
+		servers.path("other.csv"): 1, "": 2, "--max-fall NaN " + servers.path("none.csv"): 2,
+		"--max-fall -1 " + servers.path("none.csv"): 2, "--max-fall 101 " + servers.path("none.csv"): 2} {
+		if status, output := update(strings.Fields(arguments)...); status != expected {
+			t.Errorf("%s: %d %s", arguments, status, output)
 		}
 	}
 	if after, err := os.ReadFile(into + "/ccadb.pem"); err != nil || string(after) != string(content) {
-		t.Errorf("the file is another one: %v", err)
+		t.Errorf("the file was changed: %v", err)
 	}
-	// The setting takes the table as it is.
+	// The setting roots can name the table itself.
 	servers.write("all.csv", []byte(table))
-	for words, due := range map[string]string{"": "1 roots", "--any-purpose": "2 roots"} {
-		var said strings.Builder
-		status := runCommand("check", append(strings.Fields(words), "--origin", "log.example/test", "--signing-key",
-			servers.path("log.pem"), "--roots", servers.path("all.csv")), &said, &said)
-		if status != 0 || !strings.Contains(said.String(), "roots            "+due+"\n") {
-			t.Errorf("%s: %d %s", words, status, said.String())
+	for arguments, expected := range map[string]string{"": "1 roots", "--any-purpose": "2 roots"} {
+		var output strings.Builder
+		status := runCommand("check", append(strings.Fields(arguments), "--origin", "log.example/test", "--signing-key",
+			servers.path("log.pem"), "--roots", servers.path("all.csv")), &output, &output)
+		if status != 0 || !strings.Contains(output.String(), "roots            "+expected+"\n") {
+			t.Errorf("%s: %d %s", arguments, status, output.String())
 		}
 	}
 }

@@ -17,29 +17,29 @@ import (
 	"wagtenib/internal/tile"
 )
 
-// shared are the stores that all nodes of a log share, and what closes them.
+// shared has the stores that all nodes of a log share, and the functions that close them.
 type shared struct {
 	logservice.Stores
 	calls   *stores.Calls
 	closers []func() error
 }
 
-// close closes what was opened, the last first.
+// close closes the stores, the last one that was opened first.
 func (s *shared) close() {
 	for i := len(s.closers) - 1; i >= 0; i-- {
-		// The log has ended by then, and what it put is on the disk.
+		// The log has ended before, and what it stored is on the disk, so an error changes nothing.
 		_ = s.closers[i]()
 	}
 	s.closers = nil
 }
 
-// indexAt opens the index at an address. The tests have nodes that share one in their memory.
+// indexAt opens the index at an address. Tests replace it, so that nodes share an index in a test's memory.
 var indexAt = stores.IndexAt
 
-// earlierIndex is the file in a log's folder in which an earlier ctserve kept the index, by SQLite.
+// earlierIndex is the file in a log's folder in which earlier versions of ctserve kept the index, in SQLite.
 const earlierIndex = "places"
 
-// checkEarlierIndex returns node.ErrIndex if only an earlier ctserve's index is there.
+// checkEarlierIndex returns node.ErrIndex if there is only the index of an earlier version of ctserve.
 func checkEarlierIndex(n node) error {
 	path, isFolder := strings.CutPrefix(n.index, "leveldb:")
 	earlier := filepath.Join(n.folder, earlierIndex)
@@ -82,7 +82,8 @@ func openStores(ctx context.Context, n node) (s *shared, err error) {
 	return s, nil
 }
 
-// openObjects opens the objects, and what replaces objects if the log is read from the store itself.
+// openObjects opens the store of objects. If the log is read from the store itself, it also returns the store of the
+// checkpoint.
 func openObjects(ctx context.Context, n node) (stores.Objects, stores.Current, error) {
 	if n.isPublic {
 		return stores.OpenPublic(ctx, n.store)
@@ -91,11 +92,11 @@ func openObjects(ctx context.Context, n node) (stores.Objects, stores.Current, e
 	return objects, nil, err
 }
 
-// checkStores returns an error if the objects are missing of a log that is not to be made, or if its index is one of an
-// earlier build.
+// checkStores returns an error if the log is not to be created and its objects are missing, or if there is only the
+// index of an earlier version.
 func checkStores(n node) error {
 	if !n.create {
-		// Another node that runs would write into a folder that is made again.
+		// A start must not make a missing folder again, because another running node would write into it.
 		if err := stores.ObjectsThere(n.store); err != nil {
 			return err
 		}
@@ -113,15 +114,15 @@ func openNode(ctx context.Context, n node) (of *opened, err error) {
 	if err := stores.MakeFolder(filepath.Dir(n.latestHead)); err != nil {
 		return nil, err
 	}
-	asked, err := askSigner(ctx, n)
+	client, err := askSigner(ctx, n)
 	if err != nil {
 		return nil, err
 	}
 	s := &shared{}
 	closeAll := func() {
 		s.close()
-		// The signer has signed all that it was asked for.
-		_ = asked.Close()
+		// The log has ended, so an error of the signer changes nothing.
+		_ = client.Close()
 	}
 	defer func() {
 		if err != nil {
@@ -135,8 +136,8 @@ func openNode(ctx context.Context, n node) (of *opened, err error) {
 		return nil, err
 	}
 	config := n.config(s.Stores)
-	config.Signer = asked
-	of = &opened{cutter: chains.NewCutter(), key: asked.Key(), calls: s.calls}
+	config.Signer = client
+	of = &opened{cutter: chains.NewCutter(), key: client.Key(), calls: s.calls}
 	if s.Current != nil {
 		of.putEntry = func(ctx context.Context, entry []byte) error {
 			return stores.SetCurrent(ctx, s.Objects, s.Current, "log.v3.json", entry)
@@ -161,15 +162,15 @@ func openNode(ctx context.Context, n node) (of *opened, err error) {
 	return of, nil
 }
 
-// defaultInterval is the minimum time between two heads if stores are on other machines, or if the log has witnesses,
-// and localInterval if not.
+// defaultInterval is the minimum time between two heads if stores are on other machines, or if the log has witnesses.
+// Otherwise it is localInterval.
 const defaultInterval, localInterval = 50 * time.Millisecond, 5 * time.Millisecond
 
 // config returns the configuration of a log over its stores.
 func (n *node) config(of logservice.Stores) logservice.Config {
 	interval := n.interval
 	if interval == 0 {
-		if interval = localInterval; n.isAway() || len(n.witnesses) > 0 {
+		if interval = localInterval; n.hasRemoteStore() || len(n.witnesses) > 0 {
 			interval = defaultInterval
 		}
 	}
@@ -178,10 +179,10 @@ func (n *node) config(of logservice.Stores) logservice.Config {
 		Quorums: n.quorums,
 		Pace: logservice.Pace{Interval: interval, Refresh: n.refresh, MaxWritten: n.maxWritten, MaxBatch: n.maxBatch,
 			MaxQueue: n.maxQueue},
-		Keep: logservice.Keep{Heads: n.sweepAfter, Tiles: n.sweepTilesAfter, Every: n.readEvery, Reread: n.readAllWithin},
+		Keep: logservice.Keep{Heads: n.keepHeads, Tiles: n.keepTiles, Interval: n.scrubInterval, Reread: n.scrubPeriod},
 		Machine: logservice.MachineConfig{
-			Files: logservice.Files{LatestHead: n.latestHead, NamedDay: n.namedDay},
-			Clock: logservice.ClockBounds{MaxSkew: n.maxSkew, Synchronized: n.synchronized},
+			Files:       logservice.Files{LatestHead: n.latestHead, NamedDay: n.namedDay},
+			ClockBounds: logservice.ClockBounds{MaxSkew: n.maxSkew, Synchronized: n.synchronized},
 		},
 	}
 }

@@ -13,7 +13,8 @@ import (
 
 // served is one listener with its server.
 type served struct {
-	of       string
+	// users names the users of the server: clients, nodes or operator.
+	users    string
 	address  string
 	over     *tls.Config
 	handler  http.Handler
@@ -36,19 +37,19 @@ func (s *settings) loadCertificate() (*httpserver.Certificate, *tls.Config, erro
 
 // serversOf returns the servers of a log: for clients, for other nodes and for operators.
 func serversOf(s *settings, of *opened, front *httpserver.Front, over *tls.Config) []*served {
-	servers := []*served{{of: "clients", address: s.listen, over: over, handler: front, make: front.Serve}}
+	servers := []*served{{users: "clients", address: s.listen, over: over, handler: front, make: front.Serve}}
 	if of.secured != nil {
-		servers = append(servers, &served{of: "nodes", address: s.node.peers.listen, over: of.secured.listens,
+		servers = append(servers, &served{users: "nodes", address: s.node.peers.listen, over: of.secured.listens,
 			handler: of.nodes(front.Nodes()), make: front.ServeNodes})
 	}
 	if s.operator != "" {
-		servers = append(servers, &served{of: "operator", address: s.operator, handler: front.Operator(),
-			make: front.ServeOthers})
+		servers = append(servers, &served{users: "operator", address: s.operator, handler: front.Operator(),
+			make: front.ServeOperators})
 	}
 	return servers
 }
 
-// listen opens the listeners of servers. If one of them cannot be opened, none is open after it.
+// listen opens the listeners of servers. After an error none is open.
 func listen(servers []*served, lines *httpserver.Lines) (err error) {
 	for at, each := range servers {
 		if each.listener, err = net.Listen("tcp", each.address); err != nil {
@@ -57,12 +58,12 @@ func listen(servers []*served, lines *httpserver.Lines) (err error) {
 			}
 			return err
 		}
-		lines.Info("listening", "for", each.of, "address", each.listener.Addr(), "tls", each.over != nil)
+		lines.Info("listening", "for", each.users, "address", each.listener.Addr(), "tls", each.over != nil)
 	}
 	return nil
 }
 
-// start has servers answer at their listeners. The channel gets the error of each one that ends.
+// start starts servers at their listeners. The channel receives the error of each one that ends.
 func start(servers []*served) <-chan error {
 	failed := make(chan error, len(servers))
 	for _, each := range servers {
@@ -72,8 +73,8 @@ func start(servers []*served) <-chan error {
 	return failed
 }
 
-// ended has the log, which takes no more, publish and answer who waits, and then ends the servers, within the time for
-// it. Reading goes on until the log has ended.
+// ended ends the log, which publishes and answers the waiting submissions, and then ends the servers, within the
+// shutdown timeout. Reads are answered until the log has ended. It returns the reason of the end, or the first error.
 func ended(s *settings, of loginterface.Log, servers []*served, why error) error {
 	ctx, cancel := context.WithTimeout(context.Background(), s.endWithin)
 	defer cancel()
@@ -85,7 +86,7 @@ func ended(s *settings, of loginterface.Log, servers []*served, why error) error
 			continue
 		}
 		if err := each.server.End(ctx); why == nil && err != nil {
-			why = fmt.Errorf("the requests at the listener for %s were not answered in time: %w", each.of, err)
+			why = fmt.Errorf("the requests at the listener for %s were not answered in time: %w", each.users, err)
 		}
 	}
 	return why

@@ -14,10 +14,10 @@ import (
 	"wagtenib/internal/witness"
 )
 
-// fileRules are the rules of the file of settings.
+// fileRules are the rules of the config file.
 var fileRules = settingsfile.Rules{Only: []string{"config"}}
 
-// settings are the values of the command line and of the file of settings.
+// settings has the values of the command line and of the config file.
 type settings struct {
 	listen, operator, notice string
 	monitoringURL            string
@@ -35,19 +35,19 @@ type settings struct {
 // node has the settings of the log itself.
 type node struct {
 	origin, signingKey string
-	// guard is whether the signer has a guard. nil means that no setting says so, and then it has one.
+	// guard says whether the signer has a guard. If it is nil, no setting says so, and the signer has one.
 	guard                      *bool
-	guardState, signerAt       string
+	guardState, signerSocket   string
 	folder, store, lock, index string
-	// archive is the folder of an archive that is served in place of a log. It is empty for a log.
+	// archive is the folder of an archive that is served instead of a log. It is empty for a log.
 	archive                          string
 	latestHead, namedDay             string
 	maxSkew                          time.Duration
 	synchronized                     bool
 	interval, refresh, maxMergeDelay time.Duration
 	openWithin                       time.Duration
-	sweepAfter, sweepTilesAfter      time.Duration
-	readEvery, readAllWithin         time.Duration
+	keepHeads, keepTiles             time.Duration
+	scrubInterval, scrubPeriod       time.Duration
 	maxQueue, maxBatch, maxProofs    int
 	maxWritten                       int
 	create, makesFolder, isPublic    bool
@@ -59,16 +59,16 @@ type node struct {
 // isGuarded reports whether a guard approves what the signer signs.
 func (n *node) isGuarded() bool { return n.guard == nil || *n.guard }
 
-// isAway reports whether a store is not a folder or file of this machine.
-func (n *node) isAway() bool {
+// hasRemoteStore reports whether a store is not in a folder or file of this machine.
+func (n *node) hasRemoteStore() bool {
 	return !strings.HasPrefix(n.store, "folder:") || !strings.HasPrefix(n.lock, "file:") ||
 		!strings.HasPrefix(n.index, "leveldb:")
 }
 
-// errUsage reports a command line or a file of settings that is refused.
+// errUsage reports that a command line or a config file is wrong.
 var errUsage = errors.New("ctserve")
 
-// page is what --help prints before the settings.
+// page is the text that --help prints before the settings.
 const page = `ctserve serves a Certificate Transparency log over HTTP. Each setting is a flag, or a line 'name value' in
 the file that --config names.
 
@@ -83,13 +83,13 @@ Other commands, each with --help:
   ctserve roots TABLE..     writes the roots of CCADB's tables into the folder of roots
   ctserve archive URL       makes an archive of a log of RFC 6962 that ends`
 
-// parse reads the command line, and the file that it names. If both have a setting, the command line counts.
-func parse(words []string, help io.Writer) (*settings, error) {
-	return parseTo(settingsfile.Flags("ctserve", page, help), words)
+// parse parses the command line, and the config file that it names. If both have a setting, the command line counts.
+func parse(arguments []string, help io.Writer) (*settings, error) {
+	return parseTo(settingsfile.Flags("ctserve", page, help), arguments)
 }
 
-// parseTo defines the settings as flags of a program or a command, and reads its arguments as parse does.
-func parseTo(flags *flag.FlagSet, words []string) (*settings, error) {
+// parseTo defines the settings as flags of a program or a command, and parses its arguments as parse does.
+func parseTo(flags *flag.FlagSet, arguments []string) (*settings, error) {
 	s := &settings{limits: httpserver.DefaultLimits()}
 	flags.String("config", "", "`file` with a line 'name value' for each of these settings. A comment begins with #")
 	s.frontFlags(flags)
@@ -98,7 +98,7 @@ func parseTo(flags *flag.FlagSet, words []string) (*settings, error) {
 	s.node.paceFlags(flags)
 	s.node.witnessFlags(flags)
 	s.node.peers.flags(flags)
-	if err := fileRules.ParseAndValidate(flags, words, s.validate, errUsage); err != nil {
+	if err := fileRules.ParseAndValidate(flags, arguments, s.validate, errUsage); err != nil {
 		return nil, err
 	}
 	return s, nil
@@ -147,7 +147,7 @@ func (s *settings) frontFlags(flags *flag.FlagSet) {
 		"log every request, and not only those that fail because of the log")
 }
 
-// limitFlags defines the bounds of what clients may use.
+// limitFlags defines the limits for clients.
 func limitFlags(flags *flag.FlagSet, l *httpserver.Limits) {
 	flags.IntVar(&l.Connections, "max-connections", l.Connections, "maximum number of connections at the same time")
 	flags.IntVar(&l.ConnectionsByAddress, "max-connections-per-address", l.ConnectionsByAddress,
@@ -180,7 +180,7 @@ func limitFlags(flags *flag.FlagSet, l *httpserver.Limits) {
 	flags.DurationVar(&l.Idle, "idle-timeout", l.Idle, "time after which an idle connection is closed")
 }
 
-// storeFlags defines the log's name, its key and its stores.
+// storeFlags defines the settings of the log's name, its key and its stores.
 func (n *node) storeFlags(flags *flag.FlagSet) {
 	flags.StringVar(&n.origin, "origin", "", "`name` of the log in checkpoints, for example log.example/2027h1")
 	flags.StringVar(&n.signingKey, "signing-key", "",
@@ -189,11 +189,11 @@ func (n *node) storeFlags(flags *flag.FlagSet) {
 	flags.BoolFunc("guard",
 		"have the guard, which is proved code, approve what is signed (default true). "+
 			"Without it, the signer signs everything that it is asked to sign",
-		isOn(&n.guard))
+		boolean(&n.guard))
 	flags.StringVar(&n.guardState, "guard-state", "",
 		"`address` of the guard's state: file:PATH, etcd://HOST:PORT/PREFIX, postgres://HOST/DATABASE?log=NAME "+
 			"(default FOLDER.guard, beside the folder)")
-	flags.StringVar(&n.signerAt, "signer-socket", "",
+	flags.StringVar(&n.signerSocket, "signer-socket", "",
 		"`socket` of a running signer (ctserve signer --help), instead of signing-key, guard and guard-state")
 	flags.StringVar(&n.folder, "folder", "ct-log",
 		"`folder` for the objects, the lock and the index, if no other addresses are given")
@@ -217,7 +217,7 @@ func (n *node) storeFlags(flags *flag.FlagSet) {
 	flags.DurationVar(&n.openWithin, "open-timeout", 30*time.Second, "time within which the stores must open")
 }
 
-// paceFlags defines when a node acts, and how much it does at once.
+// paceFlags defines the settings for the clock, the intervals and the limits of a node.
 func (n *node) paceFlags(flags *flag.FlagSet) {
 	flags.DurationVar(&n.maxSkew, "max-clock-skew", 10*time.Second,
 		"maximum difference of the machine's clock from the newest head, the stores' machines, "+
@@ -227,20 +227,20 @@ func (n *node) paceFlags(flags *flag.FlagSet) {
 	flags.Func("interval",
 		"minimum `duration` between two heads. 50ms means at most twenty a second. "+
 			"By default, 50ms with witnesses and with stores on other machines, and 5ms for a folder",
-		above0(&n.interval))
+		positiveDuration(&n.interval))
 	flags.DurationVar(&n.maxMergeDelay, "max-merge-delay", time.Minute,
 		"maximum merge delay (MMD) that the log publishes, in whole seconds. No head that the log serves is older")
 	flags.Func("refresh-interval",
 		"`age` of the newest head at which a head without new entries is made. "+
 			"It must be below max-merge-delay (default half of it)",
-		above0(&n.refresh))
-	flags.DurationVar(&n.sweepAfter, "delete-heads-after", time.Hour,
+		positiveDuration(&n.refresh))
+	flags.DurationVar(&n.keepHeads, "delete-heads-after", time.Hour,
 		"age of a head at which older heads are deleted. After ten seconds, one head in each five seconds is kept")
-	flags.DurationVar(&n.sweepTilesAfter, "delete-tiles-after", 5*time.Minute,
+	flags.DurationVar(&n.keepTiles, "delete-tiles-after", 5*time.Minute,
 		"age of a full tile at which its partial tiles are deleted. "+
 			"A longer time than delete-heads-after counts as delete-heads-after")
-	flags.DurationVar(&n.readEvery, "scrub-interval", time.Second, "time between two checks of old tiles")
-	flags.DurationVar(&n.readAllWithin, "scrub-period", 7*24*time.Hour,
+	flags.DurationVar(&n.scrubInterval, "scrub-interval", time.Second, "time between two checks of old tiles")
+	flags.DurationVar(&n.scrubPeriod, "scrub-period", 7*24*time.Hour,
 		"time within which every old tile is checked. In a larger log, more tiles are checked each time, up to 16")
 	flags.IntVar(&n.maxQueue, "max-queue", 4096, "maximum number of waiting submissions")
 	flags.IntVar(&n.maxWritten, "max-write-rate", 16<<20,
@@ -250,14 +250,14 @@ func (n *node) paceFlags(flags *flag.FlagSet) {
 	flags.IntVar(&n.maxProofs, "max-proofs", 64, "maximum number of proofs that are made at the same time")
 }
 
-// witnessFlags defines the witnesses, and how many must cosign.
+// witnessFlags defines the settings of the witnesses and of the quorums.
 func (n *node) witnessFlags(flags *flag.FlagSet) {
 	flags.Func("witnesses",
 		"space-separated `witnesses` that cosign the log's heads. Each is a URL, a comma, and a verifier key",
 		func(text string) error {
 			n.witnesses = nil
-			for _, word := range strings.Fields(text) {
-				one, err := witness.ReadOne(word)
+			for _, field := range strings.Fields(text) {
+				one, err := witness.ReadOne(field)
 				if err != nil {
 					return err
 				}

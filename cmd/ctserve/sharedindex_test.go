@@ -13,14 +13,14 @@ import (
 	"wagtenib/internal/stores"
 )
 
-// sharedIndex is an index in a test's memory. The nodes of one log, which are other processes, ask for it over HTTP, as
-// they ask PostgreSQL elsewhere. Its address is shared:HOST:PORT.
+// sharedIndex is an index in a test's memory. The nodes of one log, which are other processes, use it over HTTP, as
+// they use PostgreSQL outside of tests. Its address is shared:HOST:PORT.
 type sharedIndex struct {
 	mu                 sync.Mutex
 	identities, leaves map[stores.Identity]stores.Place
 }
 
-// indexCall is what a node asks for.
+// indexCall is a node's request.
 type indexCall struct {
 	OfLeaves, Replaces bool
 	Keys               []stores.Identity
@@ -32,7 +32,7 @@ const sharedKind = "shared:"
 func init() {
 	others := indexAt
 	indexAt = func(ctx context.Context, address string) (stores.Index, error) {
-		if at, is := strings.CutPrefix(address, sharedKind); is {
+		if at, isShared := strings.CutPrefix(address, sharedKind); isShared {
 			return indexClient("http://" + at), nil
 		}
 		return others(ctx, address)
@@ -76,7 +76,7 @@ func (s *sharedIndex) ServeHTTP(w http.ResponseWriter, r *http.Request) {
 			s.leaves[row.Leaf] = row.Place
 		}
 	}
-	// A node that was killed reads no answer.
+	// A node that was killed reads no answer, so the write may fail.
 	_ = gob.NewEncoder(w).Encode(found)
 }
 

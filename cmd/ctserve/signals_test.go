@@ -16,21 +16,21 @@ import (
 	"wagtenib/internal/testutil"
 )
 
-// At SIGTERM who waits is answered, idle connections and half requests don't hold it up, and it ends by itself with
-// status 0.
+// TestEndBySIGTERM checks that at SIGTERM, ctserve answers the waiting requests and ends with status 0. Idle
+// connections and half requests do not delay the end.
 func TestEndBySIGTERM(t *testing.T) {
 	at := newPlace(t)
-	p := started(t, "1h", at.words()...)
-	type came struct {
+	p := started(t, "1h", at.arguments()...)
+	type answer struct {
 		status int
 		text   string
 	}
-	answers := make(chan came, 5)
+	answers := make(chan answer, 5)
 	for i := 0; i < 5; i++ {
 		body := at.submission()
 		go func() {
 			status, text := post(p.clients, body)
-			answers <- came{status, text}
+			answers <- answer{status, text}
 		}()
 	}
 	idle, err := net.Dial("tcp", p.clients)
@@ -49,19 +49,20 @@ func TestEndBySIGTERM(t *testing.T) {
 	p.signal(syscall.SIGTERM)
 	for i := 0; i < 5; i++ {
 		if answer := <-answers; answer.status != 200 || !strings.Contains(answer.text, `"sct_version":0`) {
-			t.Errorf("who waited: %d %s", answer.status, answer.text)
+			t.Errorf("a waiting client: %d %s", answer.status, answer.text)
 		}
 	}
 	if status := p.ends(); status != 0 || time.Since(began) > testutil.Longest/2 {
-		t.Errorf("it ended with status %d after %v", status, time.Since(began))
+		t.Errorf("ctserve ended with status %d after %v", status, time.Since(began))
 	}
 }
 
-// TestEndWithinItsBound: if waiting requests cannot be answered in time, the program ends anyway, and logs it.
+// TestEndWithinItsBound checks that, if waiting requests cannot be answered in time, the program ends anyway, and logs
+// it.
 func TestEndWithinItsBound(t *testing.T) {
 	at := newPlace(t)
 	for within := 300 * time.Millisecond; ; within *= 4 {
-		p := started(t, "1h", at.words("--shutdown-timeout", within.String())...)
+		p := started(t, "1h", at.arguments("--shutdown-timeout", within.String())...)
 		slow, err := net.Dial("tcp", p.clients)
 		if err != nil {
 			t.Fatal(err)
@@ -73,23 +74,23 @@ func TestEndWithinItsBound(t *testing.T) {
 		p.signal(syscall.SIGTERM)
 		line := p.until("end")
 		if status := p.ends(); status != 1 || time.Since(began) > testutil.Longest/2 {
-			t.Errorf("it ended with status %d after %v", status, time.Since(began))
+			t.Errorf("ctserve ended with status %d after %v", status, time.Since(began))
 		}
-		// (on a busy machine the log itself may not have ended by then, and nothing is said of who waits)
+		// On a busy machine the log itself may not have ended in time. Then the line does not name the clients.
 		if line["fault"] == context.DeadlineExceeded.Error() && within < testutil.Longest/8 {
 			continue
 		}
 		if line["level"] != "error" || !strings.Contains(fmt.Sprint(line["fault"]), "clients") {
-			t.Errorf("it says %v", line)
+			t.Errorf("the line is %v", line)
 		}
 		return
 	}
 }
 
-// A second signal ends it at once.
+// TestSecondSignal checks that a second signal ends the program at once.
 func TestSecondSignal(t *testing.T) {
 	at := newPlace(t)
-	p := started(t, "1h", at.words()...)
+	p := started(t, "1h", at.arguments()...)
 	slow, err := net.Dial("tcp", p.clients)
 	if err != nil {
 		t.Fatal(err)
@@ -101,13 +102,13 @@ func TestSecondSignal(t *testing.T) {
 	p.until("ending")
 	p.signal(syscall.SIGTERM)
 	if status := p.ends(); status != -1 {
-		t.Errorf("it ended with status %d, and not by the signal", status)
+		t.Errorf("ctserve ended with status %d, and not by the signal", status)
 	}
 }
 
 func TestReloadBySIGHUP(t *testing.T) {
 	at := newPlace(t)
-	p := started(t, "20ms", at.words()...)
+	p := started(t, "20ms", at.arguments()...)
 	other, err := fakelog.NewAuthority("Another root")
 	if err != nil {
 		t.Fatal(err)
@@ -123,7 +124,7 @@ func TestReloadBySIGHUP(t *testing.T) {
 	at.write("roots.pem", append(at.authority.PEM(), other.PEM()...))
 	p.signal(syscall.SIGHUP)
 	if line := p.until("reload"); line["level"] != "info" || line["of"] != "roots" {
-		t.Errorf("it says %v", line)
+		t.Errorf("the line is %v", line)
 	}
 	if status, text := post(p.clients, fakelog.Submission(der)); status != 200 {
 		t.Errorf("after: %d %s", status, text)
@@ -131,26 +132,26 @@ func TestReloadBySIGHUP(t *testing.T) {
 	at.write("roots.pem", []byte("none"))
 	p.signal(syscall.SIGHUP)
 	if line := p.until("reload"); line["level"] != "error" {
-		t.Errorf("it says %v", line)
+		t.Errorf("the line is %v", line)
 	}
 	if status, text := post(p.clients, fakelog.Submission(der)); status != 200 {
 		t.Errorf("with a file of no roots: %d %s", status, text)
 	}
 	if _, text := get(p.operator, "/metrics"); !strings.Contains(text,
 		`ctserve_reloads_total{of="roots",outcome="failed"} 1`+"\n") {
-		t.Error("the reload that failed isn't counted")
+		t.Error("the failed reload is not counted")
 	}
 	p.signal(syscall.SIGINT)
 	if status := p.ends(); status != 0 {
-		t.Errorf("it ended with status %d", status)
+		t.Errorf("ctserve ended with status %d", status)
 	}
 }
 
-// TestReloadThatHangs has the roots' file be one that gives nothing, as on a disk of a network that is gone: the node
-// serves on, and a signal ends it.
+// TestReloadThatHangs reloads a file of roots that never returns data, like a file on an unreachable network disk. The
+// node must go on, and a signal must end it.
 func TestReloadThatHangs(t *testing.T) {
 	at := newPlace(t)
-	p := started(t, "20ms", at.words()...)
+	p := started(t, "20ms", at.arguments()...)
 	if err := os.Remove(at.path("roots.pem")); err != nil {
 		t.Fatal(err)
 	}
@@ -158,7 +159,7 @@ func TestReloadThatHangs(t *testing.T) {
 		t.Fatal(err)
 	}
 	p.signal(syscall.SIGHUP)
-	// (that it is opened for reading says that the reload has begun)
+	// The file can be opened for writing only after the reload has opened it for reading.
 	writer, err := os.OpenFile(at.path("roots.pem"), os.O_WRONLY, 0)
 	if err != nil {
 		t.Fatal(err)
@@ -170,21 +171,21 @@ func TestReloadThatHangs(t *testing.T) {
 	}
 	p.signal(syscall.SIGTERM)
 	if status := p.ends(); status != 0 {
-		t.Errorf("it ended with status %d", status)
+		t.Errorf("ctserve ended with status %d", status)
 	}
 }
 
-// TestReaderOfLinesGoes has whoever reads standard error go away: the log must go on without its lines, and end in
+// TestSurvivesReaderOfLines closes the pipe that reads standard error. The log must go on without its lines, and end in
 // order.
-func TestReaderOfLinesGoes(t *testing.T) {
+func TestSurvivesReaderOfLines(t *testing.T) {
 	at := newPlace(t)
 	read, write, err := os.Pipe()
 	if err != nil {
 		t.Fatal(err)
 	}
 	clients := testutil.Free(t)
-	command := exec.Command(os.Args[0], append(at.words(), "--listen", clients, "--log-requests")...)
-	command.Env = append(os.Environ(), childKey+"=1", everyKey+"=20ms")
+	command := exec.Command(os.Args[0], append(at.arguments(), "--listen", clients, "--log-requests")...)
+	command.Env = append(os.Environ(), childKey+"=1", intervalKey+"=20ms")
 	command.Stderr = write
 	if err := command.Start(); err != nil {
 		t.Fatal(err)
@@ -193,7 +194,7 @@ func TestReaderOfLinesGoes(t *testing.T) {
 	write.Close()
 	for lines := bufio.NewScanner(read); ; {
 		if !lines.Scan() {
-			t.Fatal("it ended before it served")
+			t.Fatal("ctserve ended before it served")
 		}
 		if strings.Contains(lines.Text(), `"serving"`) {
 			break
@@ -201,7 +202,7 @@ func TestReaderOfLinesGoes(t *testing.T) {
 	}
 	read.Close()
 	for i := 0; i < 5; i++ {
-		// (each request writes a line)
+		// Each request writes a line.
 		if status, text := post(clients, at.submission()); status != 200 {
 			t.Errorf("%d %s", status, text)
 		}
@@ -210,6 +211,6 @@ func TestReaderOfLinesGoes(t *testing.T) {
 		t.Fatal(err)
 	}
 	if err := command.Wait(); err != nil {
-		t.Errorf("it ended by %v", err)
+		t.Errorf("ctserve ended with an error: %v", err)
 	}
 }

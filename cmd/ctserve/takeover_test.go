@@ -13,10 +13,10 @@ import (
 	"wagtenib/internal/signer"
 )
 
-// testdata/before has the folder, the guard's state and the latest head of a log of three entries that an earlier
-// ctserve made, with what it answered.
+// testdata/before has the folder, the guard's state and the latest head of a log with three entries, which an earlier
+// version of ctserve made, and its answers.
 
-// takenOver returns a place with a copy of that log, on which it is that log's day.
+// takenOver returns a place with a copy of that log, and the arguments to serve it. The operator has named today.
 func takenOver(t *testing.T) (*place, []string) {
 	t.Helper()
 	p := &place{t: t, folder: t.TempDir()}
@@ -35,7 +35,7 @@ func takenOver(t *testing.T) (*place, []string) {
 		"--signing-key", p.path("log.key"), "--folder", p.path("log"))
 }
 
-// kept reads a file of the place.
+// kept returns the content of a file of the place.
 func (p *place) kept(name string) string {
 	p.t.Helper()
 	content, err := os.ReadFile(p.path(name))
@@ -45,26 +45,26 @@ func (p *place) kept(name string) string {
 	return string(content)
 }
 
-// indexed has the index built, as a start demands that finds only the one of the earlier ctserve.
-func (p *place) indexed(words []string) {
+// indexed builds the index. It checks that a start demands that if it finds only the index of the earlier version.
+func (p *place) indexed(arguments []string) {
 	p.t.Helper()
-	if status, told := runs(words); status != statusSetBack || !strings.Contains(told, p.path("log/places")) ||
-		!strings.Contains(told, "run ctserve index") {
-		p.t.Errorf("a start without a new index: status %d: %s", status, told)
+	if status, output := runs(arguments); status != statusRolledBack || !strings.Contains(output, p.path("log/places")) ||
+		!strings.Contains(output, "run ctserve index") {
+		p.t.Errorf("a start without a new index: status %d: %s", status, output)
 	}
 	if isThere(p.path("log/index")) {
 		p.t.Error("the start makes an empty index")
 	}
-	if status, told, faults := does(append([]string{"index"}, words...)...); status != 0 ||
-		told != "0 entries are left\n" {
-		p.t.Fatalf("index: status %d, %q, %q", status, told, faults)
+	if status, stdout, stderr := does(append([]string{"index"}, arguments...)...); status != 0 ||
+		stdout != "0 entries are left\n" {
+		p.t.Fatalf("index: status %d, %q, %q", status, stdout, stderr)
 	}
 }
 
-// goesOn starts a log that was taken over, and sees that it keeps what it promised, and takes more.
-func (p *place) goesOn(words []string) {
+// goesOn starts a log that was taken over. It checks that the log answers its entries as before, and accepts new ones.
+func (p *place) goesOn(arguments []string) {
 	p.t.Helper()
-	s := started(p.t, "", words...)
+	s := started(p.t, "", arguments...)
 	for _, number := range []string{"1", "2", "3"} {
 		status, text := post(s.clients, []byte(p.kept("chain-"+number+".json")))
 		if status != 200 || timestampIn(p.t, text) != timestampIn(p.t, p.kept("sct-"+number+".json")) {
@@ -75,14 +75,14 @@ func (p *place) goesOn(words []string) {
 		"\n")[2] != strings.Split(p.kept("checkpoint"), "\n")[2] {
 		p.t.Errorf("its head is %s, and was %s", text, p.kept("checkpoint"))
 	}
-	// The chain's first certificate is the root's own: it is an entry that the log has not.
+	// A chain of only the root's certificate is an entry that the log does not have yet.
 	root := strings.Split(p.kept("chain-1.json"), `","`)[1]
 	if status, text := post(s.clients, []byte(`{"chain":["`+root)); status != 200 {
 		p.t.Errorf("a new entry: %d %s", status, text)
 	}
 	s.signal(syscall.SIGTERM)
 	if status := s.ends(); status != 0 {
-		p.t.Errorf("it ended with status %d", status)
+		p.t.Errorf("ctserve ended with status %d", status)
 	}
 	key, err := signer.OpenKey(p.path("log.key"))
 	if err != nil {
@@ -95,19 +95,19 @@ func (p *place) goesOn(words []string) {
 	}
 }
 
-// TestTakesOver: a log that an earlier ctserve created continues. What was answered is answered again, and its list
-// grows.
+// TestTakesOver checks that a log that an earlier version of ctserve created goes on.
 func TestTakesOver(t *testing.T) {
 	t.Parallel()
-	p, words := takenOver(t)
-	p.indexed(words)
-	p.goesOn(words)
+	p, arguments := takenOver(t)
+	p.indexed(arguments)
+	p.goesOn(arguments)
 }
 
-// A log that an earlier ctserve left between the lock's swap and the head is published from its staged batch.
+// TestTakesOverUnpublished checks that a step that an earlier version of ctserve did not publish after the swap of the
+// lock is published from its staged batch.
 func TestTakesOverUnpublished(t *testing.T) {
 	t.Parallel()
-	p, words := takenOver(t)
+	p, arguments := takenOver(t)
 	for _, name := range []string{"heads/00000000000000000003-00000001795991630331", "tile/0/000.p/3",
 		"tile/data/000.p/3"} {
 		if err := os.Remove(p.path("log/objects/" + name)); err != nil {
@@ -115,15 +115,16 @@ func TestTakesOverUnpublished(t *testing.T) {
 		}
 	}
 	p.write("log/register/head", []byte("2 1795991629981"))
-	// Its machine had not kept that state yet, and its guard had not signed the head.
+	// The machine had not stored that state yet.
 	if err := os.Remove(p.path("log.latest-head")); err != nil {
 		t.Fatal(err)
 	}
-	p.indexed(words)
-	p.goesOn(words)
+	p.indexed(arguments)
+	p.goesOn(arguments)
 }
 
-// A log that an earlier ctserve made, and whose folder is put back without what is beside it, is refused as before.
+// TestTakesOverNothingOlder checks that a log of an earlier version of ctserve is refused if a part of it is missing or
+// older than the rest.
 func TestTakesOverNothingOlder(t *testing.T) {
 	t.Parallel()
 	for _, test := range []struct {
@@ -131,26 +132,26 @@ func TestTakesOverNothingOlder(t *testing.T) {
 		do   func(p *place) error
 		why  string
 	}{
-		{"the lock is gone", func(p *place) error { return os.RemoveAll(p.path("log/register")) },
+		{"the lock is missing", func(p *place) error { return os.RemoveAll(p.path("log/register")) },
 			"the lock is older than the log"},
-		{"the guard's state is gone", func(p *place) error { return os.RemoveAll(p.path("log.guard")) },
+		{"the guard's state is missing", func(p *place) error { return os.RemoveAll(p.path("log.guard")) },
 			"no valid guard state"},
-		{"the index is gone", func(p *place) error {
+		{"the index is missing", func(p *place) error {
 			return errors.Join(os.RemoveAll(p.path("log/places")), os.RemoveAll(p.path("log/index")))
 		}, "the index is not the log's"},
-		{"this machine saw more", func(p *place) error {
+		{"this machine saw a later head", func(p *place) error {
 			text := strings.Replace(p.kept("log.latest-head"), `"tree_size":3`, `"tree_size":4`, 1)
 			return errors.Join(os.Remove(p.path("log.latest-head")), os.WriteFile(p.path("log.latest-head"),
 				[]byte(text), 0o600))
 		}, "the lock is older than the log"},
 	} {
-		p, words := takenOver(t)
-		p.indexed(words)
+		p, arguments := takenOver(t)
+		p.indexed(arguments)
 		if err := test.do(p); err != nil {
 			t.Fatal(err)
 		}
-		if status, told := runs(words); status != statusSetBack || !strings.Contains(told, test.why) {
-			t.Errorf("%s: status %d: %s", test.what, status, told)
+		if status, output := runs(arguments); status != statusRolledBack || !strings.Contains(output, test.why) {
+			t.Errorf("%s: status %d: %s", test.what, status, output)
 		}
 	}
 }

@@ -15,7 +15,7 @@ import (
 	"wagtenib/internal/witness"
 )
 
-// validate checks which settings need one another, and fills in the defaults that follow from others.
+// validate checks the settings, also those that need one another, and sets defaults that follow from other settings.
 func (s *settings) validate() error {
 	n := &s.node
 	for _, check := range []func() error{s.validateArchive, s.checkNeeded, s.validateAddresses, s.validateRules,
@@ -27,19 +27,19 @@ func (s *settings) validate() error {
 	return nil
 }
 
-// checkNeeded reports settings that are missing, and those that are of no use beside others.
+// checkNeeded returns an error if a setting is missing, or excludes another one.
 func (s *settings) checkNeeded() error {
 	n := &s.node
 	for _, needed := range []struct{ name, value string }{
 		{"roots", strings.Join(s.roots.Paths, "")},
 		{"origin", n.origin},
-		{"signing-key or --signer-socket", n.signingKey + n.signerAt},
+		{"signing-key or --signer-socket", n.signingKey + n.signerSocket},
 	} {
 		if needed.value == "" && n.archive == "" {
 			return fmt.Errorf("--%s is missing", needed.name)
 		}
 	}
-	if n.signerAt != "" && (n.signingKey != "" || n.guard != nil || n.guardState != "") {
+	if n.signerSocket != "" && (n.signingKey != "" || n.guard != nil || n.guardState != "") {
 		return errors.New("--signer-socket replaces --signing-key, --guard and --guard-state: remove either")
 	}
 	if (s.certificate == "") != (s.key == "") {
@@ -48,7 +48,7 @@ func (s *settings) checkNeeded() error {
 	return nil
 }
 
-// validateAddresses checks the names and addresses under which the log is read, and at which it listens.
+// validateAddresses checks the origin, the monitoring URL and the addresses of the listeners.
 func (s *settings) validateAddresses() error {
 	if err := checkOrigin(s.node.origin); err != nil {
 		return err
@@ -62,7 +62,7 @@ func (s *settings) validateAddresses() error {
 	return checkListeners(s.listen, s.node.peers.listen, s.operator)
 }
 
-// validateRules fills in which certificates are accepted.
+// validateRules sets the rules for accepted certificates, and checks the window.
 func (s *settings) validateRules() error {
 	s.rules.ServerAuthentication, s.roots.AnyPurpose = !s.anyPurpose, s.anyPurpose
 	if window := s.rules.Window; !window.From.IsZero() && !window.To.IsZero() && !window.From.Before(window.To) {
@@ -71,7 +71,7 @@ func (s *settings) validateRules() error {
 	return nil
 }
 
-// checkDurations refuses durations that are not above 0. The zero value is no default of theirs.
+// checkDurations returns an error if a duration is not above 0. For these settings, 0 does not mean the default.
 func (s *settings) checkDurations() error {
 	n, l := &s.node, &s.limits
 	for _, of := range []struct {
@@ -86,10 +86,10 @@ func (s *settings) checkDurations() error {
 		{"idle-timeout", l.Idle},
 		{"max-merge-delay", n.maxMergeDelay},
 		{"open-timeout", n.openWithin},
-		{"delete-heads-after", n.sweepAfter},
-		{"delete-tiles-after", n.sweepTilesAfter},
-		{"scrub-interval", n.readEvery},
-		{"scrub-period", n.readAllWithin},
+		{"delete-heads-after", n.keepHeads},
+		{"delete-tiles-after", n.keepTiles},
+		{"scrub-interval", n.scrubInterval},
+		{"scrub-period", n.scrubPeriod},
 		{"max-clock-skew", n.maxSkew},
 	} {
 		if err := settingsfile.Positive(of.name, of.value); err != nil {
@@ -99,7 +99,7 @@ func (s *settings) checkDurations() error {
 	return nil
 }
 
-// validateLimits checks what clients and steps may use.
+// validateLimits checks the limits of clients and steps, and sets the one for proofs by address.
 func (s *settings) validateLimits() error {
 	n, l := &s.node, &s.limits
 	// One address may use a quarter of the proofs.
@@ -127,7 +127,8 @@ func (s *settings) validateLimits() error {
 	return nil
 }
 
-// setDefaultStores fills in the addresses of stores and the names of files that follow from the folder.
+// setDefaultStores sets the addresses of stores and the names of files that follow from the folder, and checks that
+// they are possible with several nodes.
 func (n *node) setDefaultStores() error {
 	for _, address := range []struct {
 		of   *string
@@ -141,7 +142,7 @@ func (n *node) setDefaultStores() error {
 			*address.of, n.makesFolder = address.text, true
 		}
 	}
-	if n.guardState == "" && n.signerAt == "" {
+	if n.guardState == "" && n.signerSocket == "" {
 		n.guardState = "file:" + beside(n.folder, ".guard")
 	}
 	if n.latestHead == "" {
@@ -161,24 +162,24 @@ func (n *node) setDefaultStores() error {
 	return nil
 }
 
-// checkMonitoringURL refuses what is no monitoring prefix (C2SP static-ct-api, "Parameters"): readers append paths to
-// it.
+// checkMonitoringURL returns an error if a URL cannot be a monitoring prefix (C2SP static-ct-api, "Parameters"), to
+// which readers append paths.
 func checkMonitoringURL(text string) error {
 	at, err := url.Parse(text)
 	if err != nil || at.Scheme != "https" || at.Host == "" || at.User != nil || at.RawQuery != "" || at.Fragment != "" ||
 		!strings.HasSuffix(at.Path, "/") {
-		return fmt.Errorf("--monitoring-url %q is no https URL that ends with a slash "+
+		return fmt.Errorf("--monitoring-url %q is not an https URL that ends with a slash "+
 			"(write for example https://read.log.example/2027h1/)", text)
 	}
 	return nil
 }
 
-// validateMergeDelay refuses a merge delay that a log list cannot have, and an age of heads with which an idle log would
-// not keep it (RFC 6962, section 3.5).
+// validateMergeDelay returns an error for a merge delay that a log list cannot have, and for a refresh interval with
+// which an idle log would break the merge delay (RFC 6962, section 3.5). It sets the default of the refresh interval.
 func (n *node) validateMergeDelay() error {
 	if n.maxMergeDelay%time.Second != 0 {
-		return fmt.Errorf("--max-merge-delay %v is no whole number of seconds, as a log list needs it (write for example 1m)",
-			n.maxMergeDelay)
+		return fmt.Errorf("--max-merge-delay %v is not a whole number of seconds, which a log list needs "+
+			"(write for example 1m)", n.maxMergeDelay)
 	}
 	if n.refresh == 0 {
 		n.refresh = n.maxMergeDelay / 2
@@ -191,9 +192,9 @@ func (n *node) validateMergeDelay() error {
 	return nil
 }
 
-// checkOrigin refuses a name that cannot be a log's origin. An origin is the submission prefix as a URL, without the
-// scheme and without a slash at the end (C2SP static-ct-api). It is signed with each head, and so cannot be changed
-// later.
+// checkOrigin returns an error if a name cannot be a log's origin. An origin is the URL of the submission prefix,
+// without the scheme and without a slash at the end (C2SP static-ct-api). It is signed with each head, so it cannot be
+// changed later.
 func checkOrigin(origin string) error {
 	wrong := func(why, remedy string) error { return fmt.Errorf("--origin %q: %s (%s)", origin, why, remedy) }
 	switch {
@@ -212,7 +213,7 @@ func checkOrigin(origin string) error {
 	return nil
 }
 
-// checkListeners checks that each address is a host and a port, and that no two are the same.
+// checkListeners returns an error unless each address is a host and a port, and no two are the same.
 func checkListeners(addresses ...string) error {
 	taken := map[string]bool{}
 	for _, address := range addresses {
@@ -236,7 +237,7 @@ func checkListeners(addresses ...string) error {
 	return nil
 }
 
-// validateWitnesses fills in the quorums, and checks that they are possible.
+// validateWitnesses sets the defaults of the quorums, and checks that they are possible.
 func (n *node) validateWitnesses() error {
 	q := &n.quorums
 	if len(n.witnesses) == 0 {
@@ -256,11 +257,11 @@ func (n *node) validateWitnesses() error {
 	return q.Check(len(n.witnesses))
 }
 
-// beside returns the name of a file that belongs to a log's folder and is not in it, so that a copy of the folder does
-// not have it and an older copy does not restore it.
+// beside returns the path of a file that belongs to a log's folder but is not in it. So a copy of the folder does not
+// have the file, and an older copy of the folder does not replace it.
 func beside(folder, kind string) string {
 	if whole, err := filepath.Abs(folder); err == nil && filepath.Base(filepath.Clean(folder)) != filepath.Base(whole) {
-		// (. and .. have no name of their own)
+		// The names . and .. are replaced by the whole path, because a file beside them needs the folder's name.
 		folder = whole
 	}
 	return filepath.Clean(folder) + kind

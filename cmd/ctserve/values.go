@@ -22,7 +22,7 @@ func prefixes(text string) (found []netip.Prefix, err error) {
 	return found, nil
 }
 
-// prefixOf reads a prefix, or an address as the prefix with only this address.
+// prefixOf parses a prefix, or an address as the prefix with only this address.
 func prefixOf(text string) (netip.Prefix, error) {
 	text = strings.TrimSpace(text)
 	if address, err := netip.ParseAddr(text); err == nil {
@@ -32,30 +32,30 @@ func prefixOf(text string) (netip.Prefix, error) {
 	return prefix.Masked(), err
 }
 
-// submitters reads prefixes, each with a bound. No prefix may occur twice.
+// submitters parses prefixes, each with a bound. No prefix may occur twice.
 func submitters(text string) (found []httpserver.Submitter, err error) {
 	for _, part := range strings.Split(text, ",") {
-		of, bound, _ := strings.Cut(part, "=")
+		of, number, _ := strings.Cut(part, "=")
 		prefix, err := prefixOf(of)
 		if err != nil {
 			return nil, err
 		}
-		most, err := strconv.Atoi(strings.TrimSpace(bound))
-		if err != nil || most < 1 {
-			return nil, fmt.Errorf("%s has no bound above 0: PREFIX=NUMBER", strings.TrimSpace(part))
+		bound, err := strconv.Atoi(strings.TrimSpace(number))
+		if err != nil || bound < 1 {
+			return nil, fmt.Errorf("%s has no bound above 0 (write PREFIX=NUMBER)", strings.TrimSpace(part))
 		}
 		for _, other := range found {
 			if other.Prefix == prefix {
 				return nil, fmt.Errorf("%s occurs twice", prefix)
 			}
 		}
-		found = append(found, httpserver.Submitter{Prefix: prefix, Most: most})
+		found = append(found, httpserver.Submitter{Prefix: prefix, Max: bound})
 	}
 	return found, nil
 }
 
-// isOn reads true or false.
-func isOn(into **bool) func(string) error {
+// boolean returns a function that parses true or false.
+func boolean(into **bool) func(string) error {
 	return func(text string) error {
 		on, err := strconv.ParseBool(text)
 		if err != nil {
@@ -66,8 +66,8 @@ func isOn(into **bool) func(string) error {
 	}
 }
 
-// above0 reads a duration, which must be above 0.
-func above0(into *time.Duration) func(string) error {
+// positiveDuration returns a function that parses a duration above 0.
+func positiveDuration(into *time.Duration) func(string) error {
 	return func(text string) error {
 		set, err := settingsfile.Duration(text)
 		if err == nil && set <= 0 {

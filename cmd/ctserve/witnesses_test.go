@@ -25,7 +25,8 @@ import (
 	"wagtenib/internal/witness"
 )
 
-// aWitness is a witness of the place's log, over HTTP: its URL, a comma, and its verifier key.
+// aWitness starts a witness of the place's log over HTTP. It returns the witness as a setting has it, which is its URL,
+// a comma and its verifier key, and the verifier of its cosignatures.
 func (p *place) aWitness(name string, with ...func(log *witness.Log)) (one string, key note.Verifier) {
 	p.t.Helper()
 	must := func(err error) { p.t.Helper(); testutil.Must(p.t, err) }
@@ -50,8 +51,8 @@ func (p *place) aWitness(name string, with ...func(log *witness.Log)) (one strin
 	return over.URL + "," + s.VerifierKey(), witness.OfCosigner(name, public)
 }
 
-// comesIn submits a certificate until it is answered. If a witness is late on a slow machine, the response is a 503
-// although the entry may be in the log. Sent again, it is answered after its head is cosigned.
+// comesIn submits a certificate again until it is answered. If a witness is late on a slow machine, the answer is a 503
+// although the entry may be in the log.
 func (p *place) comesIn(at *program) {
 	p.t.Helper()
 	submission := p.submission()
@@ -66,16 +67,16 @@ func (p *place) comesIn(at *program) {
 	}
 }
 
-// TestWitnessedLog: the log's checkpoint has cosignatures, its figures tell of its witnesses, and where all that it has
-// is put back together the start is refused.
+// TestWitnessedLog checks that the log's checkpoint has cosignatures, and that its metrics show its witnesses. If all
+// parts of the log are rolled back together, the start is refused.
 func TestWitnessedLog(t *testing.T) {
 	t.Parallel()
 	at := newPlace(t)
 	first, firstKey := at.aWitness("v.example")
 	second, secondKey := at.aWitness("w.example")
-	words := at.realWords("--signing-key", at.path("log.pem"))
-	words = append(words, "--witnesses", first+" "+second, "--faulty-witnesses", "1")
-	p := started(t, "", append(words, "--create")...)
+	arguments := at.realArguments("--signing-key", at.path("log.pem"))
+	arguments = append(arguments, "--witnesses", first+" "+second, "--faulty-witnesses", "1")
+	p := started(t, "", append(arguments, "--create")...)
 	submitted := func() { t.Helper(); at.comesIn(p) }
 	submitted()
 	_, checkpoint := read(p.clients, "/checkpoint")
@@ -85,20 +86,20 @@ func TestWitnessedLog(t *testing.T) {
 	}
 	p.signal(syscall.SIGTERM)
 	if status := p.ends(); status != 0 {
-		t.Errorf("it ended with status %d", status)
+		t.Errorf("ctserve ended with status %d", status)
 	}
 	parts := []string{"log", "log.guard", "log.latest-head"}
 	for _, part := range parts {
-		if said, err := exec.Command("cp", "-a", at.path(part), at.path("old-"+part)).CombinedOutput(); err != nil {
-			t.Fatalf("%v: %s", err, said)
+		if output, err := exec.Command("cp", "-a", at.path(part), at.path("old-"+part)).CombinedOutput(); err != nil {
+			t.Fatalf("%v: %s", err, output)
 		}
 	}
-	p = started(t, "", words...)
+	p = started(t, "", arguments...)
 	submitted()
-	_, figures := get(p.operator, "/metrics")
+	_, metrics := get(p.operator, "/metrics")
 	for _, line := range []string{`ctserve_witness_lag{witness="v.example"} 0`,
 		`ctserve_witness_ahead{witness="w.example"} 0`, `ctserve_witness_cosignatures_total{witness="w.example"} `} {
-		if !strings.Contains(figures, line) {
+		if !strings.Contains(metrics, line) {
 			t.Errorf("/metrics lacks %s", line)
 		}
 	}
@@ -109,29 +110,29 @@ func TestWitnessedLog(t *testing.T) {
 			if err := os.RemoveAll(at.path(part)); err != nil {
 				t.Fatal(err)
 			}
-			if said, err := exec.Command("cp", "-a", at.path("old-"+part), at.path(part)).CombinedOutput(); err != nil {
-				t.Fatalf("%v: %s", err, said)
+			if output, err := exec.Command("cp", "-a", at.path("old-"+part), at.path(part)).CombinedOutput(); err != nil {
+				t.Fatalf("%v: %s", err, output)
 			}
 		}
-		p, line := begun(t, "", words...)
-		serves, told := line["event"] == "serving", fmt.Sprint(line["fault"])
+		p, line := launched(t, "", arguments...)
+		serves, output := line["event"] == "serving", fmt.Sprint(line["fault"])
 		if serves {
 			p.signal(syscall.SIGKILL)
 		}
 		status := p.ends()
-		// If both witnesses are late, which have a limit of some seconds, the log serves and accepts nothing.
-		if (serves || isLate(told)) && time.Now().Before(until) {
+		// The witnesses have a limit of some seconds. If both are late, the log serves and accepts no submissions.
+		if (serves || isLate(output)) && time.Now().Before(until) {
 			continue
 		}
-		if status != statusSetBack || !strings.Contains(told, "has seen 2 entries, and the head has 1") {
-			t.Errorf("all of it put back: status %d: %v", status, line)
+		if status != statusRolledBack || !strings.Contains(output, "has seen 2 entries, and the head has 1") {
+			t.Errorf("all parts are rolled back: status %d: %v", status, line)
 		}
 		return
 	}
 }
 
 // TestWatchedWitness runs ctwatch over a log whose head a quorum of witnesses cosigned. ctwatch reads the entries, and
-// has a third witness cosign the head. This witness cosigns only what ctwatch accepted.
+// then asks a third witness to cosign the head. This witness cosigns only heads that ctwatch accepted.
 func TestWatchedWitness(t *testing.T) {
 	t.Parallel()
 	at := newPlace(t)
@@ -141,11 +142,11 @@ func TestWatchedWitness(t *testing.T) {
 	third, thirdKey := at.aWitness("x.example", func(log *witness.Log) {
 		log.Accepted = func() (uint64, [32]byte, error) { return witness.AcceptedBy(file, log.Origin, log.Keys) }
 	})
-	p := started(t, "", append(at.realWords("--signing-key", at.path("log.pem")), "--witnesses", first+" "+second,
+	p := started(t, "", append(at.realArguments("--signing-key", at.path("log.pem")), "--witnesses", first+" "+second,
 		"--create")...)
 	ctwatch := at.path("ctwatch")
-	if told, err := exec.Command("go", "build", "-o", ctwatch, "wagtenib/cmd/ctwatch").CombinedOutput(); err != nil {
-		t.Fatalf("go build: %v: %s", err, told)
+	if output, err := exec.Command("go", "build", "-o", ctwatch, "wagtenib/cmd/ctwatch").CombinedOutput(); err != nil {
+		t.Fatalf("go build: %v: %s", err, output)
 	}
 	key, err := signer.OpenKey(at.path("log.pem"))
 	testutil.Must(t, err)
@@ -154,13 +155,13 @@ func TestWatchedWitness(t *testing.T) {
 	_, one, _ := strings.Cut(first, ",")
 	_, two, _ := strings.Cut(second, ",")
 	_, three, _ := strings.Cut(third, ",")
-	runs := func(words ...string) (status int, told string) {
+	runs := func(arguments ...string) (status int, text string) {
 		t.Helper()
-		command := exec.Command(ctwatch, append(words, of...)...)
-		said, _ := command.CombinedOutput()
-		return command.ProcessState.ExitCode(), string(said)
+		command := exec.Command(ctwatch, append(arguments, of...)...)
+		output, _ := command.CombinedOutput()
+		return command.ProcessState.ExitCode(), string(output)
 	}
-	watches := func(keys string) (status int, told string) {
+	watches := func(keys string) (status int, text string) {
 		t.Helper()
 		at.write("witnesses", []byte(keys))
 		return runs("run", "--once", "--quiet", "--listen=", "--from-start", "--name", "a.example", "--unread", "none",
@@ -170,17 +171,17 @@ func TestWatchedWitness(t *testing.T) {
 	for entries := 1; entries < 4; entries++ {
 		at.comesIn(p)
 		if entries > 1 {
-			if status, told := runs("cosign", third, "--into", at.path("cosigned")); status != 0 ||
-				!strings.Contains(told, fmt.Sprintf("%d leaves", entries-1)) {
-				t.Fatalf("before the entries are read: status %d: %s", status, told)
+			if status, output := runs("cosign", third, "--into", at.path("cosigned")); status != 0 ||
+				!strings.Contains(output, fmt.Sprintf("%d leaves", entries-1)) {
+				t.Fatalf("before the entries are read: status %d: %s", status, output)
 			}
 		}
-		if status, told := watches(one + "\n" + two + "\n"); status != 0 {
-			t.Fatalf("with %d entries: status %d: %s", entries, status, told)
+		if status, output := watches(one + "\n" + two + "\n"); status != 0 {
+			t.Fatalf("with %d entries: status %d: %s", entries, status, output)
 		}
-		if status, told := runs("cosign", third, "--into", at.path("cosigned")); status != 0 ||
-			!strings.Contains(told, fmt.Sprintf("%d leaves are cosigned by x.example", entries)) {
-			t.Fatalf("with %d entries: status %d: %s", entries, status, told)
+		if status, output := runs("cosign", third, "--into", at.path("cosigned")); status != 0 ||
+			!strings.Contains(output, fmt.Sprintf("%d leaves are cosigned by x.example", entries)) {
+			t.Fatalf("with %d entries: status %d: %s", entries, status, output)
 		}
 		kept, err := os.ReadFile(at.path("cosigned"))
 		testutil.Must(t, err)
@@ -189,14 +190,15 @@ func TestWatchedWitness(t *testing.T) {
 			t.Errorf("%q: %v", kept, err)
 		}
 	}
-	if status, told := watches(one + "\n" + three + "\n"); status != 3 {
-		t.Errorf("with one cosignature of two: status %d: %s", status, told)
+	if status, output := watches(one + "\n" + three + "\n"); status != 3 {
+		t.Errorf("with one cosignature of two: status %d: %s", status, output)
 	}
 	p.signal(syscall.SIGTERM)
 	p.ends()
 }
 
-// TestWitnessesSettings: witnesses and quorums that can't be are refused at the start, and what isn't said follows.
+// TestWitnessesSettings checks that impossible witnesses and quorums are refused at the start, and that quorums that
+// are not set get their defaults.
 func TestWitnessesSettings(t *testing.T) {
 	at := newPlace(t)
 	var ones []string
@@ -209,8 +211,8 @@ func TestWitnessesSettings(t *testing.T) {
 	}
 	three := strings.Join(ones, " ")
 	for _, test := range []struct {
-		words []string
-		why   string
+		arguments []string
+		why       string
 	}{
 		{[]string{"--witnesses", "https://a.example"}, "no verifier key"},
 		{[]string{"--witnesses", three + " x"}, "a witness is a URL"},
@@ -225,14 +227,14 @@ func TestWitnessesSettings(t *testing.T) {
 		{[]string{"--witnesses", three, "--faulty-witnesses", "3"}, "impossible quorums"},
 		{[]string{"--witnesses", three, "--faulty-witnesses", "-1"}, "impossible quorums"},
 	} {
-		if _, err := parse(at.words(test.words...), io.Discard); !errors.Is(err, errUsage) ||
+		if _, err := parse(at.arguments(test.arguments...), io.Discard); !errors.Is(err, errUsage) ||
 			!strings.Contains(err.Error(), test.why) {
-			t.Errorf("%q: %v", test.words, err)
+			t.Errorf("%q: %v", test.arguments, err)
 		}
 	}
 	for _, test := range []struct {
-		words   []string
-		quorums witness.Quorums
+		arguments []string
+		quorums   witness.Quorums
 	}{
 		{[]string{"--witnesses", three}, witness.Quorums{Publish: 2, Start: 2}},
 		{[]string{"--witnesses", three, "--faulty-witnesses", "1"}, witness.Quorums{Publish: 3, Start: 3, Faults: 1}},
@@ -240,13 +242,13 @@ func TestWitnessesSettings(t *testing.T) {
 			witness.Quorums{Publish: 3, Start: 2, Faults: 1}},
 		{[]string{"--witnesses", ones[0]}, witness.Quorums{Publish: 1, Start: 1}},
 	} {
-		s, err := parse(at.words(test.words...), io.Discard)
+		s, err := parse(at.arguments(test.arguments...), io.Discard)
 		if err != nil || s.node.quorums != test.quorums {
-			t.Errorf("%q: %v", test.words, err)
+			t.Errorf("%q: %v", test.arguments, err)
 		}
 	}
 	at.write("settings", []byte("witnesses "+three+"\nstart-quorum 3\n"))
-	s, err := parse(at.words("--config", filepath.Join(at.folder, "settings")), io.Discard)
+	s, err := parse(at.arguments("--config", filepath.Join(at.folder, "settings")), io.Discard)
 	if err != nil || len(s.node.witnesses) != 3 || s.node.quorums != (witness.Quorums{Publish: 2, Start: 3}) {
 		t.Errorf("%v", err)
 	}

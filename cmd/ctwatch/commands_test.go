@@ -49,7 +49,7 @@ func TestRefusesSettings(t *testing.T) {
 		"--name a.example --names /absent":                 "no such file",
 		"--name a.example --config /absent":                "no such file",
 		"--name a.example --json /absent/a":                "no such file",
-		"--name a.example other":                           `"other" isn't expected`,
+		"--name a.example other":                           `"other" is not expected`,
 		"--name a.example --silent-after 1s":               "at least 1m",
 		"--name a.example --log=https://a.b":               "write [tiled+]https://HOST/PATH KEY-FILE",
 		"--name a.example --contact a\x01b":                "printable ASCII",

@@ -298,7 +298,7 @@ func TestArguments(t *testing.T) {
 		status    int
 		why       string
 	}{
-		{"", []string{"word"}, 2, `"word" isn't expected`},
+		{"", []string{"word"}, 2, `"word" is not expected`},
 		{"", []string{"--nothing"}, 2, "not defined"},
 		{"", []string{"--help"}, 0, "is a witness"},
 		{"nothing 7", nil, 2, `there is no setting "nothing"`},

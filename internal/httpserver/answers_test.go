@@ -17,8 +17,8 @@ import (
 	"wagtenib/internal/stores"
 )
 
-// TestAnswersAreBounded: if responses have as many bytes as allowed, a call that reads objects is refused, and another
-// one is not. What was read does not count after its response, and what does not exist never counts.
+// TestAnswersAreBounded checks that, if responses have as many bytes as allowed, a call that reads objects is refused,
+// and other calls are not. An object does not count after its response, and one that does not exist never counts.
 func TestAnswersAreBounded(t *testing.T) {
 	f := newFixture(t, 0, func(o *Options) { o.Limits.AnswerBytes = 2 << 20 })
 	f.fill(260)
@@ -42,7 +42,7 @@ func TestAnswersAreBounded(t *testing.T) {
 		answered(objects...)
 		refused(t, "no tile", f.get("/tile/data/007"), 404, "absent")
 	}
-	// (issuers are at hand by now)
+	// The issuers are in the cache by now.
 	f.front.issuers.kept, f.front.issuers.bytes = nil, 0
 	const all = 2<<20 - 4096
 	if !f.front.uses.answers.take(all) {
@@ -51,22 +51,22 @@ func TestAnswersAreBounded(t *testing.T) {
 	for _, path := range objects {
 		w := f.get(path)
 		if refused(t, path, w, 503, "busy"); w.Header().Get("Retry-After") != "1" {
-			t.Errorf("%s: it isn't told when to come again", path)
+			t.Errorf("%s: the answer has no Retry-After of 1 second", path)
 		}
 	}
 	answered(none...)
 	f.front.uses.answers.give(all)
 	answered(objects...)
-	// One that has more bytes than it was taken to have.
+	// This object is longer than it counts until its length is known.
 	f.log.Change("tile/data/001.p/4", dataTileOf(700000, 700000, 700000, 700000))
 	refused(t, "a large tile", f.get("/tile/data/001.p/4"), 503, "busy")
-	if used := f.front.uses.answers.used.Load(); used != 0 || len(f.front.uses.answersOf.of) != 0 {
-		t.Errorf("%d bytes and %v of addresses are still counted", used, f.front.uses.answersOf.of)
+	if used := f.front.uses.answers.used.Load(); used != 0 || len(f.front.uses.answersByClient.byGroup) != 0 {
+		t.Errorf("%d bytes and %v of addresses are still counted", used, f.front.uses.answersByClient.byGroup)
 	}
 }
 
-// countedWriter notes how many bytes count as held by answers while one is written. (Its last byte is written once none
-// count any more.)
+// countedWriter records how many bytes count as held by answers while an answer is written. The last byte is written
+// after none counts any more.
 type countedWriter struct {
 	*httptest.ResponseRecorder
 	front   *Front
@@ -80,8 +80,8 @@ func (w *countedWriter) Write(content []byte) (int, error) {
 	return w.ResponseRecorder.Write(content)
 }
 
-// TestAnswersWithEntriesCount asks for entries whose issuers are far longer than their data tile: all bytes of the
-// answer must count while it is written, and an answer that has no room must be refused before it is made.
+// TestAnswersWithEntriesCount asks for entries whose issuers are far longer than their data tile. All bytes of the
+// answer must count while it is written. An answer that has no room must be refused before it is made.
 func TestAnswersWithEntriesCount(t *testing.T) {
 	f := newFixture(t, 0, func(o *Options) { o.Limits.AnswerBytes = 64 << 20 })
 	issuers := [][]byte{bytes.Repeat([]byte("a"), 1300), bytes.Repeat([]byte("b"), 1300),
@@ -102,7 +102,7 @@ func TestAnswersWithEntriesCount(t *testing.T) {
 			t.Errorf("%s: %d, %d bytes count of an answer of %d", path, w.Code, w.counted, w.Body.Len())
 		}
 	}
-	// There is room for the tile, and not for the answer.
+	// There is room for the tile, but not for the answer.
 	const room = likelyEntries + 64<<10
 	if !f.front.uses.answers.take(64<<20 - room) {
 		t.Fatalf("%d bytes are still counted", f.front.uses.answers.used.Load())
@@ -117,34 +117,34 @@ func TestAnswersWithEntriesCount(t *testing.T) {
 	}
 }
 
-// readsLong is a log that notes how many bytes of long objects are read at once, and keeps each reading until it is let
-// go.
+// readsLong is a log that records how many bytes of long objects are read at once. It holds each read until release is
+// closed.
 type readsLong struct {
 	loginterface.Log
-	now, most atomic.Int64
-	let       chan struct{}
+	now, peak atomic.Int64
+	release   chan struct{}
 }
 
-func (l *readsLong) Object(ctx context.Context, name string, most int64) ([]byte, error) {
-	content, err := l.Log.Object(ctx, name, most)
+func (l *readsLong) Object(ctx context.Context, name string, maxBytes int64) ([]byte, error) {
+	content, err := l.Log.Object(ctx, name, maxBytes)
 	if err == nil && len(content) > likelyEntries {
-		if now := l.now.Add(int64(len(content))); now > l.most.Load() {
-			l.most.Store(now)
+		if now := l.now.Add(int64(len(content))); now > l.peak.Load() {
+			l.peak.Store(now)
 		}
-		<-l.let
+		<-l.release
 		l.now.Add(-int64(len(content)))
 	}
 	return content, err
 }
 
-// A long object is read once its bytes are taken: of many who ask for it at once, those for whom there is no room are
-// refused, and read nothing of it.
-func TestLongObjectsAreTakenFirst(t *testing.T) {
+// TestLongObjectsAreCountedFirst checks that a long object is read only after its bytes are counted. If many clients
+// ask for it at once, those for whom there is no room are refused, and nothing of it is read for them.
+func TestLongObjectsAreCountedFirst(t *testing.T) {
 	f := newFixture(t, 0, func(o *Options) { o.Limits.AnswerBytes = 40 << 20 })
 	f.fill(3)
 	f.log.Change("tile/data/000.p/3", dataTileOf(2<<20, 2<<20, 2<<20))
 	const length = 3 * (2 << 20)
-	long := &readsLong{Log: f.log, let: make(chan struct{})}
+	long := &readsLong{Log: f.log, release: make(chan struct{})}
 	f.front.log = long
 	const many, room = 20, 6
 	codes := make(chan int, many)
@@ -159,25 +159,25 @@ func TestLongObjectsAreTakenFirst(t *testing.T) {
 	refused := 0
 	for ; refused < many-room; refused++ {
 		if code := <-codes; code != 503 {
-			t.Errorf("one for whom there is no room: %d", code)
+			t.Errorf("a client for whom there is no room: %d", code)
 		}
 	}
-	close(long.let)
+	close(long.release)
 	for ; refused < many; refused++ {
 		if code := <-codes; code != 200 && code != 503 {
-			t.Errorf("another one: %d", code)
+			t.Errorf("another client: %d", code)
 		}
 	}
-	if most := long.most.Load(); most < length || most > 40<<20 {
-		t.Errorf("%d bytes were read at once, of tiles of %d", most, length)
+	if peak := long.peak.Load(); peak < length || peak > 40<<20 {
+		t.Errorf("%d bytes were read at once, of tiles of %d", peak, length)
 	}
 	if used := f.front.uses.answers.used.Load(); used != 0 {
 		t.Errorf("%d bytes are still counted", used)
 	}
 }
 
-// The answers of one address have an eighth of what all have, or as much as one object may; another address has its
-// own.
+// TestAnswersByAddress checks that the answers of one address may have an eighth of the bytes of all, and at least one
+// object of the maximum size. Another address has its own bytes.
 func TestAnswersByAddress(t *testing.T) {
 	for _, test := range []struct{ all, one int }{{1 << 30, 128 << 20}, {512 << 20, 65 << 20},
 		{80 << 20, stores.MaxObject + 1<<20}} {
@@ -192,28 +192,28 @@ func TestAnswersByAddress(t *testing.T) {
 			return w
 		}
 		taken := test.one - likelyEntries
-		if !f.front.uses.answersOf.takeSome(client, taken) {
-			t.Fatalf("of %d bytes one address hasn't %d", test.all, taken)
+		if !f.front.uses.answersByClient.takeSome(client, taken) {
+			t.Fatalf("of %d bytes one address may not have %d", test.all, taken)
 		}
 		if w := from(same); w.Code != 200 {
 			t.Errorf("an object that has room: %d %s", w.Code, w.Body)
 		}
-		if !f.front.uses.answersOf.takeSome(client, 1) {
-			t.Errorf("of %d bytes one address hasn't %d", test.all, taken+1)
+		if !f.front.uses.answersByClient.takeSome(client, 1) {
+			t.Errorf("of %d bytes one address may not have %d", test.all, taken+1)
 		}
 		w := from(same)
 		if refused(t, "the same address", w, 429, "too-many-bytes"); w.Header().Get("Retry-After") != "1" {
-			t.Error("it isn't told when to come again")
+			t.Error("the answer has no Retry-After of 1 second")
 		}
 		if w := from(other); w.Code != 200 {
 			t.Errorf("another address: %d %s", w.Code, w.Body)
 		}
-		f.front.uses.answersOf.giveSome(client, taken+1)
+		f.front.uses.answersByClient.giveSome(client, taken+1)
 		if w := from(same); w.Code != 200 {
-			t.Errorf("the same address, behind it: %d %s", w.Code, w.Body)
+			t.Errorf("the same address, after it gave bytes back: %d %s", w.Code, w.Body)
 		}
-		if used := f.front.uses.answers.used.Load(); used != 0 || len(f.front.uses.answersOf.of) != 0 {
-			t.Errorf("%d bytes and %v are still counted", used, f.front.uses.answersOf.of)
+		if used := f.front.uses.answers.used.Load(); used != 0 || len(f.front.uses.answersByClient.byGroup) != 0 {
+			t.Errorf("%d bytes and %v are still counted", used, f.front.uses.answersByClient.byGroup)
 		}
 	}
 }

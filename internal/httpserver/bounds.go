@@ -17,12 +17,12 @@ import (
 
 // budget counts bytes up to a bound.
 type budget struct {
-	most int64
+	max  int64
 	used atomic.Int64
 }
 
 func (b *budget) take(bytes int64) bool {
-	if b.used.Add(bytes) > b.most {
+	if b.used.Add(bytes) > b.max {
 		b.used.Add(-bytes)
 		return false
 	}
@@ -31,16 +31,16 @@ func (b *budget) take(bytes int64) bool {
 
 func (b *budget) give(bytes int64) { b.used.Add(-bytes) }
 
-// held are the bytes of objects that one request has read and not yet answered, which count among those of all and of
-// its client. A nil one counts nothing.
+// held counts the bytes of objects that one request has read and not yet answered. They count in the budget of all
+// requests and among the bytes of its client. A nil held counts nothing.
 type held struct {
-	of       *budget
-	ofClient *counts
+	all      *budget
+	byClient *counts
 	client   netip.Addr
 	bytes    int64
 }
 
-// heldKey is where a request's context has them.
+// heldKey is the key of the held in the context of a request.
 type heldKey struct{}
 
 func heldIn(ctx context.Context) *held {
@@ -48,56 +48,57 @@ func heldIn(ctx context.Context) *held {
 	return h
 }
 
-// change takes so many more, or refuses to, or gives back where that is below 0.
+// change adds so many bytes to those that are held, or returns an error if there is no room. A number below 0 gives
+// bytes back.
 func (h *held) change(bytes int64) error {
 	if h == nil {
 		return nil
 	}
 	if bytes <= 0 {
-		h.of.give(-bytes)
-		h.ofClient.giveSome(h.client, int(-bytes))
-	} else if !h.ofClient.takeSome(h.client, int(bytes)) {
+		h.all.give(-bytes)
+		h.byClient.giveSome(h.client, int(-bytes))
+	} else if !h.byClient.takeSome(h.client, int(bytes)) {
 		return refusal{status: http.StatusTooManyRequests, name: "too-many-bytes", after: 1}
-	} else if !h.of.take(bytes) {
-		h.ofClient.giveSome(h.client, int(bytes))
-		return fmt.Errorf("%w: answers have %d bytes", loginterface.ErrBusy, h.of.used.Load())
+	} else if !h.all.take(bytes) {
+		h.byClient.giveSome(h.client, int(bytes))
+		return fmt.Errorf("%w: answers have %d bytes", loginterface.ErrBusy, h.all.used.Load())
 	}
 	h.bytes += bytes
 	return nil
 }
 
-// giveAll returns back all that it took.
+// giveAll gives back all bytes that are held.
 func (h *held) giveAll() { _ = h.change(-h.bytes) }
 
-// Submitter is who has a bound of its own: all addresses of a prefix together have so many connections, or requests
-// behind a proxy, at once.
+// Submitter is a client with a bound of its own. All addresses of its prefix together may have Max connections at once,
+// or behind a proxy, Max requests at once.
 type Submitter struct {
 	Prefix netip.Prefix
-	Most   int
+	Max    int
 }
 
-// counts counts by address, up to a bound for each. An address of IPv6 counts with its /64, which one customer has, and
-// one of a submitter with all of the submitter's.
+// counts counts by address, up to a bound for each. All IPv6 addresses of one /64 count together, because one customer
+// has them. All addresses of one submitter count together.
 type counts struct {
-	most       int
+	max        int
 	submitters []Submitter
 	mutex      sync.Mutex
-	of         map[netip.Prefix]int
+	byGroup    map[netip.Prefix]int
 }
 
 func (c *counts) take(address netip.Addr) bool { return c.takeSome(address, 1) }
 
 func (c *counts) takeSome(address netip.Addr, some int) bool {
-	group, most := c.groupOf(address)
+	group, bound := c.groupOf(address)
 	c.mutex.Lock()
 	defer c.mutex.Unlock()
-	if c.of[group]+some > most {
+	if c.byGroup[group]+some > bound {
 		return false
 	}
-	if c.of == nil {
-		c.of = map[netip.Prefix]int{}
+	if c.byGroup == nil {
+		c.byGroup = map[netip.Prefix]int{}
 	}
-	c.of[group] += some
+	c.byGroup[group] += some
 	return true
 }
 
@@ -110,21 +111,20 @@ func (c *counts) giveSome(address netip.Addr, some int) {
 	group, _ := c.groupOf(address)
 	c.mutex.Lock()
 	defer c.mutex.Unlock()
-	if c.of[group] -= some; c.of[group] <= 0 {
-		delete(c.of, group)
+	if c.byGroup[group] -= some; c.byGroup[group] <= 0 {
+		delete(c.byGroup, group)
 	}
 }
 
-// groupOf returns what an address counts with, and the bound of that.
-func (c *counts) groupOf(address netip.Addr) (group netip.Prefix, most int) {
+// groupOf returns the group of addresses with which an address counts, and the bound of that group.
+func (c *counts) groupOf(address netip.Addr) (group netip.Prefix, bound int) {
 	if of, is := submitterOf(address, c.submitters); is {
-		return of.Prefix, of.Most
+		return of.Prefix, of.Max
 	}
-	return groupOf(address), c.most
+	return groupOf(address), c.max
 }
 
-// groupOf returns the addresses that share the bounds of an address. A text that is not an address has a group of its
-// own.
+// groupOf returns the addresses that share the bounds of an address. The zero address has a group of its own.
 func groupOf(address netip.Addr) netip.Prefix {
 	bits := address.BitLen()
 	if address.Is6() {
@@ -133,14 +133,14 @@ func groupOf(address netip.Addr) netip.Prefix {
 	return netip.PrefixFrom(address.WithZone(""), bits).Masked()
 }
 
-// submitterOf returns whose an address is: of those whose prefixes have it the one with the smallest.
-func submitterOf(address netip.Addr, among []Submitter) (found Submitter, is bool) {
-	for _, of := range among {
-		if of.Prefix.Contains(address) && (!is || of.Prefix.Bits() > found.Prefix.Bits()) {
-			found, is = of, true
+// submitterOf returns the submitter with this address. If several prefixes contain it, the longest prefix decides.
+func submitterOf(address netip.Addr, submitters []Submitter) (found Submitter, isFound bool) {
+	for _, submitter := range submitters {
+		if submitter.Prefix.Contains(address) && (!isFound || submitter.Prefix.Bits() > found.Prefix.Bits()) {
+			found, isFound = submitter, true
 		}
 	}
-	return found, is
+	return found, isFound
 }
 
 // addressOf returns the address of an address and port, or the zero address if the text has another form.
@@ -152,49 +152,49 @@ func addressOf(text string) netip.Addr {
 	return pair.Addr().Unmap().WithZone("")
 }
 
-// connections counts those that are open, and has those that may be closed if there are too many.
+// connections counts the open connections of clients, and holds those that may be closed if there are too many.
 type connections struct {
 	open      atomic.Int64
 	byAddress counts
 	mutex     sync.Mutex
-	// idle has the connections on which nothing is asked, the longest idle one first. halves has those of which a body is
-	// being read, the one that is read for the longest first.
+	// idle has the connections without a request, the longest idle one first. halves has those from which a body is
+	// being read, the one with the oldest read first.
 	idle, halves ordered
 }
 
-// ordered has connections in the order in which they were added.
+// ordered holds connections in the order in which they were added.
 type ordered struct {
-	of list.List
-	at map[*open]*list.Element
+	list     list.List
+	elements map[*open]*list.Element
 }
 
 func (l *ordered) add(connection *open) {
-	if l.at == nil {
-		l.at = map[*open]*list.Element{}
+	if l.elements == nil {
+		l.elements = map[*open]*list.Element{}
 	}
-	l.at[connection] = l.of.PushBack(connection)
+	l.elements[connection] = l.list.PushBack(connection)
 }
 
 func (l *ordered) remove(connection *open) {
-	if at, there := l.at[connection]; there {
-		l.of.Remove(at)
-		delete(l.at, connection)
+	if at, there := l.elements[connection]; there {
+		l.list.Remove(at)
+		delete(l.elements, connection)
 	}
 }
 
 // first returns the connection that was added first, or nil.
 func (l *ordered) first() *open {
-	if first := l.of.Front(); first != nil {
+	if first := l.list.Front(); first != nil {
 		return first.Value.(*open)
 	}
 	return nil
 }
 
-// isIdle notes whether nothing is asked on a connection.
-func (c *connections) isIdle(connection *open, idle bool) { c.note(&c.idle, connection, idle) }
+// setIdle notes whether a connection has no request.
+func (c *connections) setIdle(connection *open, idle bool) { c.note(&c.idle, connection, idle) }
 
-// isReading notes whether a body is being read from a connection.
-func (c *connections) isReading(connection *open, reading bool) {
+// setReading notes whether a body is being read from a connection.
+func (c *connections) setReading(connection *open, reading bool) {
 	c.note(&c.halves, connection, reading)
 }
 
@@ -216,9 +216,9 @@ func (c *connections) leave(connection *open) {
 	connection.isClosed = true
 }
 
-// closeOne closes the connection on which nothing was asked for the longest, or if there is none the one whose body is
-// being read for the longest: a body of an honest client comes at once. It reports whether there was one. The lock is
-// held until it is closed: another request on it must not be taken in between.
+// closeOne closes the connection that is idle for the longest. If none is idle, it closes the one whose body is being
+// read for the longest, because the body of an honest client comes at once. It reports whether it closed one. The mutex
+// is held until the connection is closed, so that no request on it is accepted in between.
 func (c *connections) closeOne() bool {
 	c.mutex.Lock()
 	connection := cmp.Or(c.idle.first(), c.halves.first())
@@ -238,32 +238,33 @@ func (c *connections) closeOne() bool {
 type uses struct {
 	connections connections
 	requests    counts
-	// waiting counts the bytes of submissions, and answers those of responses. The counts are those of each client.
-	waiting, answers     budget
-	waitingOf, answersOf counts
-	proofsOf             counts
-	// checks has a place for each chain that is checked, and packs for each answer that is compressed.
+	// waiting counts the bytes of submissions, and answers those of objects for responses. waitingByClient and
+	// answersByClient count the same bytes for each client, and proofsByClient proofs.
+	waiting, answers                 budget
+	waitingByClient, answersByClient counts
+	proofsByClient                   counts
+	// checks holds an element for each chain that is being checked, and packs for each answer that is being compressed.
 	checks, packs chan struct{}
 	rates         map[cost]*rates
 }
 
 func usesOf(limits Limits) uses {
 	return uses{
-		connections: connections{byAddress: counts{most: limits.ConnectionsByAddress, submitters: limits.Submitters}},
-		requests:    counts{most: limits.ConnectionsByAddress, submitters: limits.Submitters},
-		waiting:     budget{most: limits.WaitingBytes},
-		waitingOf:   counts{most: byAddress(limits.WaitingBytes, MaxBody)},
-		answers:     budget{most: limits.AnswerBytes},
-		answersOf:   counts{most: byAddress(limits.AnswerBytes, stores.MaxObject+likelyEntries)},
-		proofsOf:    counts{most: limits.ProofsByAddress},
-		checks:      make(chan struct{}, limits.Checks),
-		packs:       make(chan struct{}, limits.Checks),
-		rates:       map[cost]*rates{aSubmission: newRates(limits.SubmissionRate), aRead: newRates(limits.ReadRate)},
+		connections:     connections{byAddress: counts{max: limits.ConnectionsByAddress, submitters: limits.Submitters}},
+		requests:        counts{max: limits.ConnectionsByAddress, submitters: limits.Submitters},
+		waiting:         budget{max: limits.WaitingBytes},
+		waitingByClient: counts{max: byAddress(limits.WaitingBytes, MaxBody)},
+		answers:         budget{max: limits.AnswerBytes},
+		answersByClient: counts{max: byAddress(limits.AnswerBytes, stores.MaxObject+likelyEntries)},
+		proofsByClient:  counts{max: limits.ProofsByAddress},
+		checks:          make(chan struct{}, limits.Checks),
+		packs:           make(chan struct{}, limits.Checks),
+		rates:           map[cost]*rates{aSubmission: newRates(limits.SubmissionRate), aRead: newRates(limits.ReadRate)},
 	}
 }
 
-// bounded is a listener that closes connections above the bounds of a front. The connections of a proxy have only the
-// bound for all.
+// bounded is a listener that closes connections above the bounds of a front. Connections of a proxy have only the bound
+// for all clients together.
 type bounded struct {
 	net.Listener
 	front *Front
@@ -308,16 +309,16 @@ func (f *Front) takeConnection(connection net.Conn) net.Conn {
 			f.uses.connections.byAddress.give(address)
 		}
 	}
-	f.uses.connections.isIdle(taken, true)
+	f.uses.connections.setIdle(taken, true)
 	return taken
 }
 
-// open is a connection that counts.
+// open is a connection that is counted until it is closed. It calls closed once.
 type open struct {
 	net.Conn
 	once   sync.Once
 	closed func()
-	// isClient says that it is closed where there are too many and nothing is asked on it, and isClosed that it was.
+	// isClient is true if it is a client's, and so may be closed to make room. isClosed is true after it was closed.
 	isClient, isClosed bool
 }
 
@@ -328,21 +329,21 @@ func (o *open) Close() error {
 	return o.Conn.Close()
 }
 
-// few is a listener that closes what comes above the room of a channel.
-type few struct {
+// limitedListener is a listener that closes a connection at once if all slots of its channel are taken.
+type limitedListener struct {
 	net.Listener
-	room chan struct{}
+	slots chan struct{}
 }
 
-func (l few) Accept() (net.Conn, error) {
+func (l limitedListener) Accept() (net.Conn, error) {
 	for {
 		connection, err := l.Listener.Accept()
 		if err != nil {
 			return nil, err
 		}
 		select {
-		case l.room <- struct{}{}:
-			return &open{Conn: connection, closed: func() { <-l.room }}, nil
+		case l.slots <- struct{}{}:
+			return &open{Conn: connection, closed: func() { <-l.slots }}, nil
 		default:
 			connection.Close()
 		}

@@ -19,16 +19,16 @@ import (
 
 func TestConnectionsAreBounded(t *testing.T) {
 	for _, test := range []struct {
-		what          string
-		all, by, most int
-		proxy         bool
+		what                         string
+		all, byAddress, maxAtOneTime int
+		proxy                        bool
 	}{
 		{"by address", 100, 3, 3, false},
 		{"altogether", 4, 100, 4, false},
 		{"of a proxy", 5, 1, 5, true},
 	} {
 		f := newFixture(t, 0, func(o *Options) {
-			o.Limits.Connections, o.Limits.ConnectionsByAddress, o.Limits.Reading = test.all, test.by, time.Hour
+			o.Limits.Connections, o.Limits.ConnectionsByAddress, o.Limits.Reading = test.all, test.byAddress, time.Hour
 			if test.proxy {
 				o.Proxies = []netip.Prefix{netip.MustParsePrefix("127.0.0.1/32")}
 			}
@@ -36,16 +36,16 @@ func TestConnectionsAreBounded(t *testing.T) {
 		f.log.Slow = time.Hour
 		address, _ := f.listening(nil)
 		var open []net.Conn
-		for i := 0; i < test.most; i++ {
+		for i := 0; i < test.maxAtOneTime; i++ {
 			connection := dial(t, address)
 			fmt.Fprintf(connection, "GET /checkpoint HTTP/1.1\r\nHost: log\r\nX-Forwarded-For: 192.0.2.%d\r\n\r\n", i)
 			open = append(open, connection)
 		}
-		isAsked(f, int64(test.most))
+		waitUntilAllAsk(f, int64(test.maxAtOneTime))
 		above := dial(t, address)
 		closed(t, test.what+", one above the bound", above)
 		open[0].Close()
-		eventually(t, test.what+": where one went, one is taken", func() bool {
+		eventually(t, test.what+": after one was closed, another is accepted", func() bool {
 			again := dial(t, address)
 			fmt.Fprintf(again, "GET /healthz HTTP/1.1\r\nHost: log\r\nConnection: close\r\n\r\n")
 			answer, err := http.ReadResponse(bufio.NewReader(again), nil)
@@ -54,8 +54,8 @@ func TestConnectionsAreBounded(t *testing.T) {
 	}
 }
 
-// TestRefusedConnectionsDoNotCount: a connection that is refused because there are too many does not count for its
-// address.
+// TestRefusedConnectionsDoNotCount checks that a connection that is refused because there are too many does not count
+// for its address.
 func TestRefusedConnectionsDoNotCount(t *testing.T) {
 	f := newFixture(t, 0, func(o *Options) {
 		o.Limits.Connections, o.Limits.ConnectionsByAddress, o.Limits.Reading = 2, 100, time.Hour
@@ -65,54 +65,55 @@ func TestRefusedConnectionsDoNotCount(t *testing.T) {
 	for range 2 {
 		fmt.Fprint(dial(t, address), "GET /checkpoint HTTP/1.1\r\nHost: log\r\n\r\n")
 	}
-	isAsked(f, 2)
+	waitUntilAllAsk(f, 2)
 	for range 3 {
 		closed(t, "one above the bound", dial(t, address))
 	}
 	by := &f.front.uses.connections.byAddress
 	by.mutex.Lock()
 	defer by.mutex.Unlock()
-	if own := by.of[groupOf(addressOf(address))]; own != 2 || len(by.of) != 1 {
-		t.Errorf("of two connections, %d count for the address, and %d addresses have some", own, len(by.of))
+	if own := by.byGroup[groupOf(addressOf(address))]; own != 2 || len(by.byGroup) != 1 {
+		t.Errorf("of two connections, %d count for the address, and %d addresses have some", own, len(by.byGroup))
 	}
 }
 
-// looked is a connection that calls a function when it is closed. oneOf is a listener that returns only this
-// connection.
-type looked struct {
+// observedConn is a connection that calls a function when it is closed.
+type observedConn struct {
 	net.Conn
-	closes func()
+	onClose func()
 }
 
-func (l looked) Close() error {
-	l.closes()
-	return l.Conn.Close()
+func (o observedConn) Close() error {
+	o.onClose()
+	return o.Conn.Close()
 }
 
-type oneOf struct {
+// oneConnListener is a listener that returns only one connection.
+type oneConnListener struct {
 	net.Listener
 	connection net.Conn
 }
 
-func (o oneOf) Accept() (net.Conn, error) { return o.connection, nil }
+func (o oneConnListener) Accept() (net.Conn, error) { return o.connection, nil }
 
-// TestClosedConnectionsHoldNoPlace: by the time that a connection is closed its place is given back, so that the other
-// side may come again at once.
+// TestClosedConnectionsHoldNoPlace checks that the place of a connection is free before the connection is closed. So
+// the client may connect again at once.
 func TestClosedConnectionsHoldNoPlace(t *testing.T) {
-	f, room := newFixture(t, 0, nil), make(chan struct{}, 1)
+	f, slots := newFixture(t, 0, nil), make(chan struct{}, 1)
 	for what, test := range map[string]struct {
 		bounds func(net.Listener) net.Listener
 		held   func() int
 	}{
 		"a client's": {func(l net.Listener) net.Listener { return bounded{l, f.front} }, func() int {
-			return int(f.front.uses.connections.open.Load()) + len(f.front.uses.connections.byAddress.of) +
+			return int(f.front.uses.connections.open.Load()) + len(f.front.uses.connections.byAddress.byGroup) +
 				f.front.uses.connections.waiting()
 		}},
-		"an operator's": {func(l net.Listener) net.Listener { return few{l, room} }, func() int { return len(room) }},
+		"an operator's": {func(l net.Listener) net.Listener { return limitedListener{l, slots} },
+			func() int { return len(slots) }},
 	} {
 		here, there := net.Pipe()
 		closed := 0
-		taken, err := test.bounds(oneOf{nil, looked{here, func() {
+		taken, err := test.bounds(oneConnListener{nil, observedConn{here, func() {
 			if closed++; test.held() != 0 {
 				t.Errorf("%s: %d are held", what, test.held())
 			}
@@ -130,15 +131,15 @@ func TestClosedConnectionsHoldNoPlace(t *testing.T) {
 	}
 }
 
-// TestOperatorCountsApart: while one address has all the connections and requests that it may have, an operator at that
-// address is answered; and who has all of the operator's connections keeps no client out.
+// TestOperatorCountsApart checks that an operator is answered at an address that has all the connections and requests
+// that it may have as a client. Operators who hold all of their connections do not keep clients out.
 func TestOperatorCountsApart(t *testing.T) {
 	f := newFixture(t, 0, func(o *Options) {
 		o.Limits.ConnectionsByAddress, o.Limits.Request, o.Limits.Headers, o.Limits.Idle = 3, time.Hour,
 			time.Hour, time.Hour
 	})
 	clients, _ := f.listening(nil)
-	operator := f.listeningBy(f.front.ServeOthers(f.front.Operator()), nil)
+	operator := f.listeningBy(f.front.ServeOperators(f.front.Operator()), nil)
 	status := func(address, path string) int {
 		t.Helper()
 		for until := time.Now().Add(testutil.Longest); ; {
@@ -146,7 +147,7 @@ func TestOperatorCountsApart(t *testing.T) {
 			fmt.Fprintf(connection, "GET %s HTTP/1.1\r\nHost: log\r\nConnection: close\r\n\r\n", path)
 			reader := bufio.NewReader(connection)
 			answer, err := http.ReadResponse(reader, nil)
-			// (until the other side closes, by when its place is free)
+			// The server closes the connection after its place is free.
 			text, _ := io.ReadAll(reader)
 			connection.Close()
 			if err != nil {
@@ -164,7 +165,7 @@ func TestOperatorCountsApart(t *testing.T) {
 		fmt.Fprint(connection, "POST /ct/v1/add-chain HTTP/1.1\r\nHost: log\r\nContent-Length: 100\r\n\r\n{")
 		open = append(open, connection)
 	}
-	isAsked(f, 3)
+	waitUntilAllAsk(f, 3)
 	if got := status(clients, "/healthz"); got == 200 {
 		t.Errorf("a fourth connection of the address is answered")
 	}
@@ -176,8 +177,8 @@ func TestOperatorCountsApart(t *testing.T) {
 	for _, connection := range open {
 		connection.Close()
 	}
-	isAsked(f, 0)
-	for i := 0; i < maxOfOthers; i++ {
+	waitUntilAllAsk(f, 0)
+	for i := 0; i < maxOperatorConnections; i++ {
 		fmt.Fprint(dial(t, operator), "GET /healthz HTTP/1.1\r\nHost: log\r\n")
 	}
 	closed(t, "the operator's connections, one above the bound", dial(t, operator))
@@ -186,16 +187,16 @@ func TestOperatorCountsApart(t *testing.T) {
 	}
 }
 
-// isAsked waits until something is asked on so many connections, and on all of them.
-func isAsked(f *fixture, many int64) {
+// waitUntilAllAsk waits until there are so many connections, each with a request.
+func waitUntilAllAsk(f *fixture, many int64) {
 	for f.front.uses.connections.open.Load() != many || f.front.uses.connections.waiting() != 0 {
 		time.Sleep(time.Millisecond)
 	}
 }
 
-// TestIdleConnectionsGo: if there are too many connections, the one that was idle for the longest time is closed, also
-// over TLS. No connection with a request is closed.
-func TestIdleConnectionsGo(t *testing.T) {
+// TestClosesLongestIdleConnection checks that, if there are too many connections, the one that was idle for the longest
+// time is closed, also over TLS. No connection with a request is closed.
+func TestClosesLongestIdleConnection(t *testing.T) {
 	for _, over := range []bool{false, true} {
 		f := newFixture(t, 0, func(o *Options) { o.Limits.Connections, o.Limits.Reading = 3, time.Hour })
 		var config *tls.Config
@@ -234,7 +235,7 @@ func TestIdleConnectionsGo(t *testing.T) {
 			if err := answered(connection); err != nil {
 				t.Fatal(err)
 			}
-			// (what is answered may still count as asked on for a moment)
+			// The connection may count as one with a request for a moment after the answer.
 			for idle = append(idle, connection); f.front.uses.connections.waiting() != len(idle); {
 				time.Sleep(time.Millisecond)
 			}
@@ -246,7 +247,7 @@ func TestIdleConnectionsGo(t *testing.T) {
 		for f.front.uses.connections.waiting() != 2 {
 			time.Sleep(time.Millisecond)
 		}
-		// Something is asked on the first again: the second one is idle for longer.
+		// The first one gets a request again, so the second one is idle for longer.
 		if err := answered(first); err != nil {
 			t.Fatal(err)
 		}
@@ -254,28 +255,28 @@ func TestIdleConnectionsGo(t *testing.T) {
 			time.Sleep(time.Millisecond)
 		}
 		if err := answered(dialed()); err != nil {
-			t.Errorf("over TLS %v: none is taken, though two are idle: %v", over, err)
+			t.Errorf("over TLS %v: none is accepted, though two are idle: %v", over, err)
 		}
 		closed(t, "the one that was idle for the longest", second)
 		if err := answered(first); err != nil {
-			t.Errorf("over TLS %v: another one went: %v", over, err)
+			t.Errorf("over TLS %v: another one was closed: %v", over, err)
 		}
 		busy.SetReadDeadline(time.Now().Add(50 * time.Millisecond))
 		if _, err := busy.Read(make([]byte, 1)); !errors.Is(err, os.ErrDeadlineExceeded) {
-			t.Errorf("over TLS %v: the one on which something is asked went: %v", over, err)
+			t.Errorf("over TLS %v: the one with a request was closed: %v", over, err)
 		}
 	}
 }
 
-// TestHalfBodiesGo: if there are too many connections, and something is asked on all of them, the one whose body is read
-// for the longest is closed. One whose request was read whole is not.
-func TestHalfBodiesGo(t *testing.T) {
+// TestClosesLongestHalfBody checks that, if there are too many connections and all of them have a request, the one
+// whose body is being read for the longest is closed. One whose request was read whole is not.
+func TestClosesLongestHalfBody(t *testing.T) {
 	f := newFixture(t, 0, func(o *Options) { o.Limits.Connections, o.Limits.Reading = 3, time.Hour })
 	address, _ := f.listening(nil)
 	f.log.Slow = time.Hour
 	asked := dial(t, address)
 	fmt.Fprintf(asked, "GET /checkpoint HTTP/1.1\r\nHost: log\r\n\r\n")
-	isAsked(f, 1)
+	waitUntilAllAsk(f, 1)
 	var halves []net.Conn
 	for n := range 2 {
 		half := dial(t, address)
@@ -288,7 +289,7 @@ func TestHalfBodiesGo(t *testing.T) {
 	more := dial(t, address)
 	fmt.Fprintf(more, "GET /healthz HTTP/1.1\r\nHost: log\r\n\r\n")
 	if answer, err := http.ReadResponse(bufio.NewReader(more), nil); err != nil || answer.StatusCode != 200 {
-		t.Fatalf("none is taken, though two have half bodies: %v", err)
+		t.Fatalf("none is accepted, though two have half bodies: %v", err)
 	}
 	closed(t, "the one whose body is read for the longest", halves[0])
 	if f.front.uses.connections.reading() != 1 {
@@ -296,48 +297,48 @@ func TestHalfBodiesGo(t *testing.T) {
 	}
 }
 
-// waiting is on how many connections nothing is asked.
+// waiting returns the number of connections without a request.
 func (c *connections) waiting() int {
 	c.mutex.Lock()
 	defer c.mutex.Unlock()
-	return c.idle.of.Len()
+	return c.idle.list.Len()
 }
 
-// reading is of how many connections a body is being read.
+// reading returns the number of connections from which a body is being read.
 func (c *connections) reading() int {
 	c.mutex.Lock()
 	defer c.mutex.Unlock()
-	return c.halves.of.Len()
+	return c.halves.list.Len()
 }
 
-// watchedClose notes of each Close whether the lock of the connections is held.
+// watchedClose records at each Close whether the mutex of the connections is held.
 type watchedClose struct {
 	net.Conn
-	of   *connections
-	held []bool
+	connections *connections
+	held        []bool
 }
 
 func (w *watchedClose) Close() error {
-	isFree := w.of.mutex.TryLock()
+	isFree := w.connections.mutex.TryLock()
 	if isFree {
-		w.of.mutex.Unlock()
+		w.connections.mutex.Unlock()
 	}
 	w.held = append(w.held, !isFree)
 	return nil
 }
 
-// TestIdleIsClosedUnderTheLock: a connection that is closed since nothing is asked on it must be closed before anybody
-// can note that something is.
-func TestIdleIsClosedUnderTheLock(t *testing.T) {
+// TestClosesIdleUnderTheMutex checks that an idle connection is closed while the mutex is held. So no request on it can
+// be noted in between.
+func TestClosesIdleUnderTheMutex(t *testing.T) {
 	c := &connections{}
-	w := &watchedClose{of: c}
+	w := &watchedClose{connections: c}
 	connection := &open{Conn: w}
 	connection.closed = func() { c.leave(connection) }
-	c.isIdle(connection, true)
+	c.setIdle(connection, true)
 	if !c.closeOne() || len(w.held) == 0 || !w.held[0] {
-		t.Errorf("it is closed without the lock: %v", w.held)
+		t.Errorf("it is closed without the mutex: %v", w.held)
 	}
-	if c.isIdle(connection, true); c.waiting() != 0 || c.closeOne() {
-		t.Error("a connection that is closed counts as one on which nothing is asked")
+	if c.setIdle(connection, true); c.waiting() != 0 || c.closeOne() {
+		t.Error("a closed connection counts as an idle one")
 	}
 }

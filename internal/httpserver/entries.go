@@ -20,7 +20,7 @@ import (
 	"wagtenib/internal/tile"
 )
 
-// getSTH answers the newest published head (RFC 6962, section 4.3).
+// getSTH answers with the newest published head (RFC 6962, section 4.3).
 func (f *Front) getSTH(w http.ResponseWriter, r *http.Request) error {
 	ctx, cancel := f.reading(r)
 	defer cancel()
@@ -38,14 +38,14 @@ func (f *Front) getSTH(w http.ResponseWriter, r *http.Request) error {
 	return nil
 }
 
-// entryOf is one entry as get-entries answers it (RFC 6962, section 4.6).
+// entryOf is one entry in an answer to get-entries (RFC 6962, section 4.6).
 type entryOf struct {
 	LeafInput []byte `json:"leaf_input"`
 	ExtraData []byte `json:"extra_data"`
 }
 
-// getEntries answers entries of the newest head from start on: as many as were asked for, but none of another data
-// tile, and within the bounds.
+// getEntries answers with the requested entries of the newest head. It stops at the end of the data tile of the first
+// entry, and at the bounds MaxEntries and MaxEntryBytes.
 func (f *Front) getEntries(w http.ResponseWriter, r *http.Request) error {
 	_, numbers, err := numbersOf(r, "start", "end")
 	if err != nil {
@@ -76,7 +76,7 @@ func badParameter(detail string) error {
 	return refusal{status: http.StatusBadRequest, name: "bad-parameter", detail: detail}
 }
 
-// textOf returns the one value that a query has of a name.
+// textOf returns the value of a parameter that must occur exactly once in a query.
 func textOf(query url.Values, name string) (string, error) {
 	switch len(query[name]) {
 	case 0:
@@ -121,8 +121,9 @@ func (f *Front) entries(ctx context.Context, start, end uint64) ([]entryOf, erro
 	return entries, nil
 }
 
-// dataTile reads the tile of an entry. It is the tile of a head that has all entries up to an end, or of the newest
-// head. A partial tile may be deleted between reading the head and the tile, after the full tile was stored.
+// dataTile reads the data tile of an entry, as wide as it is in a head with all entries up to end, or in the newest
+// head. A partial tile may be deleted between reading the head and the tile, after the full tile was stored. Then
+// dataTile reads both again.
 func (f *Front) dataTile(ctx context.Context, index, end uint64) ([]tile.Leaf, error) {
 	if last := index - index%fullWidth + fullWidth - 1; end > last {
 		end = last
@@ -154,8 +155,8 @@ func (f *Front) dataTile(ctx context.Context, index, end uint64) ([]tile.Leaf, e
 	}
 }
 
-// entryOf returns what RFC 6962 has for a leaf: a MerkleTreeLeaf (section 3.4) and the chain (section 4.6). A
-// precertificate has a PrecertChainEntry, and a certificate only its certificate_chain.
+// entryOf returns the entry of a leaf as RFC 6962 defines it: a MerkleTreeLeaf (section 3.4) and the chain (section
+// 4.6). A precertificate has a PrecertChainEntry, and a certificate only its certificate_chain.
 func (f *Front) entryOf(ctx context.Context, leaf *tile.Leaf) (entryOf, error) {
 	var extra cryptobyte.Builder
 	if leaf.Type == chains.PrecertEntry {
@@ -178,8 +179,8 @@ func (f *Front) entryOf(ctx context.Context, leaf *tile.Leaf) (entryOf, error) {
 		return entryOf{}, fmt.Errorf("%w: a chain that is too long: %v", loginterface.ErrStore, err)
 	}
 	entry := entryOf{leaf.Input(), data}
-	// The answer has both in base64, and is held until it is sent. It must count before it is made: issuers may make it
-	// ten times as long as its tile.
+	// The answer has both in base64, and is held until it is sent. Its bytes must be counted before it is made, because
+	// issuers may make it ten times as long as its tile.
 	length := base64.StdEncoding.EncodedLen(len(entry.LeafInput)) + base64.StdEncoding.EncodedLen(len(entry.ExtraData))
 	if err := heldIn(ctx).change(int64(length)); err != nil {
 		return entryOf{}, err
@@ -187,17 +188,17 @@ func (f *Front) entryOf(ctx context.Context, leaf *tile.Leaf) (entryOf, error) {
 	return entry, nil
 }
 
-// maxIssuerBytes is how many bytes of issuers are kept at hand.
+// maxIssuerBytes is the maximum number of bytes of issuers in the cache.
 const maxIssuerBytes = 16 << 20
 
-// issuers keeps some issuers at hand.
+// issuers is a cache of issuers.
 type issuers struct {
 	mutex sync.Mutex
 	kept  map[[32]byte][]byte
 	bytes int
 }
 
-// issuerOf returns an issuer by its fingerprint, and only bytes that have it.
+// issuerOf returns the issuer with a fingerprint. It checks the fingerprint of what it reads.
 func (f *Front) issuerOf(ctx context.Context, fingerprint [32]byte) ([]byte, error) {
 	f.issuers.mutex.Lock()
 	certificate := f.issuers.kept[fingerprint]

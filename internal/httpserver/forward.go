@@ -16,12 +16,13 @@ type Forwarder interface {
 	Forward(w http.ResponseWriter, r *http.Request, client netip.Addr, body []byte) (isAnswered bool, err error)
 }
 
-// maxForwards is how often a submission is forwarded, or taken here, while the nodes change which of them makes the
-// steps.
+// maxForwards is the maximum number of times that a submission is tried again, at another node or here, because the
+// nodes changed which of them makes the steps.
 const maxForwards = 3
 
-// submit has a submission taken, by this node or by another one, and answered. The node that takes it must check its
-// chain: the holder of a node's certificate may submit, and not more. So the node that forwards it checks nothing.
+// submit submits an entry to this node or another one, and answers the client. The node that takes the submission must
+// check its chain, because the holder of a node's certificate may submit and do nothing else. So the node that forwards
+// it checks nothing.
 func (f *Front) submit(ctx context.Context, w http.ResponseWriter, r *http.Request, client netip.Addr, body []byte,
 	check chainCheck) error {
 	var entry *loginterface.Entry
@@ -48,7 +49,7 @@ func (f *Front) submit(ctx context.Context, w http.ResponseWriter, r *http.Reque
 			}
 		}
 		if loginterface.IsForwarded(ctx) {
-			// (the entry has its own bytes)
+			// The entry has a copy of the bytes that it needs.
 			body = nil
 		}
 		place, err := f.log.Submit(ctx, *entry)
@@ -80,7 +81,7 @@ func (f *Front) Nodes() http.Handler {
 	})
 }
 
-// isUncounted reports whether a request counts as no client's: an operator's, or one that another node forwarded.
+// isUncounted reports whether a request counts for no client: an operator sent it, or another node forwarded it.
 func isUncounted(ctx context.Context) bool {
 	return ctx.Value(operatorKey{}) != nil || ctx.Value(nodeKey{}) != nil
 }

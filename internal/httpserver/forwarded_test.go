@@ -12,8 +12,8 @@ import (
 	"wagtenib/internal/loginterface"
 )
 
-// elsewhereAlways is a Forwarder to a node that answers everything, or nothing because of an error. It counts what it
-// gets.
+// elsewhereAlways is a Forwarder to a node that answers everything, or fails with an error. It counts the submissions
+// that it gets.
 type elsewhereAlways struct {
 	got int
 	err error
@@ -28,12 +28,12 @@ func (e *elsewhereAlways) Forward(w http.ResponseWriter, _ *http.Request, _ neti
 	return true, nil
 }
 
-// TestForwardsOnce: a client's submission is forwarded, and one that another node has forwarded goes to the log.
-// Otherwise two nodes that each hold the other one for the leader would forward it to and fro.
+// TestForwardsOnce checks that a client's submission is forwarded, and that one that another node has forwarded goes to
+// the log. Otherwise two nodes that each take the other one for the leader would forward it to and fro.
 func TestForwardsOnce(t *testing.T) {
 	other := &elsewhereAlways{}
 	f := newFixture(t, 0, func(o *Options) { o.Forward = other })
-	// The log answers at once: it takes no submission.
+	// The log refuses each submission at once.
 	f.log.Fault = loginterface.ErrBusy
 	for _, of := range []struct {
 		handler   http.Handler
@@ -49,8 +49,8 @@ func TestForwardsOnce(t *testing.T) {
 	}
 }
 
-// TestTakerChecks: the node that takes a submission checks its chain, also if another node has forwarded it, or does not
-// answer. A node that forwards one leaves its refusal to the other one.
+// TestTakerChecks checks that the node that takes a submission checks its chain, also if another node forwarded it or
+// does not answer. A node that forwards a submission leaves the check to the other one.
 func TestTakerChecks(t *testing.T) {
 	other := &elsewhereAlways{}
 	f := newFixture(t, 0, func(o *Options) { o.Forward = other })

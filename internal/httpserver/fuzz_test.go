@@ -20,7 +20,7 @@ import (
 
 var statuses = map[int]bool{200: true, 400: true, 404: true, 405: true, 411: true, 413: true}
 
-// FuzzHandlers: each refusal has a name and none is internal. A served object is the stored one.
+// FuzzHandlers checks that each refusal has a name, that none is internal, and that a served object is the stored one.
 func FuzzHandlers(f *testing.F) {
 	x := newFixture(f, time.Millisecond, nil)
 	x.fill(260)
@@ -57,11 +57,11 @@ func FuzzHandlers(f *testing.F) {
 			t.Fatalf("%s %q?%q: %d %s", method, path, query, w.Code, w.Body)
 		}
 		if w.Code != 200 {
-			var told struct {
+			var reply struct {
 				Message string `json:"error_message"`
 			}
-			if err := json.Unmarshal(w.Body.Bytes(), &told); err != nil || told.Message == "" ||
-				told.Message == "internal" {
+			if err := json.Unmarshal(w.Body.Bytes(), &reply); err != nil || reply.Message == "" ||
+				reply.Message == "internal" {
 				t.Fatalf("%s %q: %d %s", method, path, w.Code, w.Body)
 			}
 			return
@@ -71,12 +71,12 @@ func FuzzHandlers(f *testing.F) {
 		}
 		content, err := x.log.Object(context.Background(), path[1:], stores.MaxObject)
 		if err != nil || !bytes.Equal(content, w.Body.Bytes()) {
-			t.Fatalf("%q is served, and stands there as %v", path, err)
+			t.Fatalf("%q is served with another content than the log has: %v", path, err)
 		}
 	})
 }
 
-// Whatever comes on a connection, all that is answered is HTTP, and the server lives.
+// FuzzConnections checks that, whatever a connection sends, each answer is HTTP and the server stays alive.
 func FuzzConnections(f *testing.F) {
 	x := newFixture(f, time.Millisecond, func(o *Options) {
 		o.Lines = NewLines(

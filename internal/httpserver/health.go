@@ -9,17 +9,17 @@ import (
 	"wagtenib/internal/loginterface"
 )
 
-// healthz says that the process answers.
+// healthz answers that the process is alive.
 func (f *Front) healthz(w http.ResponseWriter, r *http.Request) error {
 	w.Header().Set("Cache-Control", "no-store")
 	write(w, http.StatusOK, "text/plain; charset=utf-8", []byte("ok\n"))
 	return nil
 }
 
-// readyz reports whether the node can be used now: it does not end, nothing keeps it from going on, its queue has room,
-// and its head is read within two seconds. A damaged old tile changes nothing. A read-only log is ready for reads.
+// readyz answers whether the node can be used now: it does not end, it has no fault, its queue has room, and its head
+// can be read within two seconds. A damaged old tile changes nothing. A read-only log is ready for reads.
 func (f *Front) readyz(w http.ResponseWriter, r *http.Request) error {
-	if err := f.unready(r.Context()); err != nil {
+	if err := f.checkReady(r.Context()); err != nil {
 		return err
 	}
 	w.Header().Set("Cache-Control", "no-store")
@@ -27,18 +27,18 @@ func (f *Front) readyz(w http.ResponseWriter, r *http.Request) error {
 	return nil
 }
 
-// unready returns what /readyz refuses by, or nil.
-func (f *Front) unready(ctx context.Context) error {
+// checkReady returns the refusal that /readyz answers, or nil.
+func (f *Front) checkReady(ctx context.Context) error {
 	unready := func(name string, why error) error {
 		return refusal{status: http.StatusServiceUnavailable, name: name, after: 1, why: why}
 	}
-	figures := f.log.Metrics()
+	metrics := f.log.Metrics()
 	switch {
 	case f.ending.Load():
 		return unready("ended", nil)
-	case figures.Fault != "":
-		return unready("fault", errors.New(figures.Fault))
-	case figures.MaxQueue > 0 && figures.Queue >= figures.MaxQueue:
+	case metrics.Fault != "":
+		return unready("fault", errors.New(metrics.Fault))
+	case metrics.MaxQueue > 0 && metrics.Queue >= metrics.MaxQueue:
 		return unready("busy", nil)
 	}
 	ctx, cancel := context.WithTimeout(ctx, 2*time.Second)
@@ -51,17 +51,17 @@ func (f *Front) unready(ctx context.Context) error {
 	return nil
 }
 
-// Tell checks the log every so often until the context ends. It logs the faults that stop the log, the damage in it,
-// the end of either, and what was made again.
-func (f *Front) Tell(ctx context.Context, every time.Duration) {
-	timer := time.NewTicker(every)
+// LogFaults reads the log's metrics at each interval until the context ends. It logs the faults that stop the log, the
+// damage in it, the end of either, and repairs.
+func (f *Front) LogFaults(ctx context.Context, interval time.Duration) {
+	timer := time.NewTicker(interval)
 	defer timer.Stop()
 	var before loginterface.Metrics
-	seenMore := map[string]bool{}
+	wereAhead := map[string]bool{}
 	for {
 		now := f.log.Metrics()
-		f.tellWitnesses(seenMore, now.Witnesses)
-		f.tellChanges(&before, &now)
+		f.logWitnesses(wereAhead, now.Witnesses)
+		f.logChanges(&before, &now)
 		before = now
 		select {
 		case <-timer.C:
@@ -71,29 +71,29 @@ func (f *Front) Tell(ctx context.Context, every time.Duration) {
 	}
 }
 
-// tellWitnesses logs which witnesses have seen more since the look before.
-func (f *Front) tellWitnesses(seenMore map[string]bool, witnesses []loginterface.Witness) {
+// logWitnesses logs each witness that is ahead of the log and was not so at the previous call.
+func (f *Front) logWitnesses(wereAhead map[string]bool, witnesses []loginterface.Witness) {
 	for _, w := range witnesses {
-		if w.SeenMore && !seenMore[w.Name] {
+		if w.IsAhead && !wereAhead[w.Name] {
 			f.options.Lines.Error("witness-seen-more", "witness", w.Name, "detail", w.Fault)
 		}
-		seenMore[w.Name] = w.SeenMore
+		wereAhead[w.Name] = w.IsAhead
 	}
 }
 
-// tellChanges logs what is another thing than at the look before.
-func (f *Front) tellChanges(before, now *loginterface.Metrics) {
+// logChanges logs the faults, damage, failures and repairs in which the metrics differ from the previous ones.
+func (f *Front) logChanges(before, now *loginterface.Metrics) {
 	if now.Fault != before.Fault {
-		f.tellOf("fault", before.Fault, now.Fault)
+		f.logFault("fault", before.Fault, now.Fault)
 	}
 	if now.Fault == "" && now.Faults != before.Faults {
-		// (it came and went since the look before)
-		f.tellOf("fault", "", now.LastFault)
-		f.tellOf("fault", now.LastFault, "")
+		// A fault began and ended between the two metrics.
+		f.logFault("fault", "", now.LastFault)
+		f.logFault("fault", now.LastFault, "")
 	}
 	isOther := now.Damaged != before.Damaged || now.DamagedIssuers != before.DamagedIssuers
 	if now.Damage != before.Damage || before.Damage != "" && isOther {
-		f.tellOf("damage", before.Damage, now.Damage, "tiles", now.Damaged, "issuers", now.DamagedIssuers)
+		f.logFault("damage", before.Damage, now.Damage, "tiles", now.Damaged, "issuers", now.DamagedIssuers)
 	}
 	if now.JanitorFailures != before.JanitorFailures {
 		f.options.Lines.Warn("tend", "failures", now.JanitorFailures-before.JanitorFailures, "detail", now.JanitorFailure)
@@ -106,8 +106,9 @@ func (f *Front) tellChanges(before, now *loginterface.Metrics) {
 	}
 }
 
-// tellOf logs a fault that is new, or the end of one.
-func (f *Front) tellOf(event, before, now string, more ...any) {
+// logFault logs a new fault under this event, or if now is empty, the end of the one before. More fields are pairs of
+// key and value.
+func (f *Front) logFault(event, before, now string, more ...any) {
 	if now == "" {
 		f.options.Lines.Info("mended", "detail", before)
 		return

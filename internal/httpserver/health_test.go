@@ -22,7 +22,7 @@ func TestMetricsAndHealth(t *testing.T) {
 	f.get("/checkpoint")
 	f.get("/nothing/of/this")
 	f.do("POST", "/ct/v1/add-chain", []byte("{}"))
-	// A store of which one put of three is too late, and what is asked for isn't there.
+	// In this store, one put of three is too late, and the object of the get does not exist.
 	folder, err := stores.OpenFolder(t.TempDir())
 	if err != nil {
 		t.Fatal(err)
@@ -92,40 +92,41 @@ func TestMetricsAndHealth(t *testing.T) {
 			t.Errorf("%s: %d %s", path, w.Code, w.Body)
 		}
 	}
-	// An operator counts as no client.
-	f.front.uses.requests.most = 0
+	// An operator does not count as a client.
+	f.front.uses.requests.max = 0
 	refused(t, "a client above its bound", f.get("/healthz"), 429, "too-many-requests")
 	if w := ask("/healthz"); w.Code != 200 {
 		t.Errorf("an operator at an address that is above its bound as a client: %d", w.Code)
 	}
-	f.front.uses.requests.most = 64
+	f.front.uses.requests.max = 64
 	f.front.Refuse()
 	refused(t, "/readyz", ask("/readyz"), 503, "ended")
 	refused(t, "add-chain", f.do("POST", "/ct/v1/add-chain", fakelog.Submission(f.issue(false))), 503, "ended")
 	for _, line := range strings.Split(strings.TrimSpace(f.lines.String()), "\n") {
-		var told map[string]any
-		if err := json.Unmarshal([]byte(line), &told); err != nil || told["event"] != "request" || told["time"] == "" {
+		var fields map[string]any
+		if err := json.Unmarshal([]byte(line), &fields); err != nil || fields["event"] != "request" ||
+			fields["time"] == "" {
 			t.Errorf("a line: %s: %v", line, err)
 		}
 	}
 }
 
-// TestFaultsAndDamageAreTold: damage in the log is logged by its name, and does not make the log unready. A fault that
-// stops the log does. Each is logged once, and its end is logged once.
-func TestFaultsAndDamageAreTold(t *testing.T) {
+// TestLogsFaultsAndDamage checks that damage in the log is logged with its name, and does not make the log unready. A
+// fault that stops the log does. Each is logged once, and its end is logged once.
+func TestLogsFaultsAndDamage(t *testing.T) {
 	f := newFixture(t, 0, nil)
 	f.fill(1)
 	ctx, cancel := context.WithCancel(context.Background())
 	done := make(chan struct{})
 	go func() {
 		defer close(done)
-		f.front.Tell(ctx, time.Millisecond)
+		f.front.LogFaults(ctx, time.Millisecond)
 	}()
-	tells := func(what string) {
+	logs := func(what string) {
 		t.Helper()
-		eventually(t, "it is told: "+what, func() bool { return strings.Contains(f.lines.String(), what) })
+		eventually(t, "it is logged: "+what, func() bool { return strings.Contains(f.lines.String(), what) })
 	}
-	measures := func(line string) {
+	hasMetric := func(line string) {
 		t.Helper()
 		w := httptest.NewRecorder()
 		f.front.Operator().ServeHTTP(w, httptest.NewRequest("GET", "/metrics", nil))
@@ -133,41 +134,41 @@ func TestFaultsAndDamageAreTold(t *testing.T) {
 			t.Errorf("/metrics lacks %s", line)
 		}
 	}
-	f.log.Bend("tile/data/007 is missing")
-	tells(`"level":"error","event":"damage","detail":"tile/data/007 is missing","tiles":6,"issuers":9}`)
-	tells(`"level":"warn","event":"tend","failures":13,"detail":"nothing is deleted"}`)
-	tells(`"level":"error","event":"witness-seen-more","witness":"w.example","detail":"it has seen 7 entries"}`)
-	tells(`"level":"warn","event":"made-again","objects":10,"last":"issuer/07"}`)
+	f.log.SetDamage("tile/data/007 is missing")
+	logs(`"level":"error","event":"damage","detail":"tile/data/007 is missing","tiles":6,"issuers":9}`)
+	logs(`"level":"warn","event":"tend","failures":13,"detail":"nothing is deleted"}`)
+	logs(`"level":"error","event":"witness-seen-more","witness":"w.example","detail":"it has seen 7 entries"}`)
+	logs(`"level":"warn","event":"made-again","objects":10,"last":"issuer/07"}`)
 	if w := f.ready(); w.Code != 200 {
 		t.Errorf("/readyz with a damaged tile: %d %s", w.Code, w.Body)
 	}
-	measures("ctserve_fault 0")
-	f.log.Break(errors.New("no disk"))
-	tells(`"level":"error","event":"fault","detail":"no disk"}`)
+	hasMetric("ctserve_fault 0")
+	f.log.SetFault(errors.New("no disk"))
+	logs(`"level":"error","event":"fault","detail":"no disk"}`)
 	refused(t, "/readyz", f.get("/readyz"), 503, "fault")
-	measures("ctserve_fault 1")
-	measures("ctserve_ready 0")
-	f.log.Break(nil)
-	f.log.Bend("")
-	tells(`"event":"mended","detail":"no disk"}`)
-	tells(`"event":"mended","detail":"tile/data/007 is missing"}`)
-	measures("ctserve_faults_total 1")
+	hasMetric("ctserve_fault 1")
+	hasMetric("ctserve_ready 0")
+	f.log.SetFault(nil)
+	f.log.SetDamage("")
+	logs(`"event":"mended","detail":"no disk"}`)
+	logs(`"event":"mended","detail":"tile/data/007 is missing"}`)
+	hasMetric("ctserve_faults_total 1")
 	// A fault that ends before the next check is logged too.
-	f.log.Stumble("no disk for half a second")
-	tells(`"level":"error","event":"fault","detail":"no disk for half a second"}`)
-	tells(`"event":"mended","detail":"no disk for half a second"}`)
-	measures("ctserve_faults_total 2")
+	f.log.AddPastFault("no disk for half a second")
+	logs(`"level":"error","event":"fault","detail":"no disk for half a second"}`)
+	logs(`"event":"mended","detail":"no disk for half a second"}`)
+	hasMetric("ctserve_faults_total 2")
 	cancel()
 	<-done
-	for event, told := range map[string]int{"fault": 2, "damage": 1, "made-again": 1, "tend": 1,
+	for event, expected := range map[string]int{"fault": 2, "damage": 1, "made-again": 1, "tend": 1,
 		"witness-seen-more": 1} {
-		if count := strings.Count(f.lines.String(), `"event":"`+event+`"`); count != told {
-			t.Errorf("%s is told %d times", event, count)
+		if count := strings.Count(f.lines.String(), `"event":"`+event+`"`); count != expected {
+			t.Errorf("%s is logged %d times", event, count)
 		}
 	}
 }
 
-// TestReloadsAreCounted: each by what was reloaded and how it ended.
+// TestReloadsAreCounted checks that each reload is counted by what was reloaded and how it ended.
 func TestReloadsAreCounted(t *testing.T) {
 	f := newFixture(t, 0, nil)
 	for i, err := range []error{nil, errors.New("no file"), nil} {
@@ -185,6 +186,6 @@ func TestReloadsAreCounted(t *testing.T) {
 		}
 	}
 	if strings.Contains(w.Body.String(), `{of="certificate",outcome="done"}`) {
-		t.Error("a reload that failed is said to be done")
+		t.Error("a failed reload is counted as done")
 	}
 }

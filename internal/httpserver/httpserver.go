@@ -21,60 +21,61 @@ import (
 	"wagtenib/internal/tile"
 )
 
-// The bounds that no option moves.
+// The bounds that no option changes.
 const (
-	// MaxHeader is how many bytes the headers of a request may have.
+	// MaxHeader is the maximum number of bytes of the headers of a request.
 	MaxHeader = 16 << 10
-	// MaxBody is how many bytes a submission may have. (A chain has at most chains.MaxBytes, in base64.)
+	// MaxBody is the maximum number of bytes of a submission. Its chain, in base64, has at most chains.MaxBytes.
 	MaxBody = 1 << 20
-	// MaxEntries is how many entries get-entries answers at most.
+	// MaxEntries is the maximum number of entries in an answer to get-entries.
 	MaxEntries = 256
 	// MaxEntryBytes is the maximum size of entries in one response in bytes, before base64. The first entry may be
 	// larger.
 	MaxEntryBytes = 1000000
 )
 
-// Limits are the bounds that an operator may move.
+// Limits are the bounds that an operator may change.
 type Limits struct {
-	// Headers is how long the headers of a request may take, and Request the whole of it, with its body.
+	// Headers is the maximum time to receive the headers of a request, and Request that for the whole request with its
+	// body.
 	Headers, Request time.Duration
-	// Submission is how long a submission waits to be checked and to be in a published head.
+	// Submission is the maximum time for a submission to be checked and covered by a published head.
 	Submission time.Duration
-	// Reading is how long a call that reads the log waits for it.
+	// Reading is the maximum time for which a call waits for the log.
 	Reading time.Duration
-	// Answer is how long an answer may take to be sent.
+	// Answer is the maximum time to send an answer.
 	Answer time.Duration
-	// Idle is how long a connection is kept between two requests.
+	// Idle is the maximum time for which a connection is kept between two requests.
 	Idle time.Duration
-	// Connections is how many there are at once, and ConnectionsByAddress how many of one address (of IPv6, of one /64),
-	// or requests at once where a proxy says for whom it asks.
+	// Connections is the maximum number of connections at once, and ConnectionsByAddress that of one address (for IPv6,
+	// of one /64). For clients behind a proxy, ConnectionsByAddress bounds the requests at once.
 	Connections, ConnectionsByAddress int
-	// Submitters have a bound of their own in its place.
+	// Submitters have bounds of their own instead of ConnectionsByAddress.
 	Submitters []Submitter
-	// ProofsByAddress is how many proofs are made at once for one address.
+	// ProofsByAddress is the maximum number of proofs that are made at once for one address.
 	ProofsByAddress int
-	// SubmissionRate is how many submissions of one address are taken a second, and ReadRate how many of what is made of
-	// tiles, proofs and get-entries; 0 bounds none. Submitters have no rate.
+	// SubmissionRate is the maximum number of submissions of one address in a second, and ReadRate that of its proofs
+	// and get-entries, which are made of tiles. 0 means that there is no bound. Submitters have no rate.
 	SubmissionRate, ReadRate int
-	// Checks is how many chains are checked at once.
+	// Checks is the maximum number of chains that are checked at once.
 	Checks int
-	// WaitingBytes is how many bytes the bodies of all submissions have that are read, checked or wait. Those of one
-	// address have an eighth of it, and at least as many as one body may have.
+	// WaitingBytes is the maximum number of bytes of all submissions that are being read or checked, or are waiting.
+	// One address may have an eighth of it, and at least one body of the maximum size.
 	WaitingBytes int64
-	// AnswerBytes is how many bytes the objects have that are read for answers, or sent. Those of one address have an
-	// eighth of it, and at least as many as one object may have and those count that are read beside it.
+	// AnswerBytes is the maximum number of bytes of objects that are being read for answers or sent. One address may
+	// have an eighth of it, and at least one object of the maximum size and one data tile of unknown size.
 	AnswerBytes int64
 }
 
-// byAddress is how many of all bytes those of one address have: an eighth, and at least so many.
-func byAddress(all, least int64) int {
-	if all/8 > least {
+// byAddress returns the bound of one address: an eighth of the bound of all, and at least minimum.
+func byAddress(all, minimum int64) int {
+	if all/8 > minimum {
 		return int(all / 8)
 	}
-	return int(least)
+	return int(minimum)
 }
 
-// DefaultLimits are those of a log on one machine.
+// DefaultLimits returns the limits of a log on one machine.
 func DefaultLimits() Limits {
 	return Limits{
 		Headers: 10 * time.Second, Request: 20 * time.Second, Submission: 30 * time.Second, Reading: 10 * time.Second,
@@ -84,10 +85,11 @@ func DefaultLimits() Limits {
 	}
 }
 
-// Options are how a front is set up.
+// Options are the options of a front.
 type Options struct {
 	Limits Limits
-	// Proxies are the addresses of those whose X-Forwarded-For is believed: its last address.
+	// Proxies are the addresses of trusted proxies. A front takes the last address in their X-Forwarded-For as the
+	// client's.
 	Proxies []netip.Prefix
 	// Lines receives log lines. A nil Lines writes nothing.
 	Lines *Lines
@@ -95,15 +97,15 @@ type Options struct {
 	LogRequests bool
 	// ReadOnly refuses submissions to a log that accepts no more. Its entries can be read as before.
 	ReadOnly bool
-	// About is what the log says of itself.
+	// About has what the log publishes about itself.
 	About About
-	// Stores has counted what the log's stores are asked; nil where nobody counts.
+	// Stores counts the calls of the log's stores. It may be nil.
 	Stores *stores.Calls
 	// Forward forwards submissions to another node. It is nil if the log has one node only.
 	Forward Forwarder
 }
 
-// Front answers the calls of one log. It is an http.Handler, for clients; Operator is the one for operators.
+// Front answers the calls of one log. It is the http.Handler for clients. Operator returns the one for operators.
 type Front struct {
 	log     loginterface.Log
 	reader  *tile.Prover
@@ -117,19 +119,19 @@ type Front struct {
 	issuers issuers
 }
 
-// New makes a front of a log, and of what makes proofs out of its tiles.
-func New(of loginterface.Log, proofs *tile.Prover, checker *chains.Checker, options Options) *Front {
+// New makes a front of a log. The prover makes proofs from the log's tiles.
+func New(log loginterface.Log, proofs *tile.Prover, checker *chains.Checker, options Options) *Front {
 	limits := options.Limits
 	limits.Checks = max(limits.Checks, 1)
-	f := &Front{log: of, reader: proofs, checker: checker, options: options, limits: limits, uses: usesOf(limits)}
+	f := &Front{log: log, reader: proofs, checker: checker, options: options, limits: limits, uses: usesOf(limits)}
 	f.metrics = newMetrics(f)
 	return f
 }
 
-// Refuse has all submissions refused from now on, and /readyz say that the log ends.
+// Refuse makes the front refuse all further submissions. From then on, /readyz answers that the log ends.
 func (f *Front) Refuse() { f.ending.Store(true) }
 
-// call is what one path, or all paths below one, are answered by.
+// call answers the requests for one path, or for all paths below one.
 type call struct {
 	name   string
 	method string
@@ -137,7 +139,8 @@ type call struct {
 	costs  cost
 }
 
-// cost is in which rate of an address a call counts: none, or that of submissions, or that of what is made of tiles.
+// cost says in which rate of an address a call counts: in none, in that of submissions, or in that of calls that read
+// tiles.
 type cost int
 
 const (
@@ -210,7 +213,7 @@ func (f *Front) ServeHTTP(w http.ResponseWriter, r *http.Request) {
 		return
 	}
 	if c.method == http.MethodGet {
-		a.Header().Set("Access-Control-Allow-Origin", anybodyElse)
+		a.Header().Set("Access-Control-Allow-Origin", anyOrigin)
 		a.Header().Set("Access-Control-Expose-Headers", "ETag, Retry-After, Content-Range")
 	}
 	client := f.clientOf(r)
@@ -221,7 +224,7 @@ func (f *Front) ServeHTTP(w http.ResponseWriter, r *http.Request) {
 		}
 		defer f.uses.requests.give(client)
 	}
-	own := &held{of: &f.uses.answers, ofClient: &f.uses.answersOf, client: client}
+	own := &held{all: &f.uses.answers, byClient: &f.uses.answersByClient, client: client}
 	defer own.giveAll()
 	if err := f.serve(c, a, r.WithContext(context.WithValue(r.Context(), heldKey{}, own))); err != nil {
 		refused := refusalOf(err)
@@ -232,10 +235,10 @@ func (f *Front) ServeHTTP(w http.ResponseWriter, r *http.Request) {
 	}
 }
 
-// tooMany is what a client asks at once above its bound.
+// tooMany refuses a request because the client has too many requests at once.
 var tooMany = refusal{status: http.StatusTooManyRequests, name: "too-many-requests", after: 1}
 
-// operatorKey is in the context of an operator's request, which counts as no client's.
+// operatorKey is in the context of an operator's request, which counts for no client.
 type operatorKey struct{}
 
 func (f *Front) serve(c call, w http.ResponseWriter, r *http.Request) error {
@@ -243,7 +246,8 @@ func (f *Front) serve(c call, w http.ResponseWriter, r *http.Request) error {
 		return refusal{status: http.StatusNotFound, name: "no-such-path"}
 	}
 	if r.Method == http.MethodOptions && c.method == http.MethodGet && r.ContentLength == 0 {
-		// A browser asks so before a page of elsewhere may ask (the Fetch standard, section 3.2).
+		// A browser sends this request before it lets a page of another origin send one (the Fetch standard, section
+		// 3.2).
 		w.Header().Set("Allow", allowed(c))
 		w.Header().Set("Access-Control-Allow-Methods", allowed(c))
 		w.Header().Set("Access-Control-Allow-Headers", "If-None-Match, Range")
@@ -256,7 +260,7 @@ func (f *Front) serve(c call, w http.ResponseWriter, r *http.Request) error {
 		return refusal{status: http.StatusMethodNotAllowed, name: "method"}
 	}
 	if c.method == http.MethodGet && r.ContentLength != 0 {
-		return refusal{status: http.StatusBadRequest, name: "body", detail: "a request that reads has none", closes: true}
+		return refusal{status: http.StatusBadRequest, name: "body", detail: "a GET request must have no body", closes: true}
 	}
 	if r.Context().Value(nodeKey{}) == nil && !f.isInRate(c, f.clientOf(r)) {
 		return tooOften
@@ -320,15 +324,16 @@ func (f *Front) count(c call, a *answer, r *http.Request, took time.Duration) {
 	if !fault && !f.options.LogRequests {
 		return
 	}
-	tell := f.options.Lines.Info
+	log := f.options.Lines.Info
 	if fault {
-		tell = f.options.Lines.Warn
+		log = f.options.Lines.Warn
 	}
-	tell("request", "call", c.name, "method", r.Method, "status", a.status, "refusal", a.refusal, "detail", a.detail,
+	log("request", "call", c.name, "method", r.Method, "status", a.status, "refusal", a.refusal, "detail", a.detail,
 		"bytes", a.bytes, "ms", float64(took.Microseconds())/1000, "address", f.clientOf(r).String())
 }
 
-// clientOf is for whom a request is: the peer, or where that is one of the proxies, whom it names.
+// clientOf returns the address of the client of a request. It is the peer's, or if the peer is a proxy or another node,
+// the one that the peer names.
 func (f *Front) clientOf(r *http.Request) netip.Addr {
 	peer := addressOf(r.RemoteAddr)
 	if r.Context().Value(nodeKey{}) == nil && !f.isProxy(peer) {

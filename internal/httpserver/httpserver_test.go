@@ -36,7 +36,7 @@ type fixture struct {
 	lines     *text
 }
 
-// text is what was written, by several at once.
+// text holds what was written. Several goroutines may write at once.
 type text struct {
 	mutex  sync.Mutex
 	buffer bytes.Buffer
@@ -74,7 +74,7 @@ func newFixture(t testing.TB, every time.Duration, change func(*Options)) *fixtu
 	window := chains.Window{From: ends.AddDate(-1, 0, 0), To: ends.AddDate(1, 0, 0)}
 	f := &fixture{t: t, log: of, authority: authority, lines: &text{}}
 	options := Options{Limits: DefaultLimits(), Lines: NewLines(f.lines), Stores: &stores.Calls{}}
-	// (as long as a busy machine takes)
+	// A busy machine may take so long.
 	options.Limits.Reading = testutil.Longest
 	if change != nil {
 		change(&options)
@@ -93,7 +93,7 @@ func unlessLate(ask func() *httptest.ResponseRecorder) (w *httptest.ResponseReco
 	}
 }
 
-// ready is what /readyz answers.
+// ready returns the answer of /readyz.
 func (f *fixture) ready() *httptest.ResponseRecorder {
 	return unlessLate(func() *httptest.ResponseRecorder { return f.get("/readyz") })
 }
@@ -133,18 +133,18 @@ func (f *fixture) fill(count int) (certificates [][]byte) {
 	return certificates
 }
 
-// refused reports whether an answer is a refusal of this status and name, which no cache keeps.
+// refused fails the test unless an answer is a refusal with this status and name, which no cache keeps.
 func refused(t testing.TB, what string, w *httptest.ResponseRecorder, status int, name string) {
 	t.Helper()
-	var told struct {
+	var reply struct {
 		Message string `json:"error_message"`
 		Detail  string `json:"detail"`
 	}
-	if err := json.Unmarshal(w.Body.Bytes(), &told); err != nil {
+	if err := json.Unmarshal(w.Body.Bytes(), &reply); err != nil {
 		t.Fatalf("%s: %d %q: %v", what, w.Code, w.Body, err)
 	}
-	if w.Code != status || told.Message != name || w.Header().Get("Cache-Control") != "no-store" {
-		t.Errorf("%s: %d %s (%s), %q, where %d %s was expected", what, w.Code, told.Message, told.Detail,
+	if w.Code != status || reply.Message != name || w.Header().Get("Cache-Control") != "no-store" {
+		t.Errorf("%s: %d %s (%s), %q, where %d %s was expected", what, w.Code, reply.Message, reply.Detail,
 			w.Header()["Cache-Control"], status, name)
 	}
 }
@@ -163,15 +163,15 @@ func TestRoots(t *testing.T) {
 		t.Fatal(err)
 	}
 	for i := 1; i <= 2; i++ {
-		var told struct {
+		var reply struct {
 			Certificates [][]byte `json:"certificates"`
 		}
 		w := f.get("/ct/v1/get-roots")
-		if err := json.Unmarshal(w.Body.Bytes(), &told); err != nil || w.Code != 200 {
+		if err := json.Unmarshal(w.Body.Bytes(), &reply); err != nil || w.Code != 200 {
 			t.Fatal(w.Code, err)
 		}
-		if len(told.Certificates) != i || !bytes.Equal(told.Certificates[0], f.authority.Root.Raw) ||
-			!bytes.Equal(told.Certificates[i-1], [][]byte{f.authority.Root.Raw, other.Root.Raw}[i-1]) {
+		if len(reply.Certificates) != i || !bytes.Equal(reply.Certificates[0], f.authority.Root.Raw) ||
+			!bytes.Equal(reply.Certificates[i-1], [][]byte{f.authority.Root.Raw, other.Root.Raw}[i-1]) {
 			t.Errorf("roots: %s", w.Body)
 		}
 		path := t.TempDir() + "/roots.pem"
@@ -182,8 +182,8 @@ func TestRoots(t *testing.T) {
 	}
 }
 
-// A log that answers late is refused by that name, and not as a store that fails.
-func TestReadingThatIsLate(t *testing.T) {
+// TestRefusesLateReads checks that a call of a log that answers too late is refused as late, and not as a failed store.
+func TestRefusesLateReads(t *testing.T) {
 	f := newFixture(t, 0, func(o *Options) { o.Limits.Reading = 20 * time.Millisecond })
 	f.fill(1)
 	f.log.Slow = 5 * time.Second
@@ -235,8 +235,8 @@ func TestPage(t *testing.T) {
 	}
 }
 
-// The log's key and its entry for a list are answered as they were given, to anybody; without them there is no such
-// path.
+// TestAbout checks that the log's key and its entry for a log list are served to everybody as they were given. Without
+// them, their paths do not exist.
 func TestAbout(t *testing.T) {
 	of := About{Key: []byte("a key"), Entry: []byte(`{"log_id":"an id"}`)}
 	f := newFixture(t, 0, func(o *Options) { o.About = of })
@@ -255,19 +255,19 @@ func TestAbout(t *testing.T) {
 	}
 }
 
-// TestPanic: a panic of the log is a refusal, and is logged.
+// TestPanic checks that a panic of the log is answered by a refusal, and is logged.
 func TestPanic(t *testing.T) {
 	f := newFixture(t, 0, nil)
 	f.front.log = nil
 	refused(t, "a panic", f.get("/checkpoint"), 500, "internal")
 	if !strings.Contains(f.lines.String(), `"event":"panic"`) {
-		t.Error("it isn't told")
+		t.Error("the panic is not logged")
 	}
 }
 
 func TestLinesAreBounded(t *testing.T) {
-	var told text
-	l := NewLines(&told)
+	var written text
+	l := NewLines(&written)
 	now := time.Unix(1000, 0)
 	l.now = func() time.Time { return now }
 	for i := 0; i < maxLines+7; i++ {
@@ -279,7 +279,7 @@ func TestLinesAreBounded(t *testing.T) {
 	}
 	now = now.Add(time.Second)
 	l.Info("z")
-	lines := strings.Split(strings.TrimSpace(told.String()), "\n")
+	lines := strings.Split(strings.TrimSpace(written.String()), "\n")
 	if len(lines) != 3*maxLines+3 || !strings.Contains(lines[maxLines], "another event") ||
 		!strings.HasSuffix(lines[3*maxLines+1], `"event":"dropped","of":"x","lines":7}`) {
 		t.Errorf("%d lines, at their end %s", len(lines), lines[len(lines)-2:])
@@ -292,8 +292,8 @@ func TestLinesAreBounded(t *testing.T) {
 	(*Lines)(nil).Info("nothing")
 }
 
-// TestClientsBehindProxies: only a proxy's header is believed, and its last address counts. One client's requests are
-// bounded, another's are not.
+// TestClientsBehindProxies checks that only a proxy's header is believed, and that its last address counts. One
+// client's requests do not count in the bound of another one.
 func TestClientsBehindProxies(t *testing.T) {
 	f := newFixture(t, 0, func(o *Options) {
 		o.Proxies = []netip.Prefix{netip.MustParsePrefix("127.0.0.0/8"), netip.MustParsePrefix("::1/128")}
@@ -327,7 +327,7 @@ func TestClientsBehindProxies(t *testing.T) {
 	one, same, other := netip.MustParseAddr("2001:db8::1"), netip.MustParseAddr("2001:db8::2:3"),
 		netip.MustParseAddr("2001:db8:0:1::1")
 	if !f.front.uses.requests.take(one) || f.front.uses.requests.take(same) || !f.front.uses.requests.take(other) {
-		t.Error("addresses of IPv6 don't count by /64")
+		t.Error("IPv6 addresses are not counted by /64")
 	}
 	r := httptest.NewRequest("GET", "/", nil)
 	r.RemoteAddr = "[2001:db8::77]:7"
@@ -336,13 +336,13 @@ func TestClientsBehindProxies(t *testing.T) {
 	refused(t, "a second request", w, 429, "too-many-requests")
 	f.front.uses.requests.give(one)
 	f.front.uses.requests.give(other)
-	if len(f.front.uses.requests.of) != 0 {
-		t.Error("addresses stay behind")
+	if len(f.front.uses.requests.byGroup) != 0 {
+		t.Error("addresses are still counted")
 	}
 }
 
-// TestSubmitters: all addresses of a submitter's prefix count together, up to its own bound, by the smallest prefix
-// that has one; others count as before.
+// TestSubmitters checks that all addresses of a submitter's prefix count together, up to the bound of the longest
+// prefix that contains them. Other addresses count by themselves.
 func TestSubmitters(t *testing.T) {
 	submitters := []Submitter{{netip.MustParsePrefix("198.51.100.0/24"), 3},
 		{netip.MustParsePrefix("198.51.100.128/25"), 1}, {netip.MustParsePrefix("2001:db8::/32"), 2},
@@ -373,11 +373,11 @@ func TestSubmitters(t *testing.T) {
 		for _, address := range taken {
 			counted.give(address)
 		}
-		if len(counted.of) != 0 {
-			t.Errorf("%s stay behind: %v", what, counted.of)
+		if len(counted.byGroup) != 0 {
+			t.Errorf("%s are still counted: %v", what, counted.byGroup)
 		}
 	}
-	if counted := &f.front.uses.waitingOf; len(counted.submitters) != 0 {
+	if counted := &f.front.uses.waitingByClient; len(counted.submitters) != 0 {
 		t.Error("bytes count by submitter")
 	}
 }
@@ -389,8 +389,8 @@ func fingerprintOf(der []byte) string {
 
 var _ http.Handler = (*Front)(nil)
 
-// TestReadOnly: a log that takes no more refuses each submission by a name of its own, reads none of it, and is read as
-// before.
+// TestReadOnly checks that a read-only log refuses each submission with a name of its own and reads nothing of it. Its
+// entries can be read as before.
 func TestReadOnly(t *testing.T) {
 	f := newFixture(t, 10*time.Millisecond, func(o *Options) { o.ReadOnly = true })
 	f.fill(2)

@@ -16,7 +16,7 @@ import (
 	"wagtenib/internal/loginterface"
 )
 
-// late is a log that gives an older head so many times.
+// late is a log that returns an older head so many times.
 type late struct {
 	loginterface.Log
 	head  loginterface.Head
@@ -34,9 +34,9 @@ func (l *late) HeadOf(ctx context.Context, _ uint64) (loginterface.Head, error) 
 	return l.Checkpoint(ctx)
 }
 
-// TestPartialTileThatWent: a partial tile that was deleted after the head was read is no fault if a newer head has the
-// full tile.
-func TestPartialTileThatWent(t *testing.T) {
+// TestReadsFullTileAfterPartialWasDeleted checks that a partial tile that was deleted after the head was read is no
+// fault if a newer head has the full tile.
+func TestReadsFullTileAfterPartialWasDeleted(t *testing.T) {
 	f := newFixture(t, 0, nil)
 	f.fill(3)
 	head, _ := f.log.Checkpoint(context.Background())
@@ -50,7 +50,7 @@ func TestPartialTileThatWent(t *testing.T) {
 	refused(t, "an older head again", f.get("/ct/v1/get-entries?start=0&end=1"), 503, "store")
 }
 
-// unasked is a log that knows a head, and whose newest one isn't answered.
+// unasked is a log that knows a head, but never returns its newest one.
 type unasked struct {
 	loginterface.Log
 	head  loginterface.Head
@@ -70,8 +70,8 @@ func (u *unasked) HeadOf(ctx context.Context, entries uint64) (loginterface.Head
 	return u.Checkpoint(ctx)
 }
 
-// TestReadersAskForNoNewerHead: entries and proofs below a known head are answered while nobody knows the newest one. A
-// request for more waits for it.
+// TestReadersAskForNoNewerHead checks that entries and proofs below a known head are answered while the newest one is
+// unknown. A request for more entries waits for the newest one.
 func TestReadersAskForNoNewerHead(t *testing.T) {
 	f := newFixture(t, 0, func(o *Options) { o.Limits.Reading = time.Minute })
 	f.fill(300)
@@ -79,13 +79,13 @@ func TestReadersAskForNoNewerHead(t *testing.T) {
 	if err != nil {
 		t.Fatal(err)
 	}
-	var told struct {
+	var reply struct {
 		Entries []struct {
 			Leaf []byte `json:"leaf_input"`
 		}
 	}
-	f.reads("get-entries?start=299&end=299", &told)
-	hash := fakelog.LeafHash(told.Entries[0].Leaf)
+	f.reads("get-entries?start=299&end=299", &reply)
+	hash := fakelog.LeafHash(reply.Entries[0].Leaf)
 	of := &unasked{Log: f.log, head: head}
 	f.front.log = of
 	for _, path := range []string{"get-entries?start=0&end=299", "get-entries?start=256&end=299",
@@ -106,7 +106,7 @@ func TestReadersAskForNoNewerHead(t *testing.T) {
 	}
 }
 
-// TestDamagedObjects: an impossible object in a store is a fault of the store, and not an entry.
+// TestDamagedObjects checks that an object with a wrong content is a fault of the store, and is not served as entries.
 func TestDamagedObjects(t *testing.T) {
 	f := newFixture(t, 0, nil)
 	f.fill(2)
@@ -130,12 +130,12 @@ func TestDamagedObjects(t *testing.T) {
 	if entries := f.entries(0, 1); len(entries) != 2 {
 		t.Errorf("%d entries", len(entries))
 	}
-	// From now on it is at hand.
+	// The issuer is in the cache now.
 	f.log.Change(issuer, nil)
 	if entries := f.entries(0, 1); len(entries) != 2 {
 		t.Errorf("%d entries", len(entries))
 	}
-	// Above the bound they are removed.
+	// A full cache is emptied.
 	f.log.Change(issuer, f.authority.Root.Raw)
 	f.front.issuers.kept, f.front.issuers.bytes = map[[32]byte][]byte{{}: {7}}, maxIssuerBytes
 	f.entries(0, 1)
@@ -144,22 +144,22 @@ func TestDamagedObjects(t *testing.T) {
 	}
 }
 
-// whole is who gets an answer, and does something once all of it has come.
+// whole records an answer, and calls onWhole after the whole answer was received.
 type whole struct {
 	*httptest.ResponseRecorder
-	came func()
+	onWhole func()
 }
 
 func (w whole) Write(some []byte) (int, error) {
 	n, err := w.ResponseRecorder.Write(some)
 	if fmt.Sprint(w.Body.Len()) == w.Header().Get("Content-Length") {
-		w.came()
+		w.onWhole()
 	}
 	return n, err
 }
 
-// TestAnswersComeLast: after a response was received, its request holds no slot and no bytes, and is counted and
-// logged. So a client that asks again at once is answered even if only one request may run at a time.
+// TestAnswersComeLast checks that after a response was received, its request holds no slot and no bytes, and is counted
+// and logged. So a client that asks again at once is answered even if only one request may run at a time.
 func TestAnswersComeLast(t *testing.T) {
 	f := newFixture(t, 5*time.Millisecond, func(o *Options) {
 		o.Limits.ConnectionsByAddress, o.Limits.ProofsByAddress, o.LogRequests = 1, 1, true
@@ -183,7 +183,7 @@ func TestAnswersComeLast(t *testing.T) {
 		{"POST", "/ct/v1/add-chain", "add-chain", "", "", 200},
 	} {
 		what := fmt.Sprint(test.target, " ", test.value)
-		ask := func(came func()) whole {
+		ask := func(onWhole func()) whole {
 			r := httptest.NewRequest(test.method, test.target, nil)
 			if test.method == "POST" {
 				r = httptest.NewRequest(test.method, test.target, bytes.NewReader(body))
@@ -191,7 +191,7 @@ func TestAnswersComeLast(t *testing.T) {
 			if test.header != "" {
 				r.Header.Set(test.header, test.value)
 			}
-			w := whole{httptest.NewRecorder(), came}
+			w := whole{httptest.NewRecorder(), onWhole}
 			f.front.ServeHTTP(w, r)
 			return w
 		}
@@ -203,29 +203,30 @@ func TestAnswersComeLast(t *testing.T) {
 			fmt.Sscan(text, &count)
 			return count
 		}
-		told := func() int { return strings.Count(f.lines.String(), fmt.Sprintf(`"call":%q`, test.call)) }
-		before, lines, times := counted(), told(), 0
+		logged := func() int { return strings.Count(f.lines.String(), fmt.Sprintf(`"call":%q`, test.call)) }
+		before, lines, times := counted(), logged(), 0
 		w := ask(func() {
 			times++
-			for which, of := range map[string]*counts{"requests": &f.front.uses.requests, "proofs": &f.front.uses.proofsOf,
-				"submissions": &f.front.uses.waitingOf, "answers": &f.front.uses.answersOf} {
-				if len(of.of) != 0 {
-					t.Errorf("%s: of %s %v is held", what, which, of.of)
+			for which, of := range map[string]*counts{"requests": &f.front.uses.requests,
+				"proofs":      &f.front.uses.proofsByClient,
+				"submissions": &f.front.uses.waitingByClient, "answers": &f.front.uses.answersByClient} {
+				if len(of.byGroup) != 0 {
+					t.Errorf("%s: of %s %v is held", what, which, of.byGroup)
 				}
 			}
 			if submitted, read := f.front.uses.waiting.used.Load(), f.front.uses.answers.used.Load(); submitted != 0 ||
 				read != 0 {
 				t.Errorf("%s: %d and %d bytes are held", what, submitted, read)
 			}
-			if now, said := counted(), told(); now != before+1 || said != lines+1 {
-				t.Errorf("%s: %d are counted behind %d, and %d told behind %d", what, now, before, said, lines)
+			if now, nowLogged := counted(), logged(); now != before+1 || nowLogged != lines+1 {
+				t.Errorf("%s: %d are counted after %d, and %d logged after %d", what, now, before, nowLogged, lines)
 			}
 			if again := ask(func() {}); again.Code != test.status {
 				t.Errorf("%s, at once: %d %s", what, again.Code, again.Body)
 			}
 		})
 		if w.Code != test.status || times != 1 {
-			t.Errorf("%s: %d, which came whole %d times", what, w.Code, times)
+			t.Errorf("%s: %d, which was received whole %d times", what, w.Code, times)
 		}
 	}
 }

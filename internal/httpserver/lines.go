@@ -18,7 +18,7 @@ const maxLines = 50
 // Lines writes log lines, one JSON object each, with time, level, event and fields. A nil Lines writes nothing.
 type Lines struct {
 	mutex  sync.Mutex
-	to     io.Writer
+	writer io.Writer
 	now    func() time.Time
 	second int64
 	// written counts the lines of each event in this second. Events are a few constants of the programs.
@@ -26,18 +26,18 @@ type Lines struct {
 }
 
 // NewLines writes lines to w.
-func NewLines(w io.Writer) *Lines { return &Lines{to: w, now: time.Now} }
+func NewLines(w io.Writer) *Lines { return &Lines{writer: w, now: time.Now} }
 
-// Info logs normal operation. The arguments are keys, each with its value after it.
-func (l *Lines) Info(event string, words ...any) { l.tell("info", event, words) }
+// Info logs normal operation. The fields are keys, each with its value after it.
+func (l *Lines) Info(event string, fields ...any) { l.log("info", event, fields) }
 
 // Warn logs something that an operator may look at.
-func (l *Lines) Warn(event string, words ...any) { l.tell("warn", event, words) }
+func (l *Lines) Warn(event string, fields ...any) { l.log("warn", event, fields) }
 
 // Error logs something that an operator must look at.
-func (l *Lines) Error(event string, words ...any) { l.tell("error", event, words) }
+func (l *Lines) Error(event string, fields ...any) { l.log("error", event, fields) }
 
-func (l *Lines) tell(level, event string, words []any) {
+func (l *Lines) log(level, event string, fields []any) {
 	if l == nil {
 		return
 	}
@@ -47,15 +47,15 @@ func (l *Lines) tell(level, event string, words []any) {
 	if second := now.Unix(); second != l.second {
 		written := l.written
 		l.second, l.written = second, map[string]int{}
-		var above []string
-		for event, many := range written {
-			if many > maxLines {
-				above = append(above, event)
+		var dropped []string
+		for event, lines := range written {
+			if lines > maxLines {
+				dropped = append(dropped, event)
 			}
 		}
-		sort.Strings(above)
-		for _, event := range above {
-			l.to.Write(line(now, "warn", "dropped", []any{"of", event, "lines", written[event] - maxLines}))
+		sort.Strings(dropped)
+		for _, event := range dropped {
+			l.writer.Write(line(now, "warn", "dropped", []any{"of", event, "lines", written[event] - maxLines}))
 		}
 	}
 	if level != "error" {
@@ -63,24 +63,24 @@ func (l *Lines) tell(level, event string, words []any) {
 			return
 		}
 	}
-	l.to.Write(line(now, level, event, words))
+	l.writer.Write(line(now, level, event, fields))
 }
 
-func line(now time.Time, level, event string, words []any) []byte {
+func line(now time.Time, level, event string, fields []any) []byte {
 	var text bytes.Buffer
 	text.WriteByte('{')
-	words = append([]any{"time", now.Format("2006-01-02T15:04:05.000Z"), "level", level, "event", event}, words...)
-	for i := 0; i+1 < len(words); i += 2 {
-		if words[i+1] == "" {
+	fields = append([]any{"time", now.Format("2006-01-02T15:04:05.000Z"), "level", level, "event", event}, fields...)
+	for i := 0; i+1 < len(fields); i += 2 {
+		if fields[i+1] == "" {
 			continue
 		}
 		if i > 0 {
 			text.WriteByte(',')
 		}
-		key, _ := json.Marshal(fmt.Sprint(words[i]))
-		value, err := json.Marshal(plain(words[i+1]))
+		key, _ := json.Marshal(fmt.Sprint(fields[i]))
+		value, err := json.Marshal(plain(fields[i+1]))
 		if err != nil {
-			value, _ = json.Marshal(fmt.Sprint(words[i+1]))
+			value, _ = json.Marshal(fmt.Sprint(fields[i+1]))
 		}
 		text.Write(key)
 		text.WriteByte(':')
@@ -90,7 +90,7 @@ func line(now time.Time, level, event string, words []any) []byte {
 	return text.Bytes()
 }
 
-// plain makes texts of errors and durations, which JSON has not.
+// plain makes a text of an error or a duration, for which JSON has no type.
 func plain(value any) any {
 	switch value := value.(type) {
 	case error:

@@ -15,7 +15,7 @@ import (
 	"wagtenib/internal/version"
 )
 
-// metrics are the metrics for Prometheus. Labels are names of calls, statuses and refusals, and never text from a
+// metrics holds the metrics for Prometheus. Labels are names of calls, statuses and refusals, and never text from a
 // client.
 type metrics struct {
 	registry *prometheus.Registry
@@ -56,7 +56,7 @@ func newMetrics(f *Front) *metrics {
 		m.refused.WithLabelValues(bound)
 	}
 	m.registry.MustRegister(m.requests, m.seconds, m.refusals, m.refused, m.reloads, m.closedIdle, m.handshakes, build,
-		figures{f}, collectors.NewGoCollector(), collectors.NewProcessCollector(collectors.ProcessCollectorOpts{}))
+		logCollector{f}, collectors.NewGoCollector(), collectors.NewProcessCollector(collectors.ProcessCollectorOpts{}))
 	return m
 }
 
@@ -77,8 +77,8 @@ func (f *Front) Reloaded(of string, err error) {
 	f.metrics.reloads.WithLabelValues(of, outcome).Inc()
 }
 
-// figures collects the log's figures at the time of a scrape.
-type figures struct{ front *Front }
+// logCollector collects the log's metrics at the time of a scrape.
+type logCollector struct{ front *Front }
 
 func described(name, help string) *prometheus.Desc {
 	return prometheus.NewDesc(name, help, nil, nil)
@@ -89,7 +89,7 @@ var (
 	descHeadAge    = described("ctserve_head_age_seconds", "Age of the newest published head.")
 	descMergeDelay = described("ctserve_max_merge_delay_seconds",
 		"Maximum merge delay that the log publishes. The newest published head is never older, unless there is a fault.")
-	descAhead = described("ctserve_unpublished_entries",
+	descUnpublished = described("ctserve_unpublished_entries",
 		"Entries that were added to the log and are in no published head that this node knows.")
 	descRound = described("ctserve_round_age_seconds",
 		"Time since the last round that succeeded. A round is made each second, even without submissions.")
@@ -98,29 +98,30 @@ var (
 	descFailed = prometheus.NewDesc("ctserve_store_failures_total",
 		"Calls of a store that failed. An expected answer, for example that an object does not exist, is no failure.",
 		[]string{"store", "call"}, nil)
-	descQueue     = described("ctserve_queue", "Submissions that are waiting.")
-	descMostQueue = described("ctserve_queue_capacity",
+	descQueue    = described("ctserve_queue", "Submissions that are waiting.")
+	descMaxQueue = described("ctserve_queue_capacity",
 		"Number of waiting submissions at which further ones are refused.")
-	descFault   = described("ctserve_fault", "1 if a fault keeps the log from accepting submissions.")
-	descFaults  = described("ctserve_faults_total", "Number of times that a fault began.")
-	descReady   = described("ctserve_ready", "1 if the node can be used now, as /readyz says. A log with read-only true is ready for reads.")
-	descSteps   = described("ctserve_steps_total", "Steps of this node that the lock took.")
-	descLost    = described("ctserve_lost_swaps_total", "Swaps of the lock that this node lost to another node.")
-	descUnknown = described("ctserve_unknown_swaps_total",
+	descFault  = described("ctserve_fault", "1 if a fault keeps the log from accepting submissions.")
+	descFaults = described("ctserve_faults_total", "Number of times that a fault began.")
+	descReady  = described("ctserve_ready",
+		"1 if the node can be used now, as /readyz says. A log with read-only true is ready for reads.")
+	descSteps        = described("ctserve_steps_total", "Steps of this node that the lock took.")
+	descLostSwaps    = described("ctserve_lost_swaps_total", "Swaps of the lock that this node lost to another node.")
+	descUnknownSwaps = described("ctserve_unknown_swaps_total",
 		"Swaps of the lock whose outcome was only known after reading it.")
-	descRepeats    = described("ctserve_duplicates_total", "Submissions that were already in the log.")
-	descHelped     = described("ctserve_resumed_steps_total", "Steps of other nodes that this node completed.")
-	descHandedOver = described("ctserve_forwarded_submissions_total",
+	descDuplicates = described("ctserve_duplicates_total", "Submissions that were already in the log.")
+	descResumed    = described("ctserve_resumed_steps_total", "Steps of other nodes that this node completed.")
+	descForwarded  = described("ctserve_forwarded_submissions_total",
 		"Submissions that were forwarded to another node, which answered them.")
-	descSigner = described("ctserve_signer_starts_total",
+	descSignerStarts = described("ctserve_signer_starts_total",
 		"Number of times that the signer was started or connected to.")
-	descWrong = described("ctserve_wrong_signatures_total",
+	descWrongSignatures = described("ctserve_wrong_signatures_total",
 		"Replies of the signer that had a wrong signature, and were refused.")
-	descSwept = described("ctserve_deleted_tiles_total",
+	descDeletedTiles = described("ctserve_deleted_tiles_total",
 		"Partial tiles that were deleted after their full tile was stored.")
-	descSweptHeads = described("ctserve_deleted_heads_total", "Heads that were deleted after a later one was published.")
-	descScrubbed   = described("ctserve_scrubbed_tiles_total", "Old data tiles that were checked and were right.")
-	descDamaged    = described("ctserve_damaged_tiles",
+	descDeletedHeads = described("ctserve_deleted_heads_total", "Heads that were deleted after a later one was published.")
+	descRereadTiles  = described("ctserve_scrubbed_tiles_total", "Old data tiles that were checked and were right.")
+	descDamaged      = described("ctserve_damaged_tiles",
 		"Data tiles that are missing, unreadable or wrong, or are below such hash tiles, by the last check.")
 	descWritten = described("ctserve_written_bytes_total", "Bytes that steps stored, in staged batches and as objects.")
 	descPhase   = prometheus.NewDesc("ctserve_step_seconds",
@@ -131,10 +132,10 @@ var (
 	descBatches        = described("ctserve_step_submissions", "Number of submissions of a step that the lock took.")
 	descDeletedBatches = described("ctserve_deleted_batches_total",
 		"Staged batches that were deleted because nothing needs them.")
-	descStaged  = described("ctserve_staged_batches", "Staged batches in the store when they were last listed.")
-	descTending = described("ctserve_janitor_failures_total",
+	descStaged          = described("ctserve_staged_batches", "Staged batches in the store when they were last listed.")
+	descJanitorFailures = described("ctserve_janitor_failures_total",
 		"Failed deletions of partial tiles, heads and staged batches.")
-	descSweptTo = described("ctserve_partial_tiles_deleted_to",
+	descDeletedTo = described("ctserve_partial_tiles_deleted_to",
 		"Number of entries up to which all partial tiles were deleted, as far as this node knows.")
 	descReadNext = described("ctserve_scrub_next_tile", "Index of the data tile (256 entries) that is checked next.")
 	descIssuers  = described("ctserve_damaged_issuers", "Issuers that are missing or wrong, by the last check.")
@@ -143,7 +144,7 @@ var (
 		"Heads that a witness was asked to cosign since it last cosigned one.", []string{"witness"}, nil)
 	descCosigned = prometheus.NewDesc("ctserve_witness_cosignatures_total", "Heads that a witness cosigned.",
 		[]string{"witness"}, nil)
-	descSeenMore = prometheus.NewDesc("ctserve_witness_ahead",
+	descWitnessAhead = prometheus.NewDesc("ctserve_witness_ahead",
 		"1 if a witness says that it cosigned a later head than this log's newest one, or another one of that size.",
 		[]string{"witness"}, nil)
 	descOpen    = described("ctserve_connections", "Open connections.")
@@ -153,110 +154,110 @@ var (
 	descRoots   = described("ctserve_roots", "Roots against which chains are checked.")
 )
 
-func (c figures) Describe(to chan<- *prometheus.Desc) { prometheus.DescribeByCollect(c, to) }
+func (c logCollector) Describe(to chan<- *prometheus.Desc) { prometheus.DescribeByCollect(c, to) }
 
-func (c figures) Collect(to chan<- prometheus.Metric) {
-	// (this reads the newest head, which the figures describe)
-	unready := c.front.unready(context.Background())
+func (c logCollector) Collect(to chan<- prometheus.Metric) {
+	// checkReady reads the newest head, which the metrics describe, so it is called first.
+	unready := c.front.checkReady(context.Background())
 	f := c.front.log.Metrics()
-	values := collected{to}
-	values.state(f, unready == nil)
+	sink := metricSink{to}
+	sink.state(f, unready == nil)
 	if delay := c.front.options.About.MaxMergeDelay; delay > 0 {
-		values.gauge(descMergeDelay, delay.Seconds())
+		sink.gauge(descMergeDelay, delay.Seconds())
 	}
-	values.work(f)
-	values.upkeep(f)
-	values.witnesses(f)
-	values.stores(c.front.options.Stores)
-	values.gauge(descOpen, float64(c.front.uses.connections.open.Load()))
-	values.gauge(descWaiting, float64(c.front.uses.waiting.used.Load()))
-	values.gauge(descAnswers, float64(c.front.uses.answers.used.Load()))
-	values.gauge(descRoots, float64(len(c.front.checker.Roots().Certificates())))
+	sink.work(f)
+	sink.upkeep(f)
+	sink.witnesses(f)
+	sink.stores(c.front.options.Stores)
+	sink.gauge(descOpen, float64(c.front.uses.connections.open.Load()))
+	sink.gauge(descWaiting, float64(c.front.uses.waiting.used.Load()))
+	sink.gauge(descAnswers, float64(c.front.uses.answers.used.Load()))
+	sink.gauge(descRoots, float64(len(c.front.checker.Roots().Certificates())))
 }
 
-// collected is where the metrics of a scrape go.
-type collected struct{ to chan<- prometheus.Metric }
+// metricSink receives the metrics of a scrape.
+type metricSink struct{ to chan<- prometheus.Metric }
 
-func (c collected) gauge(of *prometheus.Desc, value float64, labels ...string) {
-	c.to <- prometheus.MustNewConstMetric(of, prometheus.GaugeValue, value, labels...)
+func (s metricSink) gauge(of *prometheus.Desc, value float64, labels ...string) {
+	s.to <- prometheus.MustNewConstMetric(of, prometheus.GaugeValue, value, labels...)
 }
 
-func (c collected) count(of *prometheus.Desc, value uint64, labels ...string) {
-	c.to <- prometheus.MustNewConstMetric(of, prometheus.CounterValue, float64(value), labels...)
+func (s metricSink) count(of *prometheus.Desc, value uint64, labels ...string) {
+	s.to <- prometheus.MustNewConstMetric(of, prometheus.CounterValue, float64(value), labels...)
 }
 
 // flag collects 1 for true.
-func (c collected) flag(of *prometheus.Desc, is bool, labels ...string) {
+func (s metricSink) flag(of *prometheus.Desc, is bool, labels ...string) {
 	value := 0.0
 	if is {
 		value = 1
 	}
-	c.gauge(of, value, labels...)
+	s.gauge(of, value, labels...)
 }
 
 // state collects what the log is, and whether it accepts submissions.
-func (c collected) state(f loginterface.Metrics, isReady bool) {
-	c.gauge(descEntries, float64(f.Entries))
-	c.gauge(descHeadAge, f.HeadAge.Seconds())
-	c.gauge(descAhead, float64(f.Unpublished))
-	c.gauge(descRound, f.SinceRound.Seconds())
-	c.gauge(descQueue, float64(f.Queue))
-	c.gauge(descMostQueue, float64(f.MaxQueue))
-	c.flag(descFault, f.Fault != "")
-	c.count(descFaults, f.Faults)
-	c.flag(descReady, isReady)
+func (s metricSink) state(f loginterface.Metrics, isReady bool) {
+	s.gauge(descEntries, float64(f.Entries))
+	s.gauge(descHeadAge, f.HeadAge.Seconds())
+	s.gauge(descUnpublished, float64(f.Unpublished))
+	s.gauge(descRound, f.SinceRound.Seconds())
+	s.gauge(descQueue, float64(f.Queue))
+	s.gauge(descMaxQueue, float64(f.MaxQueue))
+	s.flag(descFault, f.Fault != "")
+	s.count(descFaults, f.Faults)
+	s.flag(descReady, isReady)
 }
 
 // work collects what steps did.
-func (c collected) work(f loginterface.Metrics) {
-	c.count(descSteps, f.Steps)
-	c.count(descLost, f.LostSwaps)
-	c.count(descUnknown, f.Unknown)
-	c.count(descRepeats, f.Repeats)
-	c.count(descHelped, f.Helped)
-	c.count(descHandedOver, f.Forwarded)
-	c.count(descSigner, f.SignerStarts)
-	c.count(descWrong, f.WrongSignatures)
-	c.count(descWritten, f.Written)
+func (s metricSink) work(f loginterface.Metrics) {
+	s.count(descSteps, f.Steps)
+	s.count(descLostSwaps, f.LostSwaps)
+	s.count(descUnknownSwaps, f.UnknownSwaps)
+	s.count(descDuplicates, f.Duplicates)
+	s.count(descResumed, f.ResumedSteps)
+	s.count(descForwarded, f.Forwarded)
+	s.count(descSignerStarts, f.SignerStarts)
+	s.count(descWrongSignatures, f.WrongSignatures)
+	s.count(descWritten, f.WrittenBytes)
 	for _, phase := range f.Phases {
-		c.to <- prometheus.MustNewConstSummary(descPhase, phase.Count, phase.Took.Seconds(), nil, phase.Name)
+		s.to <- prometheus.MustNewConstSummary(descPhase, phase.Count, phase.Duration.Seconds(), nil, phase.Name)
 	}
-	taken := map[float64]uint64{}
-	for most, steps := range f.Batches.AtMost {
-		taken[float64(most)] = steps
+	buckets := map[float64]uint64{}
+	for bound, steps := range f.Batches.UpTo {
+		buckets[float64(bound)] = steps
 	}
-	c.to <- prometheus.MustNewConstHistogram(descBatches, f.Batches.Steps, float64(f.Batches.Submissions), taken)
+	s.to <- prometheus.MustNewConstHistogram(descBatches, f.Batches.Steps, float64(f.Batches.Submissions), buckets)
 }
 
 // upkeep collects what was deleted, checked and repaired.
-func (c collected) upkeep(f loginterface.Metrics) {
-	c.count(descSwept, f.DeletedTiles)
-	c.count(descSweptHeads, f.DeletedHeads)
-	c.count(descScrubbed, f.RereadTiles)
-	c.gauge(descDamaged, float64(f.Damaged))
-	c.count(descDeletedBatches, f.DeletedBatches)
-	c.gauge(descStaged, float64(f.Staged))
-	c.count(descTending, f.JanitorFailures)
-	c.gauge(descSweptTo, float64(f.DeletedTo))
-	c.gauge(descReadNext, float64(f.ReadNext))
-	c.gauge(descIssuers, float64(f.DamagedIssuers))
-	c.count(descRepaired, f.Repaired)
+func (s metricSink) upkeep(f loginterface.Metrics) {
+	s.count(descDeletedTiles, f.DeletedTiles)
+	s.count(descDeletedHeads, f.DeletedHeads)
+	s.count(descRereadTiles, f.RereadTiles)
+	s.gauge(descDamaged, float64(f.Damaged))
+	s.count(descDeletedBatches, f.DeletedBatches)
+	s.gauge(descStaged, float64(f.StagedBatches))
+	s.count(descJanitorFailures, f.JanitorFailures)
+	s.gauge(descDeletedTo, float64(f.DeletedTo))
+	s.gauge(descReadNext, float64(f.ReadNext))
+	s.gauge(descIssuers, float64(f.DamagedIssuers))
+	s.count(descRepaired, f.Repaired)
 }
 
 // witnesses collects what each witness did.
-func (c collected) witnesses(f loginterface.Metrics) {
+func (s metricSink) witnesses(f loginterface.Metrics) {
 	for _, w := range f.Witnesses {
-		c.gauge(descLag, float64(w.Missed), w.Name)
-		c.count(descCosigned, w.Cosigned, w.Name)
-		c.flag(descSeenMore, w.SeenMore, w.Name)
+		s.gauge(descLag, float64(w.Missed), w.Name)
+		s.count(descCosigned, w.Cosigned, w.Name)
+		s.flag(descWitnessAhead, w.IsAhead, w.Name)
 	}
 }
 
 // stores collects the calls of each store.
-func (c collected) stores(calls *stores.Calls) {
+func (s metricSink) stores(calls *stores.Calls) {
 	for _, call := range calls.All() {
-		c.to <- prometheus.MustNewConstSummary(descStore, call.Count, call.Took.Seconds(), nil, call.Store, call.Name)
-		c.count(descFailed, call.Failed, call.Store, call.Name)
+		s.to <- prometheus.MustNewConstSummary(descStore, call.Count, call.Took.Seconds(), nil, call.Store, call.Name)
+		s.count(descFailed, call.Failed, call.Store, call.Name)
 	}
 }
 

@@ -7,8 +7,8 @@ import (
 	"wagtenib/internal/tile"
 )
 
-// tileName is a tile's name, read (C2SP tlog-tiles and static-ct-api): its level, or the data tiles', its index, and
-// its width, which is 256 of a full one.
+// tileName is the parsed name of a tile (C2SP tlog-tiles and static-ct-api): whether it is a data tile, otherwise its
+// level, its index, and its width. The width of a full tile is 256.
 type tileName struct {
 	data  bool
 	level uint64
@@ -17,14 +17,14 @@ type tileName struct {
 }
 
 const (
-	// maxLevel: a log of 2^40 leaves has one hash of level 5.
+	// maxLevel is the maximum level: a log of 2^40 leaves has one hash of level 5.
 	maxLevel = 5
-	// maxGroups is how many groups of three digits an index has: it is below 2^32.
+	// maxGroups is the maximum number of groups of three digits of an index, which is below 2^32.
 	maxGroups = 4
 	fullWidth = tile.Width
 )
 
-// readTileName reads the text after "tile/". Each tile has one name.
+// readTileName parses the text after "tile/". Each tile has exactly one name.
 func readTileName(text string) (name tileName, ok bool) {
 	level, rest, ok := strings.Cut(text, "/")
 	if !ok {
@@ -53,7 +53,7 @@ func readTileName(text string) (name tileName, ok bool) {
 			}
 			group = group[1:]
 		}
-		if len(group) != 3 || !digits(group) {
+		if len(group) != 3 || !isDigits(group) {
 			return name, false
 		}
 		three, _ := strconv.ParseUint(group, 10, 64)
@@ -62,7 +62,7 @@ func readTileName(text string) (name tileName, ok bool) {
 	return name, name.index < 1<<32
 }
 
-// String is the tile's name.
+// String returns the tile's name.
 func (n tileName) String() string {
 	level := "data"
 	if !n.data {
@@ -96,18 +96,18 @@ func (n tileName) isOf(content []byte) bool {
 	return err == nil && uint64(len(leaves)) == n.width
 }
 
-// isFingerprint reports whether a text is 32 bytes in hexadecimal digits of lower case.
+// isFingerprint reports whether a text is 32 bytes in lower-case hexadecimal digits.
 func isFingerprint(text string) bool {
 	return len(text) == 64 && strings.Trim(text, "0123456789abcdef") == ""
 }
 
-func digits(text string) bool { return text != "" && strings.Trim(text, "0123456789") == "" }
+func isDigits(text string) bool { return text != "" && strings.Trim(text, "0123456789") == "" }
 
-// number reads a decimal number of at most some size, without a sign and without zeros in front.
-func number(text string, most uint64) (uint64, bool) {
-	if !digits(text) || len(text) > 1 && text[0] == '0' {
+// number parses a decimal number from 0 to maximum, without a sign and without leading zeros.
+func number(text string, maximum uint64) (uint64, bool) {
+	if !isDigits(text) || len(text) > 1 && text[0] == '0' {
 		return 0, false
 	}
 	value, err := strconv.ParseUint(text, 10, 64)
-	return value, err == nil && value <= most
+	return value, err == nil && value <= maximum
 }

@@ -10,13 +10,13 @@ import (
 )
 
 const (
-	// leastPacked and maxPacked are how many bytes of an answer are compressed: fewer aren't worth it, and more take a
-	// processor for long.
-	leastPacked, maxPacked = 1 << 10, 8 << 20
-	inGzip                 = "gzip"
+	// minPacked and maxPacked are the minimum and maximum number of bytes of an answer that is compressed. Compressing
+	// fewer is of no use, and compressing more occupies a processor for too long.
+	minPacked, maxPacked = 1 << 10, 8 << 20
+	inGzip               = "gzip"
 )
 
-// packers are writers of gzip that are used again and again.
+// packers is a pool of gzip writers.
 var packers = sync.Pool{New: func() any {
 	packer, err := gzip.NewWriterLevel(nil, gzip.BestSpeed)
 	if err != nil {
@@ -25,8 +25,8 @@ var packers = sync.Pool{New: func() any {
 	return packer
 }}
 
-// takesGzip reports whether a client takes an answer in gzip (RFC 9110, section 12.5.3).
-func takesGzip(r *http.Request) bool {
+// acceptsGzip reports whether a client accepts an answer in gzip (RFC 9110, section 12.5.3).
+func acceptsGzip(r *http.Request) bool {
 	for _, value := range r.Header.Values("Accept-Encoding") {
 		for _, one := range strings.Split(value, ",") {
 			coding, weight, weighted := strings.Cut(one, ";")
@@ -48,14 +48,14 @@ func takesGzip(r *http.Request) bool {
 // instead of the bytes that were read. At most as many contents are compressed at once as chains are checked.
 func (f *Front) writePacked(w http.ResponseWriter, r *http.Request, kind string, content []byte) {
 	w.Header().Set("Vary", "Accept-Encoding")
-	if len(content) < leastPacked || len(content) > maxPacked || !takesGzip(r) {
+	if len(content) < minPacked || len(content) > maxPacked || !acceptsGzip(r) {
 		write(w, http.StatusOK, kind, content)
 		return
 	}
 	select {
 	case f.uses.packs <- struct{}{}:
 	default:
-		// (who waited would hold what was read for longer)
+		// It does not wait, because a waiting answer would hold its content for longer.
 		write(w, http.StatusOK, kind, content)
 		return
 	}
@@ -74,7 +74,7 @@ func pack(content []byte) []byte {
 	packer := packers.Get().(*gzip.Writer)
 	defer packers.Put(packer)
 	packer.Reset(&packed)
-	// (a buffer takes all)
+	// A write to a buffer cannot fail.
 	packer.Write(content)
 	packer.Close()
 	return packed.Bytes()

@@ -11,7 +11,7 @@ import (
 //go:embed page.html
 var pageText []byte
 
-// pagePolicy lets the page run its own script and ask this log, and nothing else.
+// pagePolicy allows the page to run its own script and to call this log, and nothing else.
 var pagePolicy = func() string {
 	_, script, _ := bytes.Cut(pageText, []byte("<script>"))
 	script, _, _ = bytes.Cut(script, []byte("</script>"))

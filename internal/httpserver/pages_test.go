@@ -9,23 +9,23 @@ import (
 	"wagtenib/internal/testutil"
 )
 
-// inSecond returns how many submissions of one address are answered in a second, at most, if tree heads have this
-// interval.
+// inSecond returns the maximum number of submissions of one address that are answered in a second if tree heads have
+// this interval.
 func inSecond(limits Limits, interval time.Duration) int {
 	return limits.ConnectionsByAddress * int(time.Second/interval)
 }
 
-// TestPageSaysBounds: the bounds that docs/SERVICE.md and docs/OPERATING.md say of requests and answers are those that
-// are here.
+// TestPageSaysBounds checks that docs/SERVICE.md and docs/OPERATING.md state the bounds of this package for requests
+// and answers.
 func TestPageSaysBounds(t *testing.T) {
 	limits, page := DefaultLimits(), testutil.Page(t, "../../docs/SERVICE.md")
-	group, most := (&counts{most: limits.ConnectionsByAddress}).groupOf(netip.MustParseAddr("2001:db8::7"))
+	group, bound := (&counts{max: limits.ConnectionsByAddress}).groupOf(netip.MustParseAddr("2001:db8::7"))
 	testutil.Says(t, page, map[string]bool{
 		"| connections of clients | 4,096 | 64 |": limits.Connections == 4096 &&
-			most == 64,
+			bound == 64,
 		"Addresses of IPv6 count together if they are in the same /64": group.Bits() == 64,
-		"| connections of operators | 64 | | | connections of other nodes | 4,096 | |": maxOfOthers == 64 &&
-			maxOfNodes == 4096,
+		"| connections of operators | 64 | | | connections of other nodes | 4,096 | |": maxOperatorConnections == 64 &&
+			maxNodeConnections == 4096,
 		"| headers of a request | 16 KiB | | | body of a request | 1 MiB | |": MaxHeader == 16<<10 &&
 			MaxBody == 1<<20,
 		"| proofs that are made at once | 64 | a quarter |": limits.ProofsByAddress == 64/4,

@@ -15,10 +15,10 @@ import (
 	"wagtenib/internal/tile"
 )
 
-// noSuchLeaf: a hash is that of no leaf of the tree.
+// noSuchLeaf refuses a hash that no leaf of the tree has.
 var noSuchLeaf = refusal{status: http.StatusNotFound, name: "no-such-leaf"}
 
-// getSTHConsistency answers the consistency proof between two trees of the log (RFC 6962, section 4.4).
+// getSTHConsistency answers with the consistency proof between two trees of the log (RFC 6962, section 4.4).
 func (f *Front) getSTHConsistency(w http.ResponseWriter, r *http.Request) error {
 	_, numbers, err := numbersOf(r, "first", "second")
 	if err != nil {
@@ -51,7 +51,7 @@ func (f *Front) getSTHConsistency(w http.ResponseWriter, r *http.Request) error 
 	}{hashesOf(proof)})
 }
 
-// getProofByHash answers with the index of the leaf with a hash, and its audit path (RFC 6962, section 4.5).
+// getProofByHash answers with the index of the leaf that has a hash, and its audit path (RFC 6962, section 4.5).
 func (f *Front) getProofByHash(w http.ResponseWriter, r *http.Request) error {
 	query, numbers, err := numbersOf(r, "tree_size")
 	if err != nil {
@@ -78,7 +78,7 @@ func (f *Front) getProofByHash(w http.ResponseWriter, r *http.Request) error {
 		if index >= size {
 			return noSuchLeaf
 		}
-		// If the index is wrong, the path is wrong too. The tile shows whether it is.
+		// The index may be wrong, and then the path would be wrong too. So the tile is asked for the hash at the index.
 		if there, err := f.leafAt(ctx, head, index); err != nil || there != leaf {
 			return orElse(err, noSuchLeaf)
 		}
@@ -91,7 +91,7 @@ func (f *Front) getProofByHash(w http.ResponseWriter, r *http.Request) error {
 	}{index, hashesOf(path)})
 }
 
-// getEntryAndProof answers an entry and its audit path (RFC 6962, section 4.8).
+// getEntryAndProof answers with an entry and its audit path (RFC 6962, section 4.8).
 func (f *Front) getEntryAndProof(w http.ResponseWriter, r *http.Request) error {
 	_, numbers, err := numbersOf(r, "leaf_index", "tree_size")
 	if err != nil {
@@ -118,7 +118,7 @@ func (f *Front) getEntryAndProof(w http.ResponseWriter, r *http.Request) error {
 	}{entry, hashesOf(path)})
 }
 
-// numbersOf reads numbers out of a query.
+// numbersOf parses the query of a request, and returns it with the numbers of these names.
 func numbersOf(r *http.Request, names ...string) (query url.Values, numbers []uint64, err error) {
 	if query, err = url.ParseQuery(r.URL.RawQuery); err != nil {
 		return nil, nil, badParameter("the query cannot be parsed")
@@ -133,14 +133,14 @@ func numbersOf(r *http.Request, names ...string) (query url.Values, numbers []ui
 	return query, numbers, nil
 }
 
-// underHead makes a proof of the tiles of a head that has at least size leaves. A partial tile may be deleted in
-// between, after the full tile was stored. Then underHead makes the proof again.
-func (f *Front) underHead(r *http.Request, size uint64, ask func(context.Context, loginterface.Head) error) error {
+// underHead makes a proof from the tiles of a head that has at least size leaves. A partial tile may be deleted in
+// between, after the full tile was stored. Then underHead makes the proof again, under the newest head.
+func (f *Front) underHead(r *http.Request, size uint64, prove func(context.Context, loginterface.Head) error) error {
 	client := f.clientOf(r)
-	if !f.uses.proofsOf.take(client) {
+	if !f.uses.proofsByClient.take(client) {
 		return tooMany
 	}
-	defer f.uses.proofsOf.give(client)
+	defer f.uses.proofsByClient.give(client)
 	ctx, cancel := f.reading(r)
 	defer cancel()
 	for again := false; ; again = true {
@@ -151,13 +151,13 @@ func (f *Front) underHead(r *http.Request, size uint64, ask func(context.Context
 		if size > head.TreeSize {
 			return badParameter(fmt.Sprintf("the log has %d entries", head.TreeSize))
 		}
-		if err = ask(ctx, head); err == nil || again || !errors.Is(err, stores.ErrAbsent) {
-			return faultOf(err)
+		if err = prove(ctx, head); err == nil || again || !errors.Is(err, stores.ErrAbsent) {
+			return proofError(err)
 		}
 	}
 }
 
-// headOf returns a head of this size if there is one. It is a known head or the newest one.
+// headOf returns a head with so many entries if there is one. If newest is true, it always reads the newest head.
 func (f *Front) headOf(ctx context.Context, entries uint64, newest bool) (loginterface.Head, error) {
 	if newest {
 		return f.log.Checkpoint(ctx)
@@ -165,8 +165,9 @@ func (f *Front) headOf(ctx context.Context, entries uint64, newest bool) (logint
 	return f.log.HeadOf(ctx, entries)
 }
 
-// faultOf says of what proofs fail by whose it is.
-func faultOf(err error) error {
+// proofError wraps the error of a proof in loginterface.ErrBusy if memory or time is short, and otherwise in
+// loginterface.ErrStore. It returns an error that already has its kind as it is.
+func proofError(err error) error {
 	var known refusal
 	switch {
 	case err == nil, errors.As(err, &known), errors.Is(err, context.DeadlineExceeded), errors.Is(err, context.Canceled),
@@ -185,8 +186,8 @@ func orElse(err, other error) error {
 	return other
 }
 
-// rootAt returns the root of the first size leaves, at least one. The head's tiles must have a tree with the head's
-// root.
+// rootAt returns the root of the first size leaves; size is at least 1. It checks that the root is consistent with the
+// head's root.
 func (f *Front) rootAt(ctx context.Context, head loginterface.Head, size uint64) ([32]byte, error) {
 	if size == head.TreeSize {
 		return head.RootHash, nil
@@ -202,7 +203,7 @@ func (f *Front) rootAt(ctx context.Context, head loginterface.Head, size uint64)
 	return root, tile.CheckProof(proof, head.TreeSize, head.RootHash, size, root)
 }
 
-// path is the audit path from a leaf's hash to the root of the first size leaves.
+// path returns the audit path from a leaf's hash to the root of the first size leaves, after checking it.
 func (f *Front) path(
 	ctx context.Context, head loginterface.Head, index, size uint64, leaf [32]byte,
 ) ([][32]byte, error) {
@@ -217,7 +218,7 @@ func (f *Front) path(
 	return path, tile.CheckPath(path, size, root, index, leaf)
 }
 
-// leafAt is the hash of a leaf as its tile has it.
+// leafAt returns the hash of a leaf as its tile has it.
 func (f *Front) leafAt(ctx context.Context, head loginterface.Head, index uint64) (leaf [32]byte, err error) {
 	name := tileName{index: index / fullWidth, width: fullWidth}
 	if first := name.index * fullWidth; head.TreeSize-first < fullWidth {
@@ -242,7 +243,7 @@ func hashesOf(proof [][32]byte) [][]byte {
 	return hashes
 }
 
-// answerProof answers what stays so for ever.
+// answerProof answers with a value that never changes, or returns the error.
 func answerProof(w http.ResponseWriter, err error, value any) error {
 	if err != nil {
 		return err

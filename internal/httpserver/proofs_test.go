@@ -23,7 +23,7 @@ import (
 	"wagtenib/internal/tile"
 )
 
-// half is the largest power of two below n.
+// half returns the largest power of two below n.
 func half(n int) int {
 	k := 1
 	for 2*k < n {
@@ -32,7 +32,7 @@ func half(n int) int {
 	return k
 }
 
-// pathOf is PATH(m, D) of RFC 6962, section 2.1.1, and proofOf SUBPROOF(m, D, whole) of section 2.1.2.
+// pathOf returns PATH(m, D) of RFC 6962, section 2.1.1.
 func pathOf(m int, d [][32]byte) [][]byte {
 	if len(d) == 1 {
 		return [][]byte{}
@@ -46,6 +46,7 @@ func pathOf(m int, d [][32]byte) [][]byte {
 	return append(pathOf(m-k, d[k:]), root[:])
 }
 
+// proofOf returns SUBPROOF(m, D, whole) of RFC 6962, section 2.1.2.
 func proofOf(m int, d [][32]byte, whole bool) [][]byte {
 	if m == len(d) && whole {
 		return [][]byte{}
@@ -63,7 +64,7 @@ func proofOf(m int, d [][32]byte, whole bool) [][]byte {
 	return append(proofOf(m-k, d[k:], false), root[:])
 }
 
-// leaves are the hashes of all leaves, as get-entries gives them.
+// leaves returns the hashes of all leaves, and their leaf_input, as get-entries has them.
 func (f *fixture) leaves() (hashes [][32]byte, inputs [][]byte) {
 	f.t.Helper()
 	head, err := f.log.Checkpoint(context.Background())
@@ -71,13 +72,13 @@ func (f *fixture) leaves() (hashes [][32]byte, inputs [][]byte) {
 		f.t.Fatal(err)
 	}
 	for uint64(len(hashes)) < head.TreeSize {
-		var told struct {
+		var reply struct {
 			Entries []struct {
 				LeafInput []byte `json:"leaf_input"`
 			}
 		}
-		f.reads(fmt.Sprintf("get-entries?start=%d&end=%d", len(hashes), head.TreeSize-1), &told)
-		for _, entry := range told.Entries {
+		f.reads(fmt.Sprintf("get-entries?start=%d&end=%d", len(hashes), head.TreeSize-1), &reply)
+		for _, entry := range reply.Entries {
 			hashes, inputs = append(hashes, sha256.Sum256(append([]byte{0}, entry.LeafInput...))),
 				append(inputs, entry.LeafInput)
 		}
@@ -94,7 +95,7 @@ func (f *fixture) reads(call string, into any) *httptest.ResponseRecorder {
 	return w
 }
 
-// sizesOf are sizes of trees up to one.
+// sizesOf returns some sizes of trees, up to a size.
 func sizesOf(size int) (sizes []int) {
 	for _, n := range []int{1, 2, 3, 7, 255, 256, 257, 300, size - 1, size} {
 		if 0 < n && n <= size {
@@ -114,14 +115,14 @@ func TestProofs(t *testing.T) {
 		leaves, inputs := f.leaves()
 		for _, n := range sizesOf(size) {
 			for _, m := range append(sizesOf(n), 0) {
-				var told struct{ Consistency [][]byte }
-				w := f.reads(fmt.Sprintf("get-sth-consistency?first=%d&second=%d", m, n), &told)
+				var reply struct{ Consistency [][]byte }
+				w := f.reads(fmt.Sprintf("get-sth-consistency?first=%d&second=%d", m, n), &reply)
 				want := [][]byte{}
 				if m > 0 {
 					want = proofOf(m, leaves[:n], true)
 				}
-				if !reflect.DeepEqual(told.Consistency, want) || w.Header().Get("Cache-Control") != forEver {
-					t.Fatalf("from %d to %d: %x, not %x", m, n, told.Consistency, want)
+				if !reflect.DeepEqual(reply.Consistency, want) || w.Header().Get("Cache-Control") != forEver {
+					t.Fatalf("from %d to %d: %x, not %x", m, n, reply.Consistency, want)
 				}
 			}
 			for _, index := range []int{0, 1, 254, 255, 256, n / 2, n - 1} {
@@ -153,13 +154,13 @@ func TestProofs(t *testing.T) {
 	}
 }
 
-// elsewhere is a log that reports one index for each leaf.
+// elsewhere is a log that returns the same index for each leaf.
 type elsewhere struct {
 	loginterface.Log
 	index uint64
 }
 
-// withUnusedBits returns a hash in base64 whose last sign has bits that belong to no byte (RFC 4648, section 3.5).
+// withUnusedBits returns a hash in base64 whose last character has bits that belong to no byte (RFC 4648, section 3.5).
 func withUnusedBits(hash [32]byte) string {
 	const alphabet = "ABCDEFGHIJKLMNOPQRSTUVWXYZabcdefghijklmnopqrstuvwxyz0123456789+/"
 	text := base64.StdEncoding.EncodeToString(hash[:])
@@ -168,7 +169,7 @@ func withUnusedBits(hash [32]byte) string {
 
 func (e elsewhere) IndexOf(context.Context, [32]byte) (uint64, error) { return e.index, nil }
 
-func TestProofsThatAreRefused(t *testing.T) {
+func TestRefusesProofs(t *testing.T) {
 	f := newFixture(t, 0, nil)
 	f.fill(5)
 	leaves, _ := f.leaves()
@@ -189,14 +190,14 @@ func TestProofsThatAreRefused(t *testing.T) {
 		refused(t, bad, f.get("/ct/v1/"+bad), 400, "bad-parameter")
 	}
 	of := "/ct/v1/get-proof-by-hash?tree_size=3&hash="
-	refused(t, "a leaf behind the tree", f.get(of+hash(leaves[3])), 404, "no-such-leaf")
+	refused(t, "a leaf after the end of the tree", f.get(of+hash(leaves[3])), 404, "no-such-leaf")
 	refused(t, "no leaf", f.get(of+hash(sha256.Sum256(nil))), 404, "no-such-leaf")
 	refused(t, "a tree without leaves", f.get("/ct/v1/get-proof-by-hash?tree_size=0&hash="+hash(leaves[0])), 404,
 		"no-such-leaf")
 	right := f.front.log
 	for _, index := range []uint64{0, 2, 4, stores.MaxNumber} {
 		f.front.log = elsewhere{f.log, index}
-		refused(t, fmt.Sprint("a leaf that is said to stand at ", index), f.get(of+hash(leaves[1])), 404,
+		refused(t, fmt.Sprint("a leaf with the wrong index ", index), f.get(of+hash(leaves[1])), 404,
 			"no-such-leaf")
 	}
 	f.front.log = right
@@ -214,16 +215,16 @@ func TestProofsThatAreRefused(t *testing.T) {
 		t.Fatal(err)
 	}
 	for place := range leaves {
-		bent := append([]byte{}, content...)
-		bent[32*place+7] ^= 1
-		f.log.Change("tile/0/000.p/5", bent)
+		damaged := append([]byte{}, content...)
+		damaged[32*place+7] ^= 1
+		f.log.Change("tile/0/000.p/5", damaged)
 		for i, call := range calls {
-			// A leaf whose tile has another hash isn't known there.
+			// A leaf is unknown if its tile has another hash at its index.
 			if i == 1 && place == 1 {
 				refused(t, call, f.get("/ct/v1/"+call), 404, "no-such-leaf")
 				continue
 			}
-			refused(t, fmt.Sprintf("tile bent at %d: %s", place, call), f.get("/ct/v1/"+call), 503, "store")
+			refused(t, fmt.Sprintf("tile damaged at %d: %s", place, call), f.get("/ct/v1/"+call), 503, "store")
 		}
 	}
 	f.log.Change("tile/0/000.p/5", content[:len(content)-1])
@@ -235,19 +236,20 @@ func TestProofsThatAreRefused(t *testing.T) {
 		f.reads(call, &struct{}{})
 	}
 	f.front.reader = tile.NewProver(f.log.Object, 0)
-	each("no place", 503, "busy")
-	dry := tile.ProvedFunctions()
-	dry.PathOfTiles = func(uint64, uint64, [][]byte) ([][32]byte, error) { return nil, wagtenib.ErrMemory }
-	dry.ProofOf = dry.PathOfTiles
-	f.front.reader = tile.ProverOver(dry, f.log.Object, 1)
+	each("no room for a proof", 503, "busy")
+	outOfMemory := tile.ProvedFunctions()
+	outOfMemory.PathOfTiles = func(uint64, uint64, [][]byte) ([][32]byte, error) { return nil, wagtenib.ErrMemory }
+	outOfMemory.ProofOf = outOfMemory.PathOfTiles
+	f.front.reader = tile.ProverOver(outOfMemory, f.log.Object, 1)
 	each("no memory", 503, "busy")
-	f.log.Break(errors.New("the disk"))
+	f.log.SetFault(errors.New("the disk"))
 	if w := f.get("/ct/v1/" + calls[0]); w.Code < 500 || strings.Contains(w.Body.String(), "disk") {
 		t.Errorf("a log that fails: %d %s", w.Code, w.Body)
 	}
 }
 
-// TestProofsByAddress: one address has some of the proofs that are made at once, and keeps no other one waiting.
+// TestProofsByAddress checks that one address may have only some of the proofs that are made at once, and keeps no
+// other address waiting.
 func TestProofsByAddress(t *testing.T) {
 	f := newFixture(t, 0, func(o *Options) { o.Limits.ProofsByAddress = 2 })
 	f.fill(3)
@@ -258,10 +260,10 @@ func TestProofsByAddress(t *testing.T) {
 		f.front.ServeHTTP(w, r)
 		return w
 	}
-	let := make(chan struct{})
-	f.front.reader = tile.NewProver(func(ctx context.Context, name string, most int64) ([]byte, error) {
-		<-let
-		return f.log.Object(ctx, name, most)
+	release := make(chan struct{})
+	f.front.reader = tile.NewProver(func(ctx context.Context, name string, maxBytes int64) ([]byte, error) {
+		<-release
+		return f.log.Object(ctx, name, maxBytes)
 	}, 64)
 	answers := make(chan int, 3)
 	ask := func(peer string) { answers <- from(peer).Code }
@@ -269,9 +271,9 @@ func TestProofsByAddress(t *testing.T) {
 		go ask("192.0.2.1:7")
 	}
 	asked := func(peer string) int {
-		f.front.uses.proofsOf.mutex.Lock()
-		defer f.front.uses.proofsOf.mutex.Unlock()
-		return f.front.uses.proofsOf.of[netip.MustParsePrefix(peer+"/32")]
+		f.front.uses.proofsByClient.mutex.Lock()
+		defer f.front.uses.proofsByClient.mutex.Unlock()
+		return f.front.uses.proofsByClient.byGroup[netip.MustParsePrefix(peer+"/32")]
 	}
 	for asked("192.0.2.1") != 2 {
 		time.Sleep(time.Millisecond)
@@ -281,7 +283,7 @@ func TestProofsByAddress(t *testing.T) {
 	for asked("192.0.2.2") != 1 {
 		time.Sleep(time.Millisecond)
 	}
-	close(let)
+	close(release)
 	for i := 0; i < 3; i++ {
 		if code := <-answers; code != 200 {
 			t.Errorf("a proof within the bound: %d", code)
@@ -289,27 +291,29 @@ func TestProofsByAddress(t *testing.T) {
 	}
 }
 
-// TestProofsThatAreLate: a client that waits too long gets an error, and the reading keeps its slot until it ends.
-func TestProofsThatAreLate(t *testing.T) {
+// TestLateProofKeepsItsSlot checks that a client that waits too long gets an error, and that the read keeps its slot
+// until it ends.
+func TestLateProofKeepsItsSlot(t *testing.T) {
 	f := newFixture(t, 0, func(o *Options) { o.Limits.Reading = 20 * time.Millisecond })
 	f.fill(3)
-	comes := make(chan struct{})
-	f.heldReader(comes)
-	f.isHeld()
-	refused(t, "beside it", f.isHeld(), 503, "busy")
-	close(comes)
+	release := make(chan struct{})
+	f.holdReads(release)
+	f.waitUntilHeld()
+	refused(t, "another proof at the same time", f.waitUntilHeld(), 503, "busy")
+	close(release)
 }
 
-// heldReader has one proof be made at a time, of objects that don't come before that is closed.
-func (f *fixture) heldReader(comes chan struct{}) {
-	f.front.reader = tile.NewProver(func(ctx context.Context, name string, most int64) ([]byte, error) {
-		<-comes
-		return f.log.Object(ctx, name, most)
+// holdReads makes the front make one proof at a time, and holds each read of an object until release is closed.
+func (f *fixture) holdReads(release chan struct{}) {
+	f.front.reader = tile.NewProver(func(ctx context.Context, name string, maxBytes int64) ([]byte, error) {
+		<-release
+		return f.log.Object(ctx, name, maxBytes)
 	}, 1)
 }
 
-// isHeld asks for proofs, each of which is late, until one is being made, and gives what was answered beside it.
-func (f *fixture) isHeld() (w *httptest.ResponseRecorder) {
+// waitUntilHeld asks for proofs, each of which is late, until one is being made. It returns the refusal of another
+// proof at that time.
+func (f *fixture) waitUntilHeld() (w *httptest.ResponseRecorder) {
 	f.t.Helper()
 	eventually(f.t, "a proof is being made", func() bool {
 		w = f.get("/ct/v1/get-sth-consistency?first=1&second=2")
@@ -322,29 +326,29 @@ func (f *fixture) isHeld() (w *httptest.ResponseRecorder) {
 	return w
 }
 
-// TestProofOverAPartialTileThatWent: a partial tile that was deleted after the head was read is no fault if a newer
-// head has the full tile.
-func TestProofOverAPartialTileThatWent(t *testing.T) {
+// TestProofAfterPartialTileWasDeleted checks that a partial tile that was deleted after the head was read is no fault
+// if a newer head has the full tile.
+func TestProofAfterPartialTileWasDeleted(t *testing.T) {
 	f := newFixture(t, 0, nil)
 	f.fill(3)
 	head, _ := f.log.Checkpoint(context.Background())
 	f.fill(257)
 	f.front.log = &late{f.log, head, 1}
-	var told struct{ Consistency [][]byte }
-	f.reads("get-sth-consistency?first=1&second=3", &told)
+	var reply struct{ Consistency [][]byte }
+	f.reads("get-sth-consistency?first=1&second=3", &reply)
 	f.front.log = &late{f.log, head, 2}
-	refused(t, "a partial tile that went twice", f.get("/ct/v1/get-sth-consistency?first=1&second=3"), 503, "store")
+	refused(t, "a partial tile that is missing twice", f.get("/ct/v1/get-sth-consistency?first=1&second=3"), 503, "store")
 }
 
-// TestPlaceForAProofIsGivenBack: if a client leaves while a proof waits for a tile, its slot is free after the proof
-// was made.
-func TestPlaceForAProofIsGivenBack(t *testing.T) {
+// TestFreesSlotOfAbandonedProof checks that, if a client leaves while a proof waits for a tile, its slot is free after
+// the proof was made.
+func TestFreesSlotOfAbandonedProof(t *testing.T) {
 	f := newFixture(t, 0, func(o *Options) { o.Limits.Reading = 100 * time.Millisecond })
 	f.fill(3)
-	comes := make(chan struct{})
-	f.heldReader(comes)
-	f.isHeld()
-	close(comes)
+	release := make(chan struct{})
+	f.holdReads(release)
+	f.waitUntilHeld()
+	close(release)
 	f.front.limits.Reading = testutil.Longest
 	eventually(t, "a proof is made again", func() bool {
 		return f.get(

@@ -8,8 +8,8 @@ import (
 	"time"
 )
 
-// asksForParts reports whether a request asks for parts of a content by their bytes. Other units are as if none were
-// asked for (RFC 9110, section 14.2).
+// asksForParts reports whether a request asks for byte ranges of a content. A range in another unit is ignored (RFC
+// 9110, section 14.2).
 func asksForParts(r *http.Request) bool {
 	asked := r.Header.Values("Range")
 	return r.Method == http.MethodGet && len(asked) == 1 && strings.HasPrefix(asked[0], "bytes=")
@@ -24,12 +24,12 @@ func writeParts(w http.ResponseWriter, r *http.Request, kind string, content []b
 		return nil
 	}
 	w.Header().Set("Content-Type", kind)
-	// (it isn't asked by its age or its tag: it has none)
+	// The content has no date and no tag, so the headers that compare these are left out.
 	asked := &http.Request{Method: r.Method, Header: http.Header{"Range": r.Header["Range"],
 		"If-Range": r.Header["If-Range"]}}
-	within := &unlessBeyond{ResponseWriter: w}
+	within := &rangeWriter{ResponseWriter: w}
 	http.ServeContent(within, asked, "", time.Time{}, bytes.NewReader(content))
-	if within.beyond {
+	if within.isUnsatisfiable {
 		w.Header().Set("Content-Range", fmt.Sprintf("bytes */%d", len(content)))
 		return refusal{status: http.StatusRequestedRangeNotSatisfiable, name: "range",
 			detail: fmt.Sprintf("it has %d bytes", len(content))}
@@ -37,21 +37,21 @@ func writeParts(w http.ResponseWriter, r *http.Request, kind string, content []b
 	return nil
 }
 
-// unlessBeyond holds back what net/http says of parts that aren't there: that is refused as all else is, and kept by no
-// cache.
-type unlessBeyond struct {
+// rangeWriter discards the answer of net/http to ranges outside the content. The front then refuses the request as any
+// other, so that no cache keeps the answer.
+type rangeWriter struct {
 	http.ResponseWriter
-	beyond bool
+	isUnsatisfiable bool
 }
 
-func (u *unlessBeyond) WriteHeader(status int) {
-	if u.beyond = status == http.StatusRequestedRangeNotSatisfiable; !u.beyond {
+func (u *rangeWriter) WriteHeader(status int) {
+	if u.isUnsatisfiable = status == http.StatusRequestedRangeNotSatisfiable; !u.isUnsatisfiable {
 		u.ResponseWriter.WriteHeader(status)
 	}
 }
 
-func (u *unlessBeyond) Write(some []byte) (int, error) {
-	if u.beyond {
+func (u *rangeWriter) Write(some []byte) (int, error) {
+	if u.isUnsatisfiable {
 		return len(some), nil
 	}
 	return u.ResponseWriter.Write(some)

@@ -10,8 +10,8 @@ import (
 	"testing"
 )
 
-// TestParts: parts of a tile or an issuer can be requested by bytes. They are never compressed, and cached as long as
-// the whole. Parts that do not exist are refused and not cached. A request without parts gets the whole.
+// TestParts checks that byte ranges of a tile or an issuer can be requested. They are never compressed, and are cached
+// as long as the whole. Ranges that do not exist are refused and not cached. A request without ranges gets the whole.
 func TestParts(t *testing.T) {
 	f := newFixture(t, 0, nil)
 	f.fill(260)
@@ -56,7 +56,8 @@ func TestParts(t *testing.T) {
 				t.Errorf("%s, %s: %v", path, asked, w.Header())
 			}
 		}
-		// Units that nobody knows, a condition that can't be met, parts that are more than the whole, and two lists.
+		// These are an unknown unit, a condition that cannot be met, ranges with more bytes than the whole, two lists
+		// of ranges, and two headers that compare tags.
 		for _, headers := range [][]string{{"Range", "entries=0-1"}, {"Range", "bytes=0-5", "If-Range", `"another"`},
 			{"Range", "bytes=0-,0-,0-"}, {"Range", "bytes=0-1", "Range", "bytes=2-3"}, {"If-None-Match", "*"},
 			{"If-Match", `"another"`}} {
@@ -69,22 +70,22 @@ func TestParts(t *testing.T) {
 			t.Errorf("HEAD %s: %d, %v", path, w.Code, w.Header())
 		}
 		w := ask("GET", path, "Range", "bytes=0-1,50-53")
-		_, words, err := mime.ParseMediaType(w.Header().Get("Content-Type"))
+		_, parameters, err := mime.ParseMediaType(w.Header().Get("Content-Type"))
 		if err != nil || w.Code != 206 {
 			t.Fatalf("%s: two parts: %d %v", path, w.Code, w.Header())
 		}
-		for parts, due := multipart.NewReader(w.Body, words["boundary"]),
-			[][]byte{whole[:2], whole[50:54]}; len(due) > 0; due = due[1:] {
+		for parts, expected := multipart.NewReader(w.Body, parameters["boundary"]),
+			[][]byte{whole[:2], whole[50:54]}; len(expected) > 0; expected = expected[1:] {
 			part, err := parts.NextPart()
 			if err != nil {
 				t.Fatal(err)
 			}
-			if got, err := io.ReadAll(part); err != nil || !bytes.Equal(got, due[0]) {
+			if got, err := io.ReadAll(part); err != nil || !bytes.Equal(got, expected[0]) {
 				t.Errorf("%s: two parts: %q, %v", path, got, err)
 			}
 		}
 	}
-	refused(t, "a tile that isn't there", ask("GET", "/tile/data/009", "Range", "bytes=0-1"), 404, "absent")
+	refused(t, "a tile that does not exist", ask("GET", "/tile/data/009", "Range", "bytes=0-1"), 404, "absent")
 	if used := f.front.uses.answers.used.Load(); used != 0 {
 		t.Errorf("%d bytes of answers are held", used)
 	}

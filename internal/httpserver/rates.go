@@ -9,40 +9,41 @@ import (
 )
 
 const (
-	// burst is what an address may ask at once that asked nothing for a while: as much as its rate is in this time.
+	// burst is the time whose requests an address may send at once after it sent none for a while.
 	burst = 10 * time.Second
-	// maxRated is of how many addresses it is known what they asked.
-	maxRated = 1 << 16
+	// maxBuckets is the maximum number of addresses whose requests are remembered.
+	maxBuckets = 1 << 16
 )
 
-// rates bounds how many requests of one address are taken a second. Each address has a bucket, which is full at first:
-// a request takes one out of it, and time fills it. An address whose bucket is full again is forgotten, as it were one
-// that never asked; and where there are too many, the one that asked the longest ago is. A nil one bounds nothing.
+// rates bounds how many requests of one address are accepted in a second. Each address has a bucket, which is full at
+// first. A request takes one out of it, and time fills it. A full bucket is forgotten, because it is like that of an
+// address that never asked. If there are too many buckets, the one that was used the longest ago is forgotten. A nil
+// rates bounds nothing.
 type rates struct {
-	// apart is how long a bucket takes to get one more.
-	apart time.Duration
-	mutex sync.Mutex
-	// buckets has the addresses that asked, the last one first. at is the position of each in it.
-	buckets list.List
-	at      map[netip.Prefix]*list.Element
+	// interval is the time in which a bucket gets one more.
+	interval time.Duration
+	mutex    sync.Mutex
+	// buckets holds the buckets, the last used one first. elements has the element of each group in it.
+	buckets  list.List
+	elements map[netip.Prefix]*list.Element
 }
 
-// bucket is that of a group of addresses.
+// bucket is the bucket of a group of addresses.
 type bucket struct {
-	of netip.Prefix
-	// full is when it is full again.
-	full time.Time
+	group netip.Prefix
+	// fullAt is the time at which it is full again.
+	fullAt time.Time
 }
 
-// newRates bounds the requests of an address to so many a second, or not where that is 0.
+// newRates bounds the requests of an address to so many in a second. It returns nil if that is 0.
 func newRates(aSecond int) *rates {
 	if aSecond == 0 {
 		return nil
 	}
-	return &rates{apart: time.Second / time.Duration(aSecond), at: map[netip.Prefix]*list.Element{}}
+	return &rates{interval: time.Second / time.Duration(aSecond), elements: map[netip.Prefix]*list.Element{}}
 }
 
-// take reports whether a request is within the rate, and takes it out of its bucket where it is.
+// take takes a request out of its bucket, and reports whether it was within the rate. If not, it takes nothing.
 func (r *rates) take(group netip.Prefix, now time.Time) bool {
 	if r == nil {
 		return true
@@ -50,47 +51,49 @@ func (r *rates) take(group netip.Prefix, now time.Time) bool {
 	r.mutex.Lock()
 	defer r.mutex.Unlock()
 	own, empty := r.bucketOf(group, now), now.Add(burst)
-	if own.full.Before(now) {
-		own.full = now
+	if own.fullAt.Before(now) {
+		own.fullAt = now
 	}
-	if own.full.After(empty) {
+	if own.fullAt.After(empty) {
 		// The clock was set to an earlier time. The bucket is empty, and fills from now on.
-		own.full = empty
+		own.fullAt = empty
 	}
-	full := own.full.Add(r.apart)
+	full := own.fullAt.Add(r.interval)
 	if full.After(empty) {
 		return false
 	}
-	own.full = full
+	own.fullAt = full
 	return true
 }
 
-// bucketOf is called with the lock. It makes room for a new one.
+// bucketOf returns the bucket of a group. It makes one if there is none, and may forget others. The caller holds the
+// mutex.
 func (r *rates) bucketOf(group netip.Prefix, now time.Time) *bucket {
-	if known, there := r.at[group]; there {
+	if known, there := r.elements[group]; there {
 		r.buckets.MoveToFront(known)
 		return known.Value.(*bucket)
 	}
 	for last := r.buckets.Back(); last != nil; last = r.buckets.Back() {
-		if of := last.Value.(*bucket); len(r.at) >= maxRated || !of.full.After(now) {
+		if old := last.Value.(*bucket); len(r.elements) >= maxBuckets || !old.fullAt.After(now) {
 			r.buckets.Remove(last)
-			delete(r.at, of.of)
+			delete(r.elements, old.group)
 			continue
 		}
 		break
 	}
-	own := &bucket{of: group, full: now}
-	r.at[group] = r.buckets.PushFront(own)
+	own := &bucket{group: group, fullAt: now}
+	r.elements[group] = r.buckets.PushFront(own)
 	return own
 }
 
-// tooOften is what a client asks above its rate. A rate is one a second at least, so by then one more is taken.
+// tooOften refuses a request above the client's rate. A rate is at least one in a second, so after a second one more
+// is accepted.
 var tooOften = refusal{status: http.StatusTooManyRequests, name: "too-often",
-	detail: "of one address so many are taken a second", after: 1}
+	detail: "this address sent too many requests of this kind in a short time (see Retry-After)", after: 1}
 
-// isInRate reports whether a client asks within its rate what a call costs. Submitters have none.
+// isInRate reports whether a call is within the client's rate, and counts it in that. Submitters have no rate.
 func (f *Front) isInRate(c call, client netip.Addr) bool {
-	if _, is := submitterOf(client, f.limits.Submitters); is {
+	if _, isSubmitter := submitterOf(client, f.limits.Submitters); isSubmitter {
 		return true
 	}
 	return f.uses.rates[c.costs].take(groupOf(client), time.Now())

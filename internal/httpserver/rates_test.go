@@ -15,46 +15,46 @@ import (
 	"wagtenib/internal/testutil"
 )
 
-// began is when the buckets of these tests are asked first.
+// began is the time of the first requests in these tests.
 var began = time.Date(2027, 1, 1, 0, 0, 0, 0, time.UTC)
 
 func groupOfText(address string) netip.Prefix { return groupOf(netip.MustParseAddr(address)) }
 
-// takes sees that of one address so many requests are taken at a moment, and no more.
-func takes(t *testing.T, what string, r *rates, address string, at time.Time, most int) {
+// takes fails the test unless exactly so many requests of one address are accepted at a time.
+func takes(t *testing.T, what string, r *rates, address string, at time.Time, count int) {
 	t.Helper()
-	for taken := 0; taken <= most; taken++ {
-		if r.take(groupOfText(address), at) != (taken < most) {
-			t.Fatalf("%s: behind %d taken ones, of %d: %v", what, taken, most, taken >= most)
+	for taken := 0; taken <= count; taken++ {
+		if r.take(groupOfText(address), at) != (taken < count) {
+			t.Fatalf("%s: after %d accepted requests of %d: %v", what, taken, count, taken >= count)
 		}
 	}
 }
 
-// TestRate: an address that asked nothing has ten seconds of its rate at once, and then one more each time that one
-// comes of it.
+// TestRate checks that an address that asked nothing may send the requests of ten seconds of its rate at once, and then
+// one more after each interval.
 func TestRate(t *testing.T) {
 	for _, aSecond := range []int{1, 4, 100} {
-		r, apart := newRates(aSecond), time.Second/time.Duration(aSecond)
+		r, interval := newRates(aSecond), time.Second/time.Duration(aSecond)
 		takes(t, "at first", r, "192.0.2.1", began, 10*aSecond)
-		takes(t, "just before one comes", r, "192.0.2.1", began.Add(apart-1), 0)
-		takes(t, "as one comes", r, "192.0.2.1", began.Add(apart), 1)
-		takes(t, "three later", r, "192.0.2.1", began.Add(4*apart), 3)
-		takes(t, "half of it later", r, "192.0.2.1", began.Add(4*apart+burst/2), 5*aSecond)
-		// It doesn't hold more, however long it is left.
+		takes(t, "just before an interval ends", r, "192.0.2.1", began.Add(interval-1), 0)
+		takes(t, "after an interval", r, "192.0.2.1", began.Add(interval), 1)
+		takes(t, "after three more intervals", r, "192.0.2.1", began.Add(4*interval), 3)
+		takes(t, "half of the burst later", r, "192.0.2.1", began.Add(4*interval+burst/2), 5*aSecond)
+		// A bucket does not hold more, however long it is not used.
 		takes(t, "an hour later", r, "192.0.2.1", began.Add(time.Hour), 10*aSecond)
 		takes(t, "another one", r, "192.0.2.2", began.Add(time.Hour), 10*aSecond)
 	}
-	// One that isn't empty yet, and is asked seldom, has what it had and what came.
+	// A bucket that was not empty has what it had, and what came since.
 	r := newRates(1)
 	for i := 0; i < 4; i++ {
 		if !r.take(groupOfText("192.0.2.1"), began) {
-			t.Fatal("it isn't taken")
+			t.Fatal("a request within the burst is refused")
 		}
 	}
 	takes(t, "two seconds later", r, "192.0.2.1", began.Add(2*time.Second), 8)
 }
 
-// TestRateOff: without a rate all are taken, and nobody is known.
+// TestRateOff checks that without a rate all requests are accepted, and no address is remembered.
 func TestRateOff(t *testing.T) {
 	r := newRates(0)
 	if r != nil {
@@ -67,7 +67,7 @@ func TestRateOff(t *testing.T) {
 	}
 }
 
-// TestRateByGroup: of IPv6 a /64 is one, and of IPv4 an address.
+// TestRateByGroup checks that IPv6 addresses count by /64, and IPv4 addresses one by one.
 func TestRateByGroup(t *testing.T) {
 	r := newRates(1)
 	takes(t, "an address", r, "2001:db8::1", began, 10)
@@ -77,15 +77,15 @@ func TestRateByGroup(t *testing.T) {
 	takes(t, "the next one", r, "192.0.2.2", began, 10)
 }
 
-// TestRateAfterAClockJump: if the clock jumps back, nobody waits for longer than an empty bucket takes to fill, or has
-// more than a full one.
+// TestRateAfterAClockJump checks that, if the clock jumps back, no client waits for longer than an empty bucket takes
+// to fill, and none has more than a full bucket.
 func TestRateAfterAClockJump(t *testing.T) {
 	r := newRates(1)
 	takes(t, "at first", r, "192.0.2.1", began, 10)
 	before := began.Add(-time.Hour)
 	takes(t, "an hour before", r, "192.0.2.1", before, 0)
-	takes(t, "a second behind that", r, "192.0.2.1", before.Add(time.Second), 1)
-	takes(t, "eleven seconds behind that", r, "192.0.2.1", before.Add(12*time.Second), 10)
+	takes(t, "a second after that", r, "192.0.2.1", before.Add(time.Second), 1)
+	takes(t, "eleven seconds after that", r, "192.0.2.1", before.Add(12*time.Second), 10)
 	// If it jumps back by less than a bucket takes to fill, the bucket still lacks what was used: three, and five
 	// seconds.
 	for i := 0; i < 3; i++ {
@@ -94,33 +94,33 @@ func TestRateAfterAClockJump(t *testing.T) {
 	takes(t, "five seconds before", r, "192.0.2.2", began.Add(-5*time.Second), 2)
 }
 
-// knows sees that the buckets of these addresses are there, the last one that asked first, and no others.
+// knows fails the test unless the buckets are exactly those of these addresses, the last one that asked first.
 func knows(t *testing.T, what string, r *rates, addresses ...string) {
 	t.Helper()
 	var found, wanted []string
 	for one := r.buckets.Front(); one != nil; one = one.Next() {
-		of := one.Value.(*bucket).of
-		if r.at[of] != one {
-			t.Errorf("%s: %s is known elsewhere", what, of)
+		group := one.Value.(*bucket).group
+		if r.elements[group] != one {
+			t.Errorf("%s: %s has another element in the map", what, group)
 		}
-		found = append(found, of.String())
+		found = append(found, group.String())
 	}
 	for _, address := range addresses {
 		wanted = append(wanted, groupOfText(address).String())
 	}
-	if fmt.Sprint(found) != fmt.Sprint(wanted) || len(r.at) != len(wanted) {
-		t.Errorf("%s: %v and %d are known, not %v", what, found, len(r.at), wanted)
+	if fmt.Sprint(found) != fmt.Sprint(wanted) || len(r.elements) != len(wanted) {
+		t.Errorf("%s: %v and %d are known, not %v", what, found, len(r.elements), wanted)
 	}
 }
 
-// TestRateForgets: an address whose bucket is full again is forgotten once another one comes that isn't known; others
-// stay.
+// TestRateForgets checks that an address whose bucket is full again is forgotten when an unknown address asks. Others
+// are not.
 func TestRateForgets(t *testing.T) {
 	r := newRates(1)
 	at := func(seconds float64, addresses ...string) {
 		for _, address := range addresses {
 			if !r.take(groupOfText(address), began.Add(time.Duration(seconds*float64(time.Second)))) {
-				t.Fatalf("%s isn't taken at %v", address, seconds)
+				t.Fatalf("%s is refused at %v", address, seconds)
 			}
 		}
 	}
@@ -130,7 +130,7 @@ func TestRateForgets(t *testing.T) {
 	knows(t, "one that asked again", r, "192.0.2.1", "192.0.2.3", "192.0.2.2")
 	// 2 is full at 2 s, 3 at 1 s, 1 at 2 s.
 	at(1.5, "192.0.2.4")
-	knows(t, "one that is full stands before one that isn't", r, "192.0.2.4", "192.0.2.1", "192.0.2.3", "192.0.2.2")
+	knows(t, "a full one is used later than one that is not full", r, "192.0.2.4", "192.0.2.1", "192.0.2.3", "192.0.2.2")
 	at(2, "192.0.2.5")
 	knows(t, "as they are full", r, "192.0.2.5", "192.0.2.4")
 	at(100, "192.0.2.5")
@@ -139,8 +139,8 @@ func TestRateForgets(t *testing.T) {
 	knows(t, "another one", r, "192.0.2.6", "192.0.2.5")
 }
 
-// TestRateTableIsFull: if the maximum number of addresses is known, a new one replaces the one that asked the longest
-// time ago, whether its request is refused or not.
+// TestRateTableIsFull checks that, if the maximum number of addresses is known, a new one replaces the one that asked
+// the longest time ago. A refused request counts as one, too.
 func TestRateTableIsFull(t *testing.T) {
 	r := newRates(1)
 	of := func(i int) string { return netip.AddrFrom4([4]byte{10, byte(i >> 16), byte(i >> 8), byte(i)}).String() }
@@ -148,22 +148,23 @@ func TestRateTableIsFull(t *testing.T) {
 	takes(t, "the second", r, of(1), began, 10)
 	for i := 2; i < 65536; i++ {
 		if !r.take(groupOfText(of(i)), began) {
-			t.Fatalf("%d isn't taken", i)
+			t.Fatalf("%d is refused", i)
 		}
 	}
 	takes(t, "all of them", r, of(0), began, 0)
-	if len(r.at) != 65536 || r.buckets.Len() != 65536 {
-		t.Fatalf("%d and %d are known", len(r.at), r.buckets.Len())
+	if len(r.elements) != 65536 || r.buckets.Len() != 65536 {
+		t.Fatalf("%d and %d are known", len(r.elements), r.buckets.Len())
 	}
 	takes(t, "one more", r, of(65536), began, 10)
-	if len(r.at) != 65536 || r.buckets.Len() != 65536 {
-		t.Errorf("behind one more %d and %d are known", len(r.at), r.buckets.Len())
+	if len(r.elements) != 65536 || r.buckets.Len() != 65536 {
+		t.Errorf("after one more %d and %d are known", len(r.elements), r.buckets.Len())
 	}
-	takes(t, "who asked lately, and was refused", r, of(0), began, 0)
-	takes(t, "who didn't", r, of(1), began, 10)
+	takes(t, "the one that asked lately, and was refused", r, of(0), began, 0)
+	takes(t, "the one that did not", r, of(1), began, 10)
 }
 
-// TestRateAtOnce: many that ask at once have what one address has, and each its own beside it.
+// TestRateAtOnce checks that goroutines that ask at once for one address get together what that address may have, and
+// that each gets what its own address may have.
 func TestRateAtOnce(t *testing.T) {
 	r, taken, done := newRates(100), atomic.Int64{}, sync.WaitGroup{}
 	for i := 0; i < 16; i++ {
@@ -175,18 +176,19 @@ func TestRateAtOnce(t *testing.T) {
 					taken.Add(1)
 				}
 				if of := netip.AddrFrom4([4]byte{10, byte(i), byte(j >> 8), byte(j)}); !r.take(groupOf(of), began) {
-					t.Errorf("%s isn't taken", of)
+					t.Errorf("%s is refused", of)
 				}
 			}
 		}(i)
 	}
 	done.Wait()
-	if taken.Load() != 1000 || len(r.at) != 16001 || r.buckets.Len() != 16001 {
-		t.Errorf("%d are taken of one, and %d and %d addresses are known", taken.Load(), len(r.at), r.buckets.Len())
+	if taken.Load() != 1000 || len(r.elements) != 16001 || r.buckets.Len() != 16001 {
+		t.Errorf("%d requests of one address are accepted, and %d and %d addresses are known", taken.Load(),
+			len(r.elements), r.buckets.Len())
 	}
 }
 
-// rated is a front with rates, behind a proxy.
+// rated returns a front with rates, behind a proxy.
 func rated(t *testing.T, submissions, reads int) *fixture {
 	return newFixture(t, 5*time.Millisecond, func(o *Options) {
 		o.Limits.SubmissionRate, o.Limits.ReadRate = submissions, reads
@@ -195,7 +197,7 @@ func rated(t *testing.T, submissions, reads int) *fixture {
 	})
 }
 
-// askedBy has a front answer what a client asks behind the proxy, which comes by its address where that is none.
+// askedBy sends a client's request to a front through the proxy. The client 192.0.2.99 sends it without the proxy.
 func (f *fixture) askedBy(client, method, path string, body []byte) *httptest.ResponseRecorder {
 	r := httptest.NewRequest(method, path, bytes.NewReader(body))
 	r.RemoteAddr = client + ":7"
@@ -208,7 +210,8 @@ func (f *fixture) askedBy(client, method, path string, body []byte) *httptest.Re
 	return w
 }
 
-// Calls that count in the rates, and those that don't. None of them is made: they are refused by their words.
+// These calls count in the rate of submissions, in that of reads, and in none. Their parameters are wrong or missing,
+// so the front refuses them or answers from memory.
 var (
 	submitting = []string{"POST /ct/v1/add-chain", "POST /ct/v1/add-pre-chain"}
 	costlyOnes = []string{"GET /ct/v1/get-entries", "HEAD /ct/v1/get-entries", "GET /ct/v1/get-sth-consistency",
@@ -224,18 +227,18 @@ func (f *fixture) statusOf(client, call string) int {
 	return f.askedBy(client, method, path, nil).Code
 }
 
-// empties has a client ask until its bucket is empty, however slow that is.
+// empties sends requests of a client until its bucket is empty, however slow that is.
 func (f *fixture) empties(client, call string) {
 	f.t.Helper()
 	for until := time.Now().Add(testutil.Longest); f.statusOf(client, call) != 429; {
 		if time.Now().After(until) {
-			f.t.Fatalf("%s of %s is always taken", call, client)
+			f.t.Fatalf("%s of %s is never refused", call, client)
 		}
 	}
 }
 
-// TestRatesOfCalls: submissions count in one rate of an address, calls that read tiles in another one, and all other
-// calls in none. Calls of submitters count in none.
+// TestRatesOfCalls checks that submissions count in one rate of an address, calls that read tiles in another one, and
+// all other calls in none. Calls of submitters count in none.
 func TestRatesOfCalls(t *testing.T) {
 	for _, test := range []struct {
 		submissions, reads int
@@ -247,7 +250,7 @@ func TestRatesOfCalls(t *testing.T) {
 	} {
 		f := rated(t, test.submissions, test.reads)
 		for i, call := range test.counted {
-			// (of an address that asked nothing yet)
+			// This address has asked nothing yet.
 			f.empties(fmt.Sprintf("2001:db8:0:%d::1", i), call)
 		}
 		for _, call := range test.free {
@@ -267,9 +270,9 @@ func TestRatesOfCalls(t *testing.T) {
 	}
 }
 
-// TestTooOften: a client above a rate is refused by a name of its own, which is counted. It may ask again after the
-// seconds of Retry-After. The addresses of a /64 count together. Behind a proxy the address that the proxy names
-// counts. Other clients are answered all the time.
+// TestTooOften checks that a client above a rate is refused with a name of its own, which is counted. It may ask again
+// after the seconds of Retry-After. The addresses of a /64 count together. Behind a proxy the address that the proxy
+// names counts. Other clients are answered all the time.
 func TestTooOften(t *testing.T) {
 	f := rated(t, 1, 1)
 	f.fill(3)
@@ -285,38 +288,38 @@ func TestTooOften(t *testing.T) {
 				return w, taken, before
 			}
 		}
-		t.Fatalf("%s is always taken", call)
+		t.Fatalf("%s is never refused", call)
 		return nil, 0, before
 	}
 	w, _, since := again("GET /ct/v1/get-entries")
 	refused(t, "a read", w, 429, "too-often")
 	if w.Header().Get("Retry-After") != "1" || !strings.Contains(w.Body.String(),
-		"of one address so many are taken a second") || w.Header().Get("Connection") != "" {
+		"this address sent too many requests") || w.Header().Get("Connection") != "" {
 		t.Errorf("%v %s", w.Header(), w.Body)
 	}
 	if _, taken, _ := again("GET /ct/v1/get-sth-consistency"); time.Duration(taken) > time.Since(since)/time.Second+1 {
-		t.Errorf("%d proofs are taken %v behind where a read was refused", taken, time.Since(since))
+		t.Errorf("%d proofs are accepted %v after a read was refused", taken, time.Since(since))
 	}
 	if w := f.askedBy("2001:db8:0:1::1", "GET", entries, nil); w.Code != 200 {
 		t.Errorf("another one: %d %s", w.Code, w.Body)
 	}
 	if w := f.askedBy("192.0.2.99", "GET", entries, nil); w.Code != 200 {
-		t.Errorf("one that comes by itself, and that others named: %d %s", w.Code, w.Body)
+		t.Errorf("a client without the proxy, whose address others named: %d %s", w.Code, w.Body)
 	}
 	submission := fakelog.Submission(f.issue(false))
 	if w := f.askedBy("2001:db8::1", "POST", "/ct/v1/add-chain", submission); w.Code != 200 {
-		t.Errorf("a submission beside its reads: %d %s", w.Code, w.Body)
+		t.Errorf("a submission, after its reads were refused: %d %s", w.Code, w.Body)
 	}
 	w, _, _ = again("POST /ct/v1/add-chain")
 	refused(t, "a submission", w, 429, "too-often")
-	// (as Retry-After has it)
+	// Retry-After says one second.
 	time.Sleep(time.Second)
 	for what, w := range map[string]*httptest.ResponseRecorder{
 		"a read":       f.askedBy("2001:db8::3", "GET", entries, nil),
 		"a submission": f.askedBy("2001:db8::3", "POST", "/ct/v1/add-chain", submission),
 	} {
 		if w.Code != 200 {
-			t.Errorf("%s behind what it was told: %d %s", what, w.Code, w.Body)
+			t.Errorf("%s after the seconds of Retry-After: %d %s", what, w.Code, w.Body)
 		}
 	}
 	shown := httptest.NewRecorder()
@@ -326,16 +329,16 @@ func TestTooOften(t *testing.T) {
 		`ctserve_refusals_total{call="add-chain",refusal="too-often"} 1`,
 		`ctserve_requests_total{call="add-chain",status="429"} 1`} {
 		if !strings.Contains(shown.Body.String(), line+"\n") {
-			t.Errorf("/metrics hasn't %s", line)
+			t.Errorf("/metrics lacks %s", line)
 		}
 	}
 }
 
-// TestRatesOnThePages: the pages state the right rates.
+// TestRatesOnThePages checks that the pages state the right rates.
 func TestRatesOnThePages(t *testing.T) {
 	testutil.Says(t, testutil.Page(t, "../../docs/SERVICE.md"), map[string]bool{
 		"An address may use ten seconds of its rate at once":   burst == 10*time.Second,
-		"`ctserve` remembers how often 65,536 addresses asked": maxRated == 65536,
+		"`ctserve` remembers how often 65,536 addresses asked": maxBuckets == 65536,
 		"A request above the rate gets status 429 `too-often`, with Retry-After: 1": tooOften.status == 429 &&
 			tooOften.name == "too-often" && tooOften.after == 1,
 	})

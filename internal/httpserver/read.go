@@ -13,19 +13,19 @@ import (
 	"wagtenib/internal/stores"
 )
 
-// How long answers may be kept by caches.
+// The headers for caches, which say how long they may keep an answer, and for browsers.
 const (
-	forEver     = "public, max-age=31536000, immutable"
-	forAWhile   = "public, max-age=60"
-	forASecond  = "public, max-age=1"
-	anybodyElse = "*"
+	forEver    = "public, max-age=31536000, immutable"
+	forAWhile  = "public, max-age=60"
+	forASecond = "public, max-age=1"
+	anyOrigin  = "*"
 )
 
 func (f *Front) reading(r *http.Request) (context.Context, context.CancelFunc) {
 	return context.WithTimeout(r.Context(), f.limits.Reading)
 }
 
-// How many bytes an object counts as until its length is known: a data tile, or another one.
+// The number of bytes that a data tile, or another object, counts until its length is known.
 const (
 	likelyEntries = 1 << 20
 	likelyOther   = 8 << 10
@@ -44,7 +44,7 @@ func (f *Front) read(ctx context.Context, name string) ([]byte, error) {
 	content, err := f.log.Object(ctx, name, likely)
 	var long stores.TooLong
 	if errors.As(err, &long) && long.Length > likely {
-		// It has more, which are taken before they are read.
+		// The object is longer. Its bytes must be counted before they are read.
 		if err := held.change(long.Length - likely); err != nil {
 			return nil, err
 		}
@@ -67,7 +67,7 @@ func (f *Front) read(ctx context.Context, name string) ([]byte, error) {
 	return nil, fmt.Errorf("%w: %s: %v", loginterface.ErrStore, name, err)
 }
 
-// missing says of an object that the log has to have that it is the store's fault where it isn't there.
+// missing makes the error of an object that must exist: if the object is missing, that is a fault of the store.
 func missing(err error) error {
 	if errors.Is(err, stores.ErrAbsent) || errors.Is(err, stores.ErrName) {
 		return fmt.Errorf("%w: %v", loginterface.ErrStore, err)
@@ -75,7 +75,7 @@ func missing(err error) error {
 	return err
 }
 
-// checkpoint answers the newest published head as a signed note.
+// checkpoint answers with the newest published head as a signed note.
 func (f *Front) checkpoint(w http.ResponseWriter, r *http.Request) error {
 	ctx, cancel := f.reading(r)
 	defer cancel()
@@ -96,8 +96,8 @@ func (f *Front) checkpoint(w http.ResponseWriter, r *http.Request) error {
 	return nil
 }
 
-// hasTag reports whether a list of tags has one, or any (RFC 9110, section 13.1.2). One that a proxy made weak is the
-// same.
+// hasTag reports whether a list of tags contains a tag, or "*" (RFC 9110, section 13.1.2). A tag that a proxy made weak
+// counts as the tag.
 func hasTag(lists []string, tag string) bool {
 	for _, list := range lists {
 		for _, one := range strings.Split(list, ",") {
@@ -109,16 +109,16 @@ func hasTag(lists []string, tag string) bool {
 	return false
 }
 
-// tile answers with a tile of hashes or of entries, which has as many as its name says. A cache may keep it for ever. A
-// partial tile never changes either, but it is deleted after the full tile was stored.
+// tile answers with a tile of hashes or of entries, after checking that it has the width of its name. A cache may keep
+// a full tile for ever. A partial tile never changes either, but it is deleted after the full tile was stored.
 func (f *Front) tile(w http.ResponseWriter, r *http.Request) error {
 	name, ok := readTileName(strings.TrimPrefix(r.URL.Path, "/tile/"))
 	if !ok {
-		return refusal{status: http.StatusNotFound, name: "no-such-path", detail: "this is no tile's name"}
+		return refusal{status: http.StatusNotFound, name: "no-such-path", detail: "this is not the name of a tile"}
 	}
 	ctx, cancel := f.reading(r)
 	defer cancel()
-	isPacked := name.data && !asksForParts(r) && takesGzip(r)
+	isPacked := name.data && !asksForParts(r) && acceptsGzip(r)
 	var packed *stores.Packed
 	if isPacked {
 		ctx, packed = stores.WithPacked(ctx)
@@ -140,7 +140,7 @@ func (f *Front) tile(w http.ResponseWriter, r *http.Request) error {
 		w.Header().Set("Accept-Ranges", "bytes")
 	}
 	if isPacked && packed.Name == name.String() {
-		// It is sent as it is stored.
+		// The tile is sent as it is stored.
 		w.Header().Set("Content-Encoding", inGzip)
 		write(w, http.StatusOK, "application/octet-stream", packed.Gzip)
 		return nil
@@ -152,11 +152,11 @@ func (f *Front) tile(w http.ResponseWriter, r *http.Request) error {
 	return writeParts(w, r, "application/octet-stream", content)
 }
 
-// issuer answers a certificate by its fingerprint.
+// issuer answers with the issuer's certificate that has a fingerprint.
 func (f *Front) issuer(w http.ResponseWriter, r *http.Request) error {
 	fingerprint := strings.TrimPrefix(r.URL.Path, "/issuer/")
 	if !isFingerprint(fingerprint) {
-		return refusal{status: http.StatusNotFound, name: "no-such-path", detail: "this is no issuer's name"}
+		return refusal{status: http.StatusNotFound, name: "no-such-path", detail: "this is not the name of an issuer"}
 	}
 	ctx, cancel := f.reading(r)
 	defer cancel()

@@ -17,8 +17,8 @@ import (
 	"wagtenib/internal/httpserver/fakelog"
 )
 
-// served looks at the status, the type and the cache's time of an answer, and that HEAD has the same without the
-// content.
+// served returns the content of an answer. It checks the status, the type and the Cache-Control of the answer, and that
+// HEAD has the same headers.
 func (f *fixture) served(path, kind, keep string) []byte {
 	f.t.Helper()
 	w := f.get(path)
@@ -66,8 +66,8 @@ func TestObjectsAreServed(t *testing.T) {
 	}
 }
 
-// TestDamagedObjectsAreNotServed: an object with another number of hashes or entries than its name says, or another
-// hash than its name, is a fault of the store. No cache keeps the response.
+// TestDamagedObjectsAreNotServed checks that an object with another number of hashes or entries than its name says, or
+// another hash than its name, is a fault of the store. No cache keeps the response.
 func TestDamagedObjectsAreNotServed(t *testing.T) {
 	f := newFixture(t, 0, nil)
 	f.fill(260)
@@ -87,13 +87,13 @@ func TestDamagedObjectsAreNotServed(t *testing.T) {
 		}
 		f.log.Change(path[1:], content)
 		if w := f.get(path); w.Code != 200 || !bytes.Equal(w.Body.Bytes(), content) {
-			t.Errorf("%s, put right: %d", path, w.Code)
+			t.Errorf("%s, after it was repaired: %d", path, w.Code)
 		}
 	}
 	issuer := "issuer/" + fingerprintOf(f.authority.Root.Raw)
-	bent := append([]byte{}, f.authority.Root.Raw...)
-	bent[7] ^= 1
-	f.log.Change(issuer, bent)
+	damaged := append([]byte{}, f.authority.Root.Raw...)
+	damaged[7] ^= 1
+	f.log.Change(issuer, damaged)
 	refused(t, "another issuer", f.get("/"+issuer), 503, "store")
 }
 
@@ -136,38 +136,39 @@ func TestNames(t *testing.T) {
 func TestTreeHead(t *testing.T) {
 	f := newFixture(t, 0, nil)
 	f.fill(3)
-	var told struct {
+	var reply struct {
 		Size      uint64 `json:"tree_size"`
 		Timestamp uint64 `json:"timestamp"`
 		Root      []byte `json:"sha256_root_hash"`
 		Signature []byte `json:"tree_head_signature"`
 	}
 	w := f.get("/ct/v1/get-sth")
-	if err := json.Unmarshal(w.Body.Bytes(), &told); err != nil || w.Code != 200 {
+	if err := json.Unmarshal(w.Body.Bytes(), &reply); err != nil || w.Code != 200 {
 		t.Fatal(w.Code, err)
 	}
 	head, _ := f.log.Checkpoint(httptest.NewRequest("GET", "/", nil).Context())
-	if told.Size != 3 || told.Timestamp != head.Timestamp || !bytes.Equal(told.Root, head.RootHash[:]) ||
-		!f.verifies(fakelog.HeadSigned(head), told.Signature) {
+	if reply.Size != 3 || reply.Timestamp != head.Timestamp || !bytes.Equal(reply.Root, head.RootHash[:]) ||
+		!f.verifies(fakelog.HeadSigned(head), reply.Signature) {
 		t.Errorf("get-sth: %s", w.Body)
 	}
 }
 
-// entries asks for entries, and gives them.
+// entries asks for entries, and returns those that are answered.
 func (f *fixture) entries(start, end uint64) []entryOf {
 	f.t.Helper()
 	w := f.get(fmt.Sprintf("/ct/v1/get-entries?start=%d&end=%d", start, end))
-	var told struct {
+	var reply struct {
 		Entries []entryOf `json:"entries"`
 	}
-	if err := json.Unmarshal(w.Body.Bytes(), &told); err != nil || w.Code != 200 {
+	if err := json.Unmarshal(w.Body.Bytes(), &reply); err != nil || w.Code != 200 {
 		f.t.Fatalf("entries from %d to %d: %d %s", start, end, w.Code, w.Body)
 	}
-	return told.Entries
+	return reply.Entries
 }
 
-// All entries that are answered have the head's root, and each has the chain that was submitted.
-func TestEntriesAreTheHeads(t *testing.T) {
+// TestEntriesHaveTheHeadsRoot checks that all entries together have the head's root, and that each has the chain that
+// was submitted.
+func TestEntriesHaveTheHeadsRoot(t *testing.T) {
 	f := newFixture(t, 0, nil)
 	certificates := f.fill(515)
 	var hashes [][32]byte
@@ -181,7 +182,7 @@ func TestEntriesAreTheHeads(t *testing.T) {
 			hashes = append(hashes, fakelog.LeafHash(entry.LeafInput))
 			certificate := certificates[start+i]
 			if !bytes.Contains(entry.LeafInput, certificate) || entry.LeafInput[14] != byte(len(certificate)) {
-				t.Fatalf("entry %d isn't what was submitted", start+i)
+				t.Fatalf("entry %d is not the one that was submitted", start+i)
 			}
 			var chain, issuer cryptobyte.String
 			extra := cryptobyte.String(entry.ExtraData)
@@ -196,7 +197,7 @@ func TestEntriesAreTheHeads(t *testing.T) {
 	}
 	head, _ := f.log.Checkpoint(httptest.NewRequest("GET", "/", nil).Context())
 	if fakelog.MerkleTreeHash(hashes) != head.RootHash {
-		t.Error("they haven't the head's root")
+		t.Error("the entries do not have the head's root")
 	}
 	for _, test := range []struct{ start, end, count uint64 }{{0, 0, 1}, {7, 9, 3}, {255, 256, 1}, {256, 1 << 62, 256},
 		{512, 515, 3}, {514, 514, 1}, {0, 511, 256}} {
@@ -206,7 +207,7 @@ func TestEntriesAreTheHeads(t *testing.T) {
 	}
 }
 
-func TestPrecertificatesEntry(t *testing.T) {
+func TestEntryOfPrecertificate(t *testing.T) {
 	f := newFixture(t, 5*time.Millisecond, nil)
 	precertificate := f.issue(true)
 	if w := f.do("POST", "/ct/v1/add-pre-chain", fakelog.Submission(precertificate)); w.Code != 200 {
@@ -255,7 +256,7 @@ func TestParametersAreRefused(t *testing.T) {
 	}
 }
 
-// TestParametersAreNamed: the error for a wrong parameter names the parameter and the problem.
+// TestParametersAreNamed checks that the error for a wrong parameter names the parameter and the problem.
 func TestParametersAreNamed(t *testing.T) {
 	f := newFixture(t, 0, nil)
 	f.fill(3)
@@ -282,14 +283,14 @@ func TestParametersAreNamed(t *testing.T) {
 	} {
 		w := f.get(path)
 		refused(t, path, w, 400, "bad-parameter")
-		var told struct{ Detail string }
-		if err := json.Unmarshal(w.Body.Bytes(), &told); err != nil || told.Detail != detail {
-			t.Errorf("%s: %q, %v, and not %q", path, told.Detail, err, detail)
+		var reply struct{ Detail string }
+		if err := json.Unmarshal(w.Body.Bytes(), &reply); err != nil || reply.Detail != detail {
+			t.Errorf("%s: %q, %v, and not %q", path, reply.Detail, err, detail)
 		}
 	}
 }
 
-// dataTileOf is a data tile of certificates of so many bytes.
+// dataTileOf returns a data tile with certificates of these sizes in bytes.
 func dataTileOf(sizes ...int) []byte {
 	var b cryptobyte.Builder
 	for _, size := range sizes {
@@ -303,8 +304,8 @@ func dataTileOf(sizes ...int) []byte {
 	return b.BytesOrPanic()
 }
 
-// TestEntriesAreBoundedByBytes: a response has at most as many bytes as the bound says. An entry that is larger is
-// returned as the only one.
+// TestEntriesAreBoundedByBytes checks that a response has at most MaxEntryBytes of entries. A larger entry is returned
+// as the only one.
 func TestEntriesAreBoundedByBytes(t *testing.T) {
 	f := newFixture(t, 0, nil)
 	f.fill(3)
@@ -316,8 +317,8 @@ func TestEntriesAreBoundedByBytes(t *testing.T) {
 	}
 }
 
-// TestCheckpointByItsTag: If-None-Match with the checkpoint's tag in a list, in any form that a cache sends, gets 304.
-// Another tag gets the checkpoint.
+// TestCheckpointByItsTag checks that If-None-Match with the checkpoint's tag in a list, in any form that a cache sends,
+// gets 304. Another tag gets the checkpoint.
 func TestCheckpointByItsTag(t *testing.T) {
 	f := newFixture(t, 0, nil)
 	f.fill(3)
@@ -352,34 +353,34 @@ func TestCheckpointByItsTag(t *testing.T) {
 	}
 }
 
-// TestAnswersInGzip: data tiles and entries are compressed for clients that accept gzip, and have the same content. A
-// content that would not get smaller is not compressed, and a refusal is not either.
+// TestAnswersInGzip checks that data tiles and entries are compressed for clients that accept gzip, and have the same
+// content. A content that would not get smaller is not compressed, and a refusal is not either.
 func TestAnswersInGzip(t *testing.T) {
 	f := newFixture(t, 0, nil)
 	f.fill(260)
-	asked := func(path, takes string) *httptest.ResponseRecorder {
+	asked := func(path, accepts string) *httptest.ResponseRecorder {
 		w, r := httptest.NewRecorder(), httptest.NewRequest("GET", path, nil)
-		if takes != "" {
-			r.Header.Set("Accept-Encoding", takes)
+		if accepts != "" {
+			r.Header.Set("Accept-Encoding", accepts)
 		}
 		f.front.ServeHTTP(w, r)
 		return w
 	}
 	for _, path := range []string{"/tile/data/000", "/tile/data/001.p/4", "/ct/v1/get-entries?start=0&end=255"} {
 		plain := asked(path, "")
-		for takes, packs := range map[string]bool{"": false, "gzip": true, "br, gzip;q=0.5": true, "GZIP": true,
+		for accepts, isPacked := range map[string]bool{"": false, "gzip": true, "br, gzip;q=0.5": true, "GZIP": true,
 			"gzip;q=0": false, "gzip; q=0.0": false, "identity": false, "gzip;q=x": false} {
-			w := asked(path, takes)
+			w := asked(path, accepts)
 			content := w.Body.Bytes()
-			if packed := w.Header().Get("Content-Encoding") == "gzip"; packed != packs {
-				t.Errorf("%s to who takes %q: in gzip %v", path, takes, packed)
+			if packed := w.Header().Get("Content-Encoding") == "gzip"; packed != isPacked {
+				t.Errorf("%s for a client that accepts %q: in gzip %v", path, accepts, packed)
 				continue
 			}
 			if w.Header().Get("Vary") != "Accept-Encoding" ||
 				w.Header().Get("Content-Length") != fmt.Sprint(len(content)) {
 				t.Errorf("%s: %v", path, w.Header())
 			}
-			if packs {
+			if isPacked {
 				unpacker, err := gzip.NewReader(bytes.NewReader(content))
 				if err != nil {
 					t.Fatal(err)
@@ -389,7 +390,7 @@ func TestAnswersInGzip(t *testing.T) {
 				}
 			}
 			if !bytes.Equal(content, plain.Body.Bytes()) {
-				t.Errorf("%s to who takes %q is another", path, takes)
+				t.Errorf("%s for a client that accepts %q has another content", path, accepts)
 			}
 		}
 	}
@@ -403,9 +404,9 @@ func TestAnswersInGzip(t *testing.T) {
 	}
 }
 
-// A page of elsewhere may read each answer of a call that reads, also a refusal, and may ask whether it may; of a
-// submission it may not.
-func TestPagesOfElsewhere(t *testing.T) {
+// TestPagesOfOtherOrigins checks that a web page of another origin may read each answer to a call that reads, also a
+// refusal, and may ask beforehand whether it may. It may not read answers to submissions.
+func TestPagesOfOtherOrigins(t *testing.T) {
 	f := newFixture(t, 0, nil)
 	f.fill(3)
 	for path, status := range map[string]int{

@@ -15,22 +15,22 @@ import (
 	"wagtenib/internal/stores"
 )
 
-// refusal is an answer that isn't what was asked for: a status, a name, and more in words.
+// refusal is an error that a client gets as an answer: a status, a name, and a detail in words.
 type refusal struct {
 	status int
 	name   string
 	detail string
-	// after is in how many seconds to ask again; 0 says nothing of it.
+	// after is the number of seconds after which the client may ask again (Retry-After). 0 sends no such header.
 	after int
-	// closes ends the connection, since what follows on it may be no request.
+	// closes closes the connection, because the bytes that follow on it may be no request.
 	closes bool
-	// why is logged for the operator, and not sent to the client.
+	// why is logged for the operator. The client does not get it.
 	why error
 }
 
 func (r refusal) Error() string { return fmt.Sprintf("%d %s", r.status, r.name) }
 
-// refusalOf makes a refusal of an error of the log, of the checker or of this package.
+// refusalOf makes a refusal from an error of the log, of the checker or of this package.
 func refusalOf(err error) refusal {
 	var known refusal
 	if errors.As(err, &known) {
@@ -46,7 +46,7 @@ func refusalOf(err error) refusal {
 		r.name, r.after = "busy", 1
 	case errors.Is(err, loginterface.ErrTooLarge):
 		r.status, r.name = http.StatusBadRequest, "entry-too-large"
-		// (the log says how many bytes an entry may have)
+		// The log's error has the size of the entry and the maximum, which the client may know.
 		if _, sizes, hasSizes := strings.Cut(err.Error(), loginterface.ErrTooLarge.Error()+": "); hasSizes {
 			r.detail = sizes
 		}
@@ -68,10 +68,11 @@ func refusalOf(err error) refusal {
 	return r
 }
 
-// statusGone is what is counted where a client goes before it is answered: no fault of the log, and nobody gets it.
+// statusGone is the status that is counted if a client goes away before it is answered. It is no fault of the log, and
+// no client gets it.
 const statusGone = 499
 
-// gone is of a client that doesn't wait any more, by whatever of the log's side its request failed then.
+// gone is the refusal of a client that no longer waits, for whatever reason the log failed its request after that.
 var gone = refusal{status: statusGone, name: "gone"}
 
 // refuse answers with a refusal if nothing was written yet.
@@ -100,7 +101,7 @@ func (f *Front) refuse(a *answer, r refusal) {
 	}{r.name, r.detail})
 }
 
-// writeJSON answers with a value. A write that fails concerns only the client.
+// writeJSON answers with a value in JSON. A failed write concerns only the client.
 func writeJSON(w http.ResponseWriter, status int, value any) {
 	text, err := json.Marshal(value)
 	if err != nil {

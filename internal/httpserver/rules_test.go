@@ -13,8 +13,8 @@ import (
 	"time"
 )
 
-// figureNames are all metrics in /metrics of a log with a witness, after a request.
-func figureNames(t *testing.T) map[string]bool {
+// metricNames returns the names of all metrics in /metrics of a log with a witness, after a request.
+func metricNames(t *testing.T) map[string]bool {
 	t.Helper()
 	f := newFixture(t, 0, func(o *Options) { o.About.MaxMergeDelay = time.Minute })
 	f.get("/ct/v1/get-roots")
@@ -31,41 +31,41 @@ func figureNames(t *testing.T) map[string]bool {
 	return names
 }
 
-// TestRules: the alert rules use existing metrics, and each alert has a section in the page of incidents. cmd/test.sh
-// has promtool check their expressions.
+// TestRules checks that the alert rules use existing metrics, and that each alert has a section in the page of
+// incidents. cmd/test.sh checks their expressions with promtool.
 func TestRules(t *testing.T) {
 	rules, err := os.ReadFile("../../release/prometheus/ctserve.rules.yml")
 	if err != nil {
 		t.Fatal(err)
 	}
-	there := figureNames(t)
+	there := metricNames(t)
 	incidents, err := os.ReadFile("../../docs/INCIDENTS.md")
 	if err != nil {
 		t.Fatal(err)
 	}
-	for _, alarm := range regexp.MustCompile(`alert: (\w+)`).FindAllStringSubmatch(string(rules), -1) {
-		if !strings.Contains(string(incidents), "`"+alarm[1]+"`") {
-			t.Errorf("INCIDENTS.md doesn't say what to do at %s", alarm[1])
+	for _, alert := range regexp.MustCompile(`alert: (\w+)`).FindAllStringSubmatch(string(rules), -1) {
+		if !strings.Contains(string(incidents), "`"+alert[1]+"`") {
+			t.Errorf("INCIDENTS.md does not say what to do at %s", alert[1])
 		}
 	}
 	for _, named := range regexp.MustCompile("`(Ctserve\\w+)`").FindAllStringSubmatch(string(incidents), -1) {
 		if !strings.Contains(string(rules), "alert: "+named[1]+"\n") {
-			t.Errorf("INCIDENTS.md says what to do at %s, which is no alarm", named[1])
+			t.Errorf("INCIDENTS.md says what to do at %s, which is no alert", named[1])
 		}
 	}
 	names := regexp.MustCompile(`\bctserve_[a-z_]+`).FindAllString(string(rules), -1)
 	if len(names) < 13 {
-		t.Errorf("%d figures are named", len(names))
+		t.Errorf("the rules name %d metrics", len(names))
 	}
 	for _, name := range names {
 		if !there[name] {
-			t.Errorf("there is no figure %s", name)
+			t.Errorf("there is no metric %s", name)
 		}
 	}
 }
 
-// TestDashboard: each expression of the dashboard names figures that are there, and promtool reads it where it is
-// installed; each of its own variables is one of its list; and each figure of the log that an alarm is of can be seen.
+// TestDashboard checks that each expression of the dashboard uses existing metrics, and variables of its list, and that
+// promtool accepts it, if that is installed. The dashboard must show each metric that an alert uses.
 func TestDashboard(t *testing.T) {
 	content, err := os.ReadFile("../../release/prometheus/ctserve.dashboard.json")
 	if err != nil {
@@ -89,7 +89,7 @@ func TestDashboard(t *testing.T) {
 	for _, of := range board.Templating.List {
 		variables[of.Name] = true
 	}
-	there, rules, places, shown := figureNames(t), "groups:\n- name: dashboard\n  rules:\n", map[[2]int]string{}, ""
+	there, rules, places, shown := metricNames(t), "groups:\n- name: dashboard\n  rules:\n", map[[2]int]string{}, ""
 	for _, panel := range board.Panels {
 		at := [2]int{panel.GridPos.X, panel.GridPos.Y}
 		if places[at] != "" || panel.GridPos.X+panel.GridPos.W > 24 || len(panel.Targets) == 0 {
@@ -100,7 +100,7 @@ func TestDashboard(t *testing.T) {
 			shown += target.Expr + "\n"
 			for _, name := range regexp.MustCompile(`\b(?:ctserve|process)_[a-z_]+`).FindAllString(target.Expr, -1) {
 				if !there[name] {
-					t.Errorf("%s: there is no figure %s", panel.Title, name)
+					t.Errorf("%s: there is no metric %s", panel.Title, name)
 				}
 			}
 			for _, of := range regexp.MustCompile(`\$(\w+)`).FindAllStringSubmatch(target.Expr, -1) {
@@ -113,24 +113,24 @@ func TestDashboard(t *testing.T) {
 			rules += fmt.Sprintf("  - record: panel:%d:%d\n    expr: %s\n", panel.ID, i, quoted)
 		}
 	}
-	alarms, err := os.ReadFile("../../release/prometheus/ctserve.rules.yml")
+	alerts, err := os.ReadFile("../../release/prometheus/ctserve.rules.yml")
 	if err != nil {
 		t.Fatal(err)
 	}
-	for _, name := range regexp.MustCompile(`\bctserve_[a-z_]+`).FindAllString(string(alarms), -1) {
+	for _, name := range regexp.MustCompile(`\bctserve_[a-z_]+`).FindAllString(string(alerts), -1) {
 		if !strings.Contains(shown, name) && name != "ctserve_reloads_total" {
-			t.Errorf("%s, of which an alarm is, is on no panel", name)
+			t.Errorf("an alert uses %s, but no panel shows it", name)
 		}
 	}
 	promtool, err := exec.LookPath("promtool")
 	if err != nil {
-		t.Skip("promtool isn't installed")
+		t.Skip("promtool is not installed")
 	}
 	file := filepath.Join(t.TempDir(), "rules.yml")
 	if err := os.WriteFile(file, []byte(rules), 0o600); err != nil {
 		t.Fatal(err)
 	}
-	if said, err := exec.Command(promtool, "check", "rules", file).CombinedOutput(); err != nil {
-		t.Errorf("promtool: %s", said)
+	if output, err := exec.Command(promtool, "check", "rules", file).CombinedOutput(); err != nil {
+		t.Errorf("promtool: %s", output)
 	}
 }

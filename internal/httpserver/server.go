@@ -10,9 +10,9 @@ import (
 	"sync"
 )
 
-// maxOfOthers is how many connections operators have, and maxOfNodes how many the other nodes have: they don't count as
-// clients. Each of up to three other nodes opens no more than 1,024 (internal/logservice).
-const maxOfOthers, maxOfNodes = 64, 4096
+// maxOperatorConnections is the maximum number of connections of operators, and maxNodeConnections that of the other
+// nodes. They do not count as clients. Each of up to three other nodes opens at most 1,024 (internal/logservice).
+const maxOperatorConnections, maxNodeConnections = 64, 4096
 
 // Server answers requests on listeners until it is ended.
 type Server struct {
@@ -20,21 +20,26 @@ type Server struct {
 	http   *http.Server
 	bounds func(net.Listener) net.Listener
 	mutex  sync.Mutex
-	// fresh are the connections on which no request was read yet.
+	// fresh has the connections on which no request was read yet.
 	fresh  map[net.Conn]bool
 	ending bool
 }
 
-// ServeOthers makes a server for operators: with the front's limits of time, and connections of its own.
-func (f *Front) ServeOthers(handler http.Handler) *Server { return f.serveFew(handler, maxOfOthers) }
+// ServeOperators makes a server for operators. It has the front's time limits, and a bound for connections of its own.
+func (f *Front) ServeOperators(handler http.Handler) *Server {
+	return f.serveLimited(handler, maxOperatorConnections)
+}
 
-// ServeNodes makes a server for the other nodes of the log, likewise.
-func (f *Front) ServeNodes(handler http.Handler) *Server { return f.serveFew(handler, maxOfNodes) }
+// ServeNodes makes a server for the other nodes of the log. It has the front's time limits, and a bound for connections
+// of its own.
+func (f *Front) ServeNodes(handler http.Handler) *Server {
+	return f.serveLimited(handler, maxNodeConnections)
+}
 
-func (f *Front) serveFew(handler http.Handler, most int) *Server {
+func (f *Front) serveLimited(handler http.Handler, maxConnections int) *Server {
 	s := f.Serve(handler)
-	own := make(chan struct{}, most)
-	s.bounds = func(l net.Listener) net.Listener { return few{l, own} }
+	slots := make(chan struct{}, maxConnections)
+	s.bounds = func(l net.Listener) net.Listener { return limitedListener{l, slots} }
 	return s
 }
 
@@ -47,14 +52,14 @@ func (f *Front) Serve(handler http.Handler) *Server {
 		Handler:           handler,
 		ReadHeaderTimeout: limits.Headers,
 		ReadTimeout:       limits.Request,
-		// It runs from where the headers end.
+		// This time starts after the headers were read.
 		WriteTimeout:   limits.Request + limits.Submission + limits.Answer,
 		IdleTimeout:    limits.Idle,
 		MaxHeaderBytes: MaxHeader,
-		// HTTP/2 would have many requests on one connection, which counts as one.
+		// HTTP/2 is off, because it has many requests on one connection, which counts as one.
 		TLSNextProto: map[string]func(*http.Server, *tls.Conn, http.Handler){},
 		ErrorLog:     stdlog.New(httpLines{f}, "", 0),
-		ConnState:    s.remember,
+		ConnState:    s.noteState,
 		ConnContext: func(ctx context.Context, connection net.Conn) context.Context {
 			counted, ok := openIn(connection)
 			if !ok {
@@ -66,7 +71,7 @@ func (f *Front) Serve(handler http.Handler) *Server {
 	return s
 }
 
-// openKey is where a request's context has its connection, if that counts as a client's.
+// openKey is the key of the connection in the context of a request. Only a client's connection is there.
 type openKey struct{}
 
 // httpLines receives the errors of net/http. A failed handshake concerns only the client, and is counted.
@@ -80,10 +85,10 @@ func (h httpLines) Write(text []byte) (int, error) {
 	return h.front.options.Lines.Write(text)
 }
 
-func (s *Server) remember(connection net.Conn, state http.ConnState) {
+func (s *Server) noteState(connection net.Conn, state http.ConnState) {
 	if state == http.StateActive || state == http.StateIdle {
 		if counted, ok := openIn(connection); ok {
-			s.front.uses.connections.isIdle(counted, state == http.StateIdle)
+			s.front.uses.connections.setIdle(counted, state == http.StateIdle)
 		}
 	}
 	s.mutex.Lock()
@@ -99,7 +104,7 @@ func (s *Server) remember(connection net.Conn, state http.ConnState) {
 	s.fresh[connection] = true
 }
 
-// openIn is the connection that counts as a client's, below TLS or as it is.
+// openIn returns the counted connection of a client, below TLS if there is TLS.
 func openIn(connection net.Conn) (*open, bool) {
 	if over, ok := connection.(*tls.Conn); ok {
 		connection = over.NetConn()
@@ -108,8 +113,8 @@ func openIn(connection net.Conn) (*open, bool) {
 	return counted, ok && counted.isClient
 }
 
-// Listen answers what comes to a listener, over TLS where there is a configuration of it. It returns nil once the
-// server ends.
+// Listen answers the requests that a listener receives, over TLS if over is not nil. It returns nil after the server
+// was ended.
 func (s *Server) Listen(listener net.Listener, over *tls.Config) error {
 	listener = s.bounds(listener)
 	if over != nil {
@@ -124,8 +129,8 @@ func (s *Server) Listen(listener net.Listener, over *tls.Config) error {
 	return err
 }
 
-// End takes no more connections, closes those on which nothing is asked, and waits for the answers that are under way,
-// within the context; then it closes all.
+// End accepts no more connections, closes those without a request, and waits within the context for the answers that
+// are being sent. Then it closes all connections.
 func (s *Server) End(ctx context.Context) error {
 	s.mutex.Lock()
 	s.ending = true

@@ -21,14 +21,14 @@ import (
 	"wagtenib/internal/testutil"
 )
 
-// listening serves a front on loopback, and gives its address and how it is ended.
+// listening serves a front on loopback. It returns the address, and the server to end it.
 func (f *fixture) listening(over *tls.Config) (address string, server *Server) {
 	f.t.Helper()
 	server = f.front.Serve(f.front)
 	return f.listeningBy(server, over), server
 }
 
-// listeningBy has a server listen, and gives where.
+// listeningBy starts a server on loopback, and returns its address.
 func (f *fixture) listeningBy(server *Server, over *tls.Config) (address string) {
 	f.t.Helper()
 	listener, err := net.Listen("tcp", "127.0.0.1:0")
@@ -42,7 +42,7 @@ func (f *fixture) listeningBy(server *Server, over *tls.Config) (address string)
 		defer cancel()
 		server.End(ctx)
 		if err := <-done; err != nil {
-			f.t.Errorf("the server ended by %v", err)
+			f.t.Errorf("the server ended with an error: %v", err)
 		}
 	})
 	return listener.Addr().String()
@@ -59,8 +59,8 @@ func dial(t testing.TB, address string) net.Conn {
 	return connection
 }
 
-// said sends bytes on a connection of their own, and gives the statuses of all answers until the other side closes.
-func said(t testing.TB, address, text string) (statuses []int) {
+// statusesOf sends bytes on a new connection, and returns the statuses of all answers until the server closes it.
+func statusesOf(t testing.TB, address, text string) (statuses []int) {
 	t.Helper()
 	connection := dial(t, address)
 	if _, err := connection.Write([]byte(text)); err != nil {
@@ -81,7 +81,7 @@ func answersOn(t testing.TB, connection net.Conn) (statuses []int) {
 		if _, err := reader.Peek(1); err != nil {
 			var late net.Error
 			if errors.As(err, &late) && late.Timeout() {
-				t.Errorf("after %v the other side waits", statuses)
+				t.Errorf("after %v the server waits", statuses)
 			}
 			return statuses
 		}
@@ -90,7 +90,7 @@ func answersOn(t testing.TB, connection net.Conn) (statuses []int) {
 			t.Errorf("after %v: %v", statuses, err)
 			return statuses
 		}
-		// If the other side closes before it has read everything, the end of its response may be lost.
+		// If the server closes before it has read everything, the end of its response may be lost.
 		if _, err := io.Copy(io.Discard, answer.Body); err != nil && !errors.Is(err, syscall.ECONNRESET) {
 			t.Errorf("an answer breaks off: %v", err)
 		}
@@ -98,7 +98,8 @@ func answersOn(t testing.TB, connection net.Conn) (statuses []int) {
 	}
 }
 
-// closed reports whether the other side closed without a word, and doesn't only say nothing.
+// closed fails the test unless the server closed a connection without an answer. If the server only sends nothing, that
+// is not enough.
 func closed(t testing.TB, what string, from io.Reader) {
 	t.Helper()
 	n, err := from.Read(make([]byte, 1))
@@ -108,8 +109,8 @@ func closed(t testing.TB, what string, from io.Reader) {
 	}
 }
 
-// TestUnclearRequests: each of these has one request or none. A text in which a second one could be hidden is never
-// answered.
+// TestUnclearRequests sends texts that could hide a second request from another program on the way. The hidden request
+// must never be answered.
 func TestUnclearRequests(t *testing.T) {
 	f := newFixture(t, 10*time.Millisecond, nil)
 	address, _ := f.listening(nil)
@@ -120,16 +121,16 @@ func TestUnclearRequests(t *testing.T) {
 		what, text string
 		statuses   []int
 	}{
-		{"two requests one behind the other", get + "\r\n" + get + "\r\n", []int{200, 200}},
+		{"two requests, one after the other", get + "\r\n" + get + "\r\n", []int{200, 200}},
 		{"a GET with a body", get + fmt.Sprintf("Content-Length: %d\r\n\r\n", len(hidden)) + hidden, []int{400}},
 		{"a GET with a body in chunks", get + "Transfer-Encoding: chunked\r\n\r\n0\r\n\r\n" + hidden, []int{411}},
-		{"a length and chunks at nobody's path", fmt.Sprintf(
+		{"a length and chunks at an unknown path", fmt.Sprintf(
 			"POST /nothing HTTP/1.1\r\nHost: log\r\nContent-Length: %d\r\nTransfer-Encoding: chunked\r\n\r\n0\r\n\r\n",
 			5+len(hidden)) + hidden, []int{411}},
-		{"a length and chunks where one reads", fmt.Sprintf(
+		{"a length and chunks at a path for reads", fmt.Sprintf(
 			"POST /checkpoint HTTP/1.1\r\nHost: log\r\nContent-Length: %d\r\nTransfer-Encoding: "+
 				"chunked\r\n\r\n0\r\n\r\n", 5+len(hidden)) + hidden, []int{411}},
-		{"a length and chunks, and a question before", fmt.Sprintf(
+		{"a length and chunks in an OPTIONS request", fmt.Sprintf(
 			"OPTIONS /checkpoint HTTP/1.1\r\nHost: log\r\nContent-Length: %d\r\nTransfer-Encoding: "+
 				"chunked\r\n\r\n0\r\n\r\n", 5+len(hidden)) + hidden, []int{411}},
 		{"a GET with an announced body", get + "Content-Length: 100\r\n\r\n", []int{400}},
@@ -146,7 +147,7 @@ func TestUnclearRequests(t *testing.T) {
 			hidden, []int{501}},
 		{"chunks twice", post + "Transfer-Encoding: chunked\r\nTransfer-Encoding: identity\r\n\r\n" +
 			hidden, []int{501}},
-		{"chunks behind a space", post + "Transfer-Encoding : chunked\r\n\r\n0\r\n\r\n" + hidden, []int{400}},
+		{"a space after Transfer-Encoding", post + "Transfer-Encoding : chunked\r\n\r\n0\r\n\r\n" + hidden, []int{400}},
 		{"a length with a sign", post + "Content-Length: +2\r\n\r\n{}" + hidden, []int{400}},
 		{"a negative length", post + "Content-Length: -1\r\n\r\n" + hidden, []int{400}},
 		{"a length that is a word", post + "Content-Length: two\r\n\r\n" + hidden, []int{400}},
@@ -154,7 +155,7 @@ func TestUnclearRequests(t *testing.T) {
 		{"a length above the bound", post + "Content-Length: 1048577\r\n\r\n" + hidden, []int{413}},
 		{"a body that breaks off", post + "Content-Length: 100\r\n\r\n{}", []int{408}},
 		{"no length", post + "\r\n" + hidden, []int{400, 200}},
-		{"a POST where one reads", "POST /checkpoint HTTP/1.1\r\nHost: log\r\nContent-Length: 2\r\n\r\n{}" + get +
+		{"a POST to a path for reads", "POST /checkpoint HTTP/1.1\r\nHost: log\r\nContent-Length: 2\r\n\r\n{}" + get +
 			"\r\n", []int{405, 200}},
 		{"no host", "GET /healthz HTTP/1.1\r\n\r\n" + hidden, []int{400}},
 		{"two hosts", get + "Host: other\r\n\r\n" + hidden, []int{400}},
@@ -167,16 +168,17 @@ func TestUnclearRequests(t *testing.T) {
 		{"not HTTP", "\x16\x03\x01\x02\x00\x01\x00\x01\xfc\r\n\r\n", []int{400}},
 		{"nothing", "", nil},
 	} {
-		if statuses := said(t, address, test.text); fmt.Sprint(statuses) != fmt.Sprint(test.statuses) {
+		if statuses := statusesOf(t, address, test.text); fmt.Sprint(statuses) != fmt.Sprint(test.statuses) {
 			t.Errorf("%s: %v, not %v", test.what, statuses, test.statuses)
 		}
 	}
 	if size := f.log.Metrics().Entries; size != 0 {
-		t.Errorf("%d entries came of it", size)
+		t.Errorf("the log has %d entries", size)
 	}
 }
 
-// TestSlowClients: a client that sends or reads too slowly is disconnected, and others are answered in the meantime.
+// TestSlowClients checks that a client that sends or reads too slowly is disconnected, and that others are answered in
+// the meantime.
 func TestSlowClients(t *testing.T) {
 	f := newFixture(t, 10*time.Millisecond, func(o *Options) {
 		o.Limits.Headers, o.Limits.Request, o.Limits.Idle = 200*time.Millisecond, 400*time.Millisecond,
@@ -208,10 +210,10 @@ func TestSlowClients(t *testing.T) {
 				time.Sleep(20 * time.Millisecond)
 			}
 		},
-		"a body that doesn't come": func(c net.Conn) {
+		"a body that is never sent": func(c net.Conn) {
 			fmt.Fprintf(c, "POST /ct/v1/add-chain HTTP/1.1\r\nHost: log\r\nContent-Length: 1000\r\n\r\n")
 		},
-		"idle behind a request": func(c net.Conn) { fmt.Fprintf(c, "GET /healthz HTTP/1.1\r\nHost: log\r\n\r\n") },
+		"idle after a request": func(c net.Conn) { fmt.Fprintf(c, "GET /healthz HTTP/1.1\r\nHost: log\r\n\r\n") },
 	}
 	ended := make(chan string, len(slow))
 	for what, send := range slow {
@@ -222,9 +224,9 @@ func TestSlowClients(t *testing.T) {
 			ended <- what
 		}(what, send)
 	}
-	// One that asks for a large object and takes none of it: its handler ends.
+	// This client asks for a large object and reads nothing of it. Its handler must end.
 	for began := (time.Time{}); f.front.uses.answers.used.Load() < 32<<20; time.Sleep(time.Millisecond) {
-		// (on a busy machine it was cut off before that was seen)
+		// On a busy machine it may be disconnected before the loop sees its bytes. Then another one asks.
 		if time.Since(began) > 5*time.Second {
 			greedy := dial(t, address)
 			greedy.(*net.TCPConn).SetReadBuffer(4096)
@@ -232,7 +234,7 @@ func TestSlowClients(t *testing.T) {
 			began = time.Now()
 		}
 	}
-	// (who asks has no more time than they have)
+	// This request has the same short limits, so it may have to be sent again.
 	eventually(t, "another one is answered", func() bool {
 		connection := dial(t, address)
 		defer connection.Close()
@@ -249,7 +251,7 @@ func TestSlowClients(t *testing.T) {
 		case what := <-ended:
 			delete(left, what)
 		case <-until:
-			t.Fatalf("not cut off: %v", left)
+			t.Fatalf("not disconnected: %v", left)
 		}
 	}
 	// A connection is closed if a write on it fails. The resources of its request are freed after that.
@@ -259,8 +261,8 @@ func TestSlowClients(t *testing.T) {
 	})
 }
 
-// TestServerEnds: when the server ends, waiting requests are answered, and idle and silent connections are closed,
-// within the bound.
+// TestServerEnds checks that, when the server ends, waiting requests are answered, and idle and silent connections are
+// closed, within the bound.
 func TestServerEnds(t *testing.T) {
 	f := newFixture(t, 0, nil)
 	address, server := f.listening(nil)
@@ -284,23 +286,24 @@ func TestServerEnds(t *testing.T) {
 	defer cancel()
 	f.log.End(ctx)
 	if err := server.End(ctx); err != nil {
-		t.Errorf("it doesn't end: %v", err)
+		t.Errorf("the server does not end: %v", err)
 	}
 	if took := time.Since(began); took > testutil.Longest/2 {
-		t.Errorf("it took %v", took)
+		t.Errorf("the end took %v", took)
 	}
 	if statuses := answersOn(t, waits); fmt.Sprint(statuses) != "[200]" {
-		t.Errorf("who waited: %v", statuses)
+		t.Errorf("the waiting client: %v", statuses)
 	}
 	for what, connection := range map[string]io.Reader{"idle": idleReader, "silent": silent, "half": half} {
 		closed(t, what, connection)
 	}
 	if _, err := net.Dial("tcp", address); err == nil {
-		t.Error("connections are still taken")
+		t.Error("connections are still accepted")
 	}
 }
 
-// A submission that isn't answered in time is closed with all others once the bound is over.
+// TestServerEndsWithinItsBound checks that the connection of a submission that is not answered in time is closed when
+// the bound is over.
 func TestServerEndsWithinItsBound(t *testing.T) {
 	f := newFixture(t, 0, nil)
 	address, server := f.listening(nil)
@@ -315,15 +318,16 @@ func TestServerEndsWithinItsBound(t *testing.T) {
 	if err := server.End(ctx); !errors.Is(err, context.DeadlineExceeded) {
 		t.Errorf("End: %v", err)
 	}
-	closed(t, "who waited", waits)
+	closed(t, "the waiting client", waits)
 }
 
-// A submission may wait for longer than a request may take to be sent.
+// TestSubmissionsWaitLongerThanRequests checks that a submission may wait for longer than a request may take to be
+// sent.
 func TestSubmissionsWaitLongerThanRequests(t *testing.T) {
-	// (on a busy machine the request itself takes longer than it may: then it may take longer)
-	for most := 150 * time.Millisecond; ; most *= 4 {
+	// On a busy machine the request itself may take longer than its limit. Then the test tries a longer limit.
+	for limit := 150 * time.Millisecond; ; limit *= 4 {
 		f := newFixture(t, 0, func(o *Options) {
-			o.Limits.Headers, o.Limits.Request, o.Limits.Submission = most, most,
+			o.Limits.Headers, o.Limits.Request, o.Limits.Submission = limit, limit,
 				testutil.Longest
 		})
 		address, _ := f.listening(nil)
@@ -331,26 +335,27 @@ func TestSubmissionsWaitLongerThanRequests(t *testing.T) {
 		connection := dial(t, address)
 		fmt.Fprintf(connection, "POST /ct/v1/add-chain HTTP/1.1\r\nHost: log\r\nConnection: close\r\nContent-Length: "+
 			"%d\r\n\r\n%s", len(body), body)
-		came := make(chan []int, 1)
-		go func() { came <- answersOn(t, connection) }()
-		for len(came) == 0 && f.log.Metrics().Queue == 0 {
+		answered := make(chan []int, 1)
+		go func() { answered <- answersOn(t, connection) }()
+		for len(answered) == 0 && f.log.Metrics().Queue == 0 {
 			time.Sleep(time.Millisecond)
 		}
-		if len(came) == 0 {
-			time.Sleep(2 * most)
+		if len(answered) == 0 {
+			time.Sleep(2 * limit)
 			f.log.Publish()
-			if statuses := <-came; fmt.Sprint(statuses) != "[200]" {
-				t.Errorf("%v, of a request that may take %v", statuses, most)
+			if statuses := <-answered; fmt.Sprint(statuses) != "[200]" {
+				t.Errorf("%v, for a request that may take %v", statuses, limit)
 			}
 			return
 		}
-		if most > testutil.Longest/8 {
-			t.Fatalf("a request isn't taken within %v: %v", most, <-came)
+		if limit > testutil.Longest/8 {
+			t.Fatalf("a request is not accepted within %v: %v", limit, <-answered)
 		}
 	}
 }
 
-// A client that goes while it waits is seen: its submission's context ends.
+// TestClientsThatGo checks that the server notices a client that goes away while it waits, and ends the context of its
+// submission.
 func TestClientsThatGo(t *testing.T) {
 	f := newFixture(t, 0, nil)
 	address, _ := f.listening(nil)
@@ -365,12 +370,12 @@ func TestClientsThatGo(t *testing.T) {
 		t.Errorf("%d bytes wait", f.front.uses.waiting.used.Load())
 	}
 	connection.Close()
-	eventually(t, "its bytes aren't counted any more", func() bool { return f.front.uses.waiting.used.Load() == 0 })
+	eventually(t, "its bytes no longer count", func() bool { return f.front.uses.waiting.used.Load() == 0 })
 }
 
-// TestClientsThatGoRingNoAlarm: a client that leaves before its response causes no alert. It is counted with a status
-// of its own, and not logged.
-func TestClientsThatGoRingNoAlarm(t *testing.T) {
+// TestClientsThatGoCauseNoAlert checks that a client that leaves before its response causes no alert. It is counted
+// with a status of its own, and not logged.
+func TestClientsThatGoCauseNoAlert(t *testing.T) {
 	f := newFixture(t, 0, nil)
 	f.fill(1)
 	f.log.Slow = time.Hour
@@ -394,15 +399,15 @@ func TestClientsThatGoRingNoAlarm(t *testing.T) {
 	f.log.Slow = 0
 	for call, path := range map[string]string{"checkpoint": "/checkpoint", "tile": "/tile/0/000.p/1"} {
 		if !counts(`ctserve_requests_total{call="` + call + `",status="499"} 1`) {
-			t.Errorf("%s: who went isn't counted as gone", path)
+			t.Errorf("%s: the client that left is not counted as gone", path)
 		}
 	}
 	if lines := f.lines.String(); strings.Contains(lines, `"event":"request"`) {
-		t.Errorf("it is told: %s", lines)
+		t.Errorf("the request is logged: %s", lines)
 	}
 }
 
-// writeKeyPair writes a new certificate and its key into a folder, and gives the certificate.
+// writeKeyPair writes a new certificate and its key into a folder, and returns the certificate.
 func writeKeyPair(t testing.TB, folder string, authority *fakelog.Authority) []byte {
 	t.Helper()
 	certificate, key, err := authority.KeyPair()
@@ -415,7 +420,8 @@ func writeKeyPair(t testing.TB, folder string, authority *fakelog.Authority) []b
 	return block.Bytes
 }
 
-// Over TLS: from version 1.2 on, by HTTP/1.1, and a handshake has its time.
+// TestTLS checks that TLS is accepted from version 1.2 on, with HTTP/1.1, that a handshake has a time limit, and that a
+// reload uses the new pair.
 func TestTLS(t *testing.T) {
 	f := newFixture(t, 0, nil)
 	folder := t.TempDir()
@@ -446,12 +452,12 @@ func TestTLS(t *testing.T) {
 		t.Errorf("%v, %v", state, err)
 	}
 	if _, err := ask(&tls.Config{MinVersion: tls.VersionTLS10, MaxVersion: tls.VersionTLS11}); err == nil {
-		t.Fatal("TLS 1.1 is taken")
+		t.Fatal("TLS 1.1 is accepted")
 	}
-	// (of a front of its own: the others' handshakes have no such time)
+	// This is another front, because the handshakes of the other clients have no such short limit.
 	brief := newFixture(t, 0, func(o *Options) { o.Limits.Headers = 200 * time.Millisecond })
 	silently, _ := brief.listening(kept.Config())
-	closed(t, "a handshake that doesn't come", dial(t, silently))
+	closed(t, "a handshake that is never sent", dial(t, silently))
 	for _, one := range []*fixture{f, brief} {
 		failed := func() string {
 			measured := httptest.NewRecorder()
@@ -460,13 +466,13 @@ func TestTLS(t *testing.T) {
 			count, _, _ := strings.Cut(text, "\n")
 			return count
 		}
-		// (a client has its alert before the server counts)
+		// A client receives its TLS alert before the server counts.
 		eventually(t, "a handshake that failed is counted", func() bool { return failed() != "0" })
 		if count := failed(); count != "1" || strings.Contains(one.lines.String(), "handshake") {
-			t.Errorf("handshakes that failed are to be counted, and not told: %s, %s", count, one.lines)
+			t.Errorf("failed handshakes must be counted, and not logged: %s, %s", count, one.lines)
 		}
 	}
-	// A reload takes the new pair, and keeps the old one where that isn't one.
+	// A reload uses the new pair, or keeps the old one if the new one is wrong.
 	certificate = writeKeyPair(t, folder, f.authority)
 	if err := kept.Reload(); err != nil {
 		t.Fatal(err)
@@ -476,7 +482,7 @@ func TestTLS(t *testing.T) {
 	}
 	writeFile(t, folder+"/key.pem", []byte("none"))
 	if err := kept.Reload(); err == nil {
-		t.Error("a key that is none is taken")
+		t.Error("a file that is no key is accepted")
 	}
 	if state, err := ask(&tls.Config{}); err != nil || !bytes.Equal(state.PeerCertificates[0].Raw, certificate) {
 		t.Errorf("after a reload that failed: %v", err)

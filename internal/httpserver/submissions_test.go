@@ -20,12 +20,12 @@ import (
 	"wagtenib/internal/tile"
 )
 
-// TestPrecertificatesWithoutMemory: if there is no memory to cut the poison out, a precertificate is for later, and
-// certificates are taken.
+// TestPrecertificatesWithoutMemory checks that, if there is no memory to cut the poison out, a precertificate is
+// refused with Retry-After, and certificates are accepted.
 func TestPrecertificatesWithoutMemory(t *testing.T) {
 	f := newFixture(t, 10*time.Millisecond, nil)
-	dry := chains.CutterOver(func([]byte) ([]byte, error) { return nil, wagtenib.ErrMemory })
-	checker := chains.NewChecker(f.checker.Roots(), chains.Rules{}, dry)
+	outOfMemory := chains.CutterOver(func([]byte) ([]byte, error) { return nil, wagtenib.ErrMemory })
+	checker := chains.NewChecker(f.checker.Roots(), chains.Rules{}, outOfMemory)
 	f.front = New(f.log, tile.NewProver(f.log.Object, 4), checker,
 		Options{Limits: DefaultLimits(), Lines: NewLines(f.lines)})
 	w := f.do("POST", "/ct/v1/add-pre-chain", fakelog.Submission(f.issue(true), f.authority.Root.Raw))
@@ -40,9 +40,9 @@ func TestPrecertificatesWithoutMemory(t *testing.T) {
 func TestSubmissionsAreAnsweredWithTimestamps(t *testing.T) {
 	f := newFixture(t, 10*time.Millisecond, nil)
 	for number, test := range []struct {
-		path string
-		der  []byte
-		take func([][]byte) (*chains.Entry, error)
+		path  string
+		der   []byte
+		check chainCheck
 	}{
 		{"/ct/v1/add-chain", f.issue(false), f.checker.Certificate},
 		{"/ct/v1/add-pre-chain", f.issue(true), f.checker.Precertificate},
@@ -56,20 +56,20 @@ func TestSubmissionsAreAnsweredWithTimestamps(t *testing.T) {
 		if err := json.Unmarshal(w.Body.Bytes(), &keys); err != nil || len(keys) != 5 || keys["sct_version"] != 0.0 {
 			t.Errorf("%s: %v, %v", test.path, keys, err)
 		}
-		var told signedTimestamp
-		if err := json.Unmarshal(w.Body.Bytes(), &told); err != nil {
+		var reply signedTimestamp
+		if err := json.Unmarshal(w.Body.Bytes(), &reply); err != nil {
 			t.Fatal(err)
 		}
-		entry, err := test.take([][]byte{test.der})
+		entry, err := test.check([][]byte{test.der})
 		if err != nil {
 			t.Fatal(err)
 		}
-		if !bytes.Equal(told.Extensions, []byte{0, 0, 5, 0, 0, 0, 0, byte(number)}) {
-			t.Errorf("%s: extensions %x", test.path, told.Extensions)
+		if !bytes.Equal(reply.Extensions, []byte{0, 0, 5, 0, 0, 0, 0, byte(number)}) {
+			t.Errorf("%s: extensions %x", test.path, reply.Extensions)
 		}
-		if !f.verifies(fakelog.TimestampSigned(*entry, told.Timestamp, told.Extensions), told.Signature) ||
-			len(told.ID) != 32 {
-			t.Errorf("%s: the signature isn't over the entry: %s", test.path, w.Body)
+		if !f.verifies(fakelog.TimestampSigned(*entry, reply.Timestamp, reply.Extensions), reply.Signature) ||
+			len(reply.ID) != 32 {
+			t.Errorf("%s: the signature is not over the entry: %s", test.path, w.Body)
 		}
 	}
 }
@@ -106,7 +106,7 @@ func TestChainsAreRefusedByName(t *testing.T) {
 		refused(t, test.name, w, 400, test.name)
 	}
 	if size := f.log.Metrics().Entries; size != 0 {
-		t.Errorf("%d entries came of them", size)
+		t.Errorf("the log has %d entries of them", size)
 	}
 }
 
@@ -128,11 +128,12 @@ func TestBodiesAreRefused(t *testing.T) {
 	f.front.ServeHTTP(w, r)
 	refused(t, "without a length", w, 411, "length-required")
 	if w.Header().Get("Connection") != "close" {
-		t.Error("a connection whose bodies end nobody knows where isn't closed")
+		t.Error("a connection with a body of unknown length is not closed")
 	}
 }
 
-// The bodies of one address have an eighth of what all have, or as much as one may; another address has its own.
+// TestBytesByAddress checks that the bodies of one address may have an eighth of the bytes of all, and at least one
+// body of the maximum size. Another address has its own bytes.
 func TestBytesByAddress(t *testing.T) {
 	for _, test := range []struct{ all, one int }{{64 << 20, 8 << 20}, {3 << 20, MaxBody}} {
 		f := newFixture(t, 5*time.Millisecond, func(o *Options) { o.Limits.WaitingBytes = int64(test.all) })
@@ -144,27 +145,27 @@ func TestBytesByAddress(t *testing.T) {
 			f.front.ServeHTTP(w, r)
 			return w
 		}
-		if !f.front.uses.waitingOf.takeSome(client, test.one) || f.front.uses.waitingOf.takeSome(client, 1) {
-			t.Errorf("of %d bytes one address hasn't %d", test.all, test.one)
+		if !f.front.uses.waitingByClient.takeSome(client, test.one) || f.front.uses.waitingByClient.takeSome(client, 1) {
+			t.Errorf("of %d bytes one address may not have exactly %d", test.all, test.one)
 		}
 		refused(t, "the same address", from(same), 429, "too-many-bytes")
 		if w := from("[2001:db8:0:1::1]:7"); w.Code != 200 {
 			t.Errorf("another address: %d %s", w.Code, w.Body)
 		}
-		f.front.uses.waitingOf.giveSome(client, test.one)
+		f.front.uses.waitingByClient.giveSome(client, test.one)
 		if w := from(same); w.Code != 200 {
-			t.Errorf("the same address, behind it: %d %s", w.Code, w.Body)
+			t.Errorf("the same address, after it gave bytes back: %d %s", w.Code, w.Body)
 		}
-		if used := f.front.uses.waiting.used.Load(); used != 0 || len(f.front.uses.waitingOf.of) != 0 {
-			t.Errorf("%d bytes and %v are still counted", used, f.front.uses.waitingOf.of)
+		if used := f.front.uses.waiting.used.Load(); used != 0 || len(f.front.uses.waitingByClient.byGroup) != 0 {
+			t.Errorf("%d bytes and %v are still counted", used, f.front.uses.waitingByClient.byGroup)
 		}
 	}
 }
 
-// TestTooLargeSaysTheBound: the refusal of an entry that is too large says how large one may be.
+// TestTooLargeSaysTheBound checks that the refusal of an entry that is too large says how large an entry may be.
 func TestTooLargeSaysTheBound(t *testing.T) {
 	f := newFixture(t, 10*time.Millisecond, nil)
-	f.log.Break(fmt.Errorf("%w: it has 131073 bytes, and may have 131072", loginterface.ErrTooLarge))
+	f.log.SetFault(fmt.Errorf("%w: it has 131073 bytes, and may have 131072", loginterface.ErrTooLarge))
 	w := f.do("POST", "/ct/v1/add-chain", fakelog.Submission(f.issue(false)))
 	if w.Code != 400 || !strings.Contains(w.Body.String(), "entry-too-large") ||
 		!strings.Contains(w.Body.String(), "it has 131073 bytes, and may have 131072") {
@@ -172,7 +173,8 @@ func TestTooLargeSaysTheBound(t *testing.T) {
 	}
 }
 
-// TestErrorsOfTheLog: an error of the log has its status, and a temporary one has Retry-After.
+// TestErrorsOfTheLog checks that each error of the log is answered with its status, and a temporary one with
+// Retry-After.
 func TestErrorsOfTheLog(t *testing.T) {
 	f := newFixture(t, 10*time.Millisecond, nil)
 	body := fakelog.Submission(f.issue(false))
@@ -193,14 +195,14 @@ func TestErrorsOfTheLog(t *testing.T) {
 		{context.DeadlineExceeded, 503, "late", "5"},
 		{errors.New("secret of the machine"), 500, "internal", ""},
 	} {
-		f.log.Break(test.err)
+		f.log.SetFault(test.err)
 		w := f.do("POST", "/ct/v1/add-chain", body)
 		refused(t, "add-chain "+test.name, w, test.status, test.name)
 		if after := w.Header().Get("Retry-After"); after != test.after {
 			t.Errorf("%s: Retry-After %q", test.name, after)
 		}
 		if strings.Contains(w.Body.String(), "secret") {
-			t.Errorf("a client is told %s", w.Body)
+			t.Errorf("the secret is sent to a client: %s", w.Body)
 		}
 		for _, path := range []string{"/checkpoint", "/ct/v1/get-sth", "/ct/v1/get-entries?start=0&end=0"} {
 			refused(t, path+" "+test.name, f.get(path), test.status, test.name)
@@ -211,9 +213,9 @@ func TestErrorsOfTheLog(t *testing.T) {
 	}
 	refused(t, "a tile", f.get("/tile/0/000.p/1"), 503, "store")
 	if !strings.Contains(f.lines.String(), "secret of the machine") {
-		t.Error("the operator isn't told it")
+		t.Error("the error is not logged for the operator")
 	}
-	f.log.Break(nil)
+	f.log.SetFault(nil)
 	if w := f.ready(); w.Code != 200 || w.Body.String() != "ready\n" {
 		t.Errorf("/readyz: %d %s", w.Code, w.Body)
 	}
@@ -238,19 +240,20 @@ func TestFullQueue(t *testing.T) {
 	w := f.do("POST", "/ct/v1/add-chain", fakelog.Submission(f.issue(false)))
 	refused(t, "the fourth", w, 503, "busy")
 	if w.Header().Get("Retry-After") != "1" {
-		t.Error("it isn't told when to come again")
+		t.Error("the answer has no Retry-After of 1 second")
 	}
 	refused(t, "/readyz", f.get("/readyz"), 503, "busy")
 	f.log.Publish()
 	all.Wait()
 	for i := 0; i < 3; i++ {
 		if w := <-answers; w.Code != 200 {
-			t.Errorf("one that waited: %d %s", w.Code, w.Body)
+			t.Errorf("a submission that waited: %d %s", w.Code, w.Body)
 		}
 	}
 }
 
-// A submission that isn't answered within its time is refused, and one whose client goes takes no more room.
+// TestSubmissionsThatWait checks that a submission that is not answered in time is refused, and that one whose client
+// left holds no bytes.
 func TestSubmissionsThatWait(t *testing.T) {
 	f := newFixture(t, 0, func(o *Options) { o.Limits.Submission = 30 * time.Millisecond })
 	w := f.do("POST", "/ct/v1/add-chain", fakelog.Submission(f.issue(false)))

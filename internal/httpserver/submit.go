@@ -30,7 +30,7 @@ func (f *Front) addPreChain(w http.ResponseWriter, r *http.Request) error {
 	return f.add(w, r, f.checker.Precertificate)
 }
 
-// chainCheck checks a chain, and makes an entry of it.
+// chainCheck checks a chain, and makes an entry from it.
 type chainCheck func(chain [][]byte) (*chains.Entry, error)
 
 func (f *Front) add(w http.ResponseWriter, r *http.Request, check chainCheck) error {
@@ -39,13 +39,13 @@ func (f *Front) add(w http.ResponseWriter, r *http.Request, check chainCheck) er
 	}
 	if f.options.ReadOnly {
 		return refusal{status: http.StatusForbidden, name: "read-only",
-			detail: "the log takes no more submissions", closes: true}
+			detail: "the log accepts no more submissions", closes: true}
 	}
 	client := f.clientOf(r)
 	body, taken, err := f.body(r, client)
 	// The entry, which is kept, has fewer bytes than the request. The request's bytes count until the response.
 	defer f.uses.waiting.give(taken)
-	defer f.uses.waitingOf.giveSome(client, int(taken))
+	defer f.uses.waitingByClient.giveSome(client, int(taken))
 	if err != nil {
 		return err
 	}
@@ -58,11 +58,11 @@ func timestampOf(place loginterface.Place) signedTimestamp {
 	return signedTimestamp{0, place.LogID[:], place.Timestamp, place.Extensions, place.Signature}
 }
 
-// maxPiece is how many bytes are allocated for a body before they have come.
+// maxPiece is the maximum number of bytes that are allocated for a body before they were received.
 const maxPiece = 16 << 10
 
-// body reads a submission, and says how many bytes of the budget it took. A body whose length isn't said is refused: no
-// client of logs sends one.
+// body reads a submission, and returns how many bytes of the budget it took. It refuses a body without a
+// Content-Length, because no client of logs sends one.
 func (f *Front) body(r *http.Request, client netip.Addr) (body []byte, taken int64, err error) {
 	if r.ContentLength < 0 {
 		return nil, 0, refusal{status: http.StatusLengthRequired, name: "length-required", closes: true}
@@ -71,8 +71,8 @@ func (f *Front) body(r *http.Request, client netip.Addr) (body []byte, taken int
 		return nil, 0, refusal{status: http.StatusRequestEntityTooLarge, name: "body-too-large", closes: true}
 	}
 	if connection, ok := r.Context().Value(openKey{}).(*open); ok {
-		f.uses.connections.isReading(connection, true)
-		defer f.uses.connections.isReading(connection, false)
+		f.uses.connections.setReading(connection, true)
+		defer f.uses.connections.setReading(connection, false)
 	}
 	body = make([]byte, 0, min(r.ContentLength+1, maxPiece))
 	for {
@@ -82,12 +82,12 @@ func (f *Front) body(r *http.Request, client netip.Addr) (body []byte, taken int
 		n, err := r.Body.Read(body[len(body):cap(body)])
 		if n > 0 {
 			// The received bytes count, and not the announced ones. So a client that sends nothing holds nothing.
-			if !f.uses.waitingOf.takeSome(client, n) {
+			if !f.uses.waitingByClient.takeSome(client, n) {
 				return nil, taken, refusal{status: http.StatusTooManyRequests, name: "too-many-bytes",
 					after: 1, closes: true}
 			}
 			if !f.uses.waiting.take(int64(n)) {
-				f.uses.waitingOf.giveSome(client, n)
+				f.uses.waitingByClient.giveSome(client, n)
 				return nil, taken, refusal{status: http.StatusServiceUnavailable, name: "busy", after: 1, closes: true}
 			}
 			taken += int64(n)
@@ -103,7 +103,7 @@ func (f *Front) body(r *http.Request, client netip.Addr) (body []byte, taken int
 	}
 }
 
-// checked makes an entry of a submission. Only so many are checked at once.
+// checked checks a submission and makes an entry from it. It waits while Limits.Checks others are being checked.
 func (f *Front) checked(ctx context.Context, body []byte, check chainCheck) (*chains.Entry, error) {
 	select {
 	case f.uses.checks <- struct{}{}:
@@ -123,13 +123,13 @@ func (f *Front) checked(ctx context.Context, body []byte, check chainCheck) (*ch
 
 // encodedRoots is the answer to get-roots for some roots.
 type encodedRoots struct {
-	of   *chains.Roots
-	text []byte
+	roots *chains.Roots
+	text  []byte
 }
 
 func (f *Front) getRoots(w http.ResponseWriter, r *http.Request) error {
 	roots, encoded := f.checker.Roots(), f.roots.Load()
-	if encoded == nil || encoded.of != roots {
+	if encoded == nil || encoded.roots != roots {
 		text, err := json.Marshal(struct {
 			Certificates [][]byte `json:"certificates"`
 		}{roots.Certificates()})

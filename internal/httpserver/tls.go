@@ -22,13 +22,13 @@ func LoadCertificate(certificate, key string) (*Certificate, error) {
 func (c *Certificate) Reload() error {
 	pair, err := tls.LoadX509KeyPair(c.certificate, c.key)
 	if err != nil {
-		return fmt.Errorf("web: certificate of TLS: %w", err)
+		return fmt.Errorf("web: TLS certificate: %w", err)
 	}
 	c.pair.Store(&pair)
 	return nil
 }
 
-// Config is one that takes what was read last, and TLS 1.2 or later.
+// Config returns a configuration that uses the pair that was read last, with TLS 1.2 or later.
 func (c *Certificate) Config() *tls.Config {
 	return &tls.Config{
 		MinVersion:     tls.VersionTLS12,

@@ -5,8 +5,8 @@ import "context"
 // forwardedKey is in the context of a submission that must not be forwarded.
 type forwardedKey struct{}
 
-// Forwarded returns the context of a submission that must not be forwarded, since another node forwarded it, or since
-// the other node does not answer. So no submission goes in a circle.
+// Forwarded returns the context of a submission that must not be forwarded, because another node forwarded it, or
+// because the other node does not answer. So no submission goes in a circle.
 func Forwarded(ctx context.Context) context.Context {
 	return context.WithValue(ctx, forwardedKey{}, true)
 }

@@ -1,5 +1,5 @@
-// Package loginterface says what a front sees of a log: submissions that are answered with their places, the newest
-// published head, and the published objects. The log of wagtenib/internal/logservice is one.
+// Package loginterface defines what a front sees of a log: it submits entries, and reads the newest published head and
+// the published objects. The log of wagtenib/internal/logservice implements it.
 package loginterface
 
 import (
@@ -12,21 +12,23 @@ import (
 
 // The kinds of errors of Submit. Use errors.Is. A wrapped error says more.
 var (
-	// ErrBusy: so many wait already that no more is taken. To be sent again later (503 with Retry-After at a front).
+	// ErrBusy reports that too many submissions wait. The client may submit again later (a front answers 503 with
+	// Retry-After).
 	ErrBusy = errors.New("log: busy")
-	// ErrTooLarge: the entry has more bytes than one of a log may have. It will never be taken.
+	// ErrTooLarge reports that the entry has more bytes than a log's entry may have. The log never accepts it.
 	ErrTooLarge = errors.New("log: entry too large")
-	// ErrElsewhere: another node makes the steps. A submission that may be forwarded must be, or be submitted again.
+	// ErrElsewhere reports that another node makes the steps. The caller must forward the submission if it may, and
+	// otherwise submit it again.
 	ErrElsewhere = errors.New("log: another node makes the steps")
-	// ErrEnded: the log takes no more.
+	// ErrEnded reports that the log accepts no more submissions.
 	ErrEnded = errors.New("log: ended")
-	// ErrClock: the machine's clock isn't where it was expected, and nothing is stepped until it is.
+	// ErrClock reports that the machine's clock is wrong. The log makes no step until it is right.
 	ErrClock = errors.New("log: the clock is wrong")
-	// ErrStore: a store, the lock, the step or the signer doesn't answer, or gives what can't be.
+	// ErrStore reports that a store, the lock, the step or the signer does not answer, or gives an impossible answer.
 	ErrStore = errors.New("log: a store failed or is damaged")
 )
 
-// Entry is what chains.Checker gives of a submission, with its issuers' certificates.
+// Entry is the entry that chains.Checker makes of a submission, with its issuers' certificates.
 type Entry = chains.Entry
 
 // Place is an entry's index and timestamp, with its signed certificate timestamp (RFC 6962, section 3.2).
@@ -51,13 +53,14 @@ type Head struct {
 	TreeSize, Timestamp uint64
 	// RootHash is the Merkle Tree Hash of the entries (RFC 6962, section 2.1).
 	RootHash [32]byte
-	// Signature is the DigitallySigned over the TreeHeadSignature (RFC 6962, section 3.5), as Place.Signature is.
+	// Signature is the DigitallySigned over the TreeHeadSignature (RFC 6962, section 3.5), in the form of
+	// Place.Signature.
 	Signature []byte
 }
 
-// Metrics are what an operator looks at. Those that count, count since the start of the process.
+// Metrics are the log's values for an operator. Counters count since the start of the process.
 type Metrics struct {
-	// Queue is how many submissions wait, and MaxQueue at how many no more is taken.
+	// Queue is the number of waiting submissions, and MaxQueue the number at which the log refuses more.
 	Queue, MaxQueue int
 	// Entries is the size of the newest published head, and HeadAge its age by the machine's clock.
 	Entries uint64
@@ -71,86 +74,87 @@ type Metrics struct {
 	Witnesses []Witness
 }
 
-// Rounds are the figures of the rounds of a node, and of the steps in them.
+// Rounds are the metrics of the rounds of a node, and of the steps in them.
 type Rounds struct {
 	// Unpublished is the number of entries of the newest known state that are not published yet. SinceRound is the time
 	// since the last successful round. A node without submissions makes a round each second.
 	Unpublished uint64
 	SinceRound  time.Duration
-	// Steps counts swaps that were won, LostSwaps those that another node was faster with, Unknown those whose outcome
-	// had to be settled by reading the lock.
-	Steps, LostSwaps, Unknown uint64
-	// Written counts the bytes that steps put, in their bundles and as objects.
-	Written uint64
-	// Phases are the parts of a step, in their order, and Batches how many submissions steps took in.
+	// Steps counts swaps that this node won, LostSwaps those that it lost to another node, and UnknownSwaps those whose
+	// outcome it only learned by reading the lock.
+	Steps, LostSwaps, UnknownSwaps uint64
+	// WrittenBytes counts the bytes that steps stored, in their staged batches and as objects.
+	WrittenBytes uint64
+	// Phases are the parts of a step, in their order, and Batches the numbers of submissions of steps.
 	Phases  []Phase
 	Batches Batches
 }
 
-// Answers are the figures of what a node does without a step of its own, and of its signer.
+// Answers are the metrics of what a node does without a step of its own, and of its signer.
 type Answers struct {
-	// Repeats counts submissions that were answered with an existing entry. Helped counts the heads of other nodes that
-	// this node published. Forwarded counts submissions that another node answered.
-	Repeats, Helped, Forwarded uint64
-	// SignerStarts counts how often the signer was started, or was found, and WrongSignatures how many of its replies
+	// Duplicates counts submissions that were answered with an existing entry. ResumedSteps counts steps that this node
+	// published from their staged batch: those of other nodes, and its own ones from before a restart. Forwarded counts
+	// submissions that another node answered.
+	Duplicates, ResumedSteps, Forwarded uint64
+	// SignerStarts counts how often the signer was started or connected to, and WrongSignatures how many of its replies
 	// had a wrong signature.
 	SignerStarts, WrongSignatures uint64
 }
 
-// Janitor are the figures of what is deleted and read again beside the node.
+// Janitor are the metrics of the janitor, which deletes objects and reads old ones again.
 type Janitor struct {
-	// DeletedTiles counts deleted partial tiles, DeletedHeads deleted old heads, and RereadTiles data tiles that were read again
-	// and were right.
+	// DeletedTiles counts deleted partial tiles, DeletedHeads deleted old heads, and RereadTiles data tiles that were
+	// read again and were right.
 	DeletedTiles, DeletedHeads, RereadTiles uint64
-	// DeletedBatches counts bundles of steps that were deleted since nobody needs them, and Staged is how many there were
-	// when they were listed last.
-	DeletedBatches, Staged uint64
-	// JanitorFailures counts what failed of sweeping, which is tried again, and JanitorFailure is the last of it, in one
-	// line.
+	// DeletedBatches counts staged batches that were deleted because nothing needs them, and StagedBatches is the
+	// number of those in the store when they were last listed.
+	DeletedBatches, StagedBatches uint64
+	// JanitorFailures counts failed deletions and failed writes of the index, which are tried again. JanitorFailure is
+	// the last failure, in one line.
 	JanitorFailures uint64
 	JanitorFailure  string
-	// DeletedTo is up to how many entries no partial tile is left below the full ones, by what this node knows, and
-	// ReadNext is the data tile that it reads again next.
+	// DeletedTo is the number of entries up to which all partial tiles were deleted, as far as this node knows.
+	// ReadNext is the index of the data tile that it reads again next.
 	DeletedTo, ReadNext uint64
 }
 
-// Damages are the figures of objects that are not the log's.
+// Damages are the metrics of objects that are missing, or have a content that is not the log's.
 type Damages struct {
 	// Damaged is the number of data tiles that were missing, unreadable or wrong when they were last read, or have such
-	// a hash tile above them. The log continues. Damage describes one of them in a line.
+	// a hash tile above them. The log continues. Damage describes one damaged object in a line.
 	Damaged int
-	// DamagedIssuers is how many issuers are missing or have another content, by what was read last.
+	// DamagedIssuers is the number of issuers that were missing or wrong when they were last read.
 	DamagedIssuers int
 	Damage         string
-	// Repaired counts objects of the log that were missing or had another content and were made again, and LastRepaired
-	// says which was last.
+	// Repaired counts objects of the log that were missing or wrong and were made again. LastRepaired is the name of
+	// the last one.
 	Repaired     uint64
 	LastRepaired string
 }
 
-// Faulting are the figures of what keeps the log from going on.
+// Faulting are the metrics of faults that keep the log from accepting submissions.
 type Faulting struct {
-	// Fault is what does, in one line; empty where nothing does.
+	// Fault is the present fault in one line. It is empty if there is none.
 	Fault string
-	// Faults counts how often something began to keep it from that, and LastFault is the last of it: one may be over
-	// before anybody looks.
+	// Faults counts the faults that began, and LastFault is the last of them. A fault may be over before anybody reads
+	// Fault.
 	Faults    uint64
 	LastFault string
 }
 
-// Phase is a part of a step: how often it was done, or failed, and how long that took in all.
+// Phase is a part of a step. Count is how often it was done or failed, and Duration the sum of these times.
 type Phase struct {
-	Name  string
-	Count uint64
-	Took  time.Duration
+	Name     string
+	Count    uint64
+	Duration time.Duration
 }
 
-// Batches say how many submissions those steps took in that were decided.
+// Batches are the numbers of submissions of this node's steps, of those whose swap was won.
 type Batches struct {
-	// Steps counts them, and Submissions what they took in altogether.
+	// Steps is the number of these steps, and Submissions the number of all their submissions.
 	Steps, Submissions uint64
-	// AtMost says of some numbers how many steps took in no more than that.
-	AtMost map[int]uint64
+	// UpTo is a cumulative histogram: it maps each bound to the number of steps with at most so many submissions.
+	UpTo map[int]uint64
 }
 
 // Witness is the state of a witness that cosigns a log's heads.
@@ -158,32 +162,33 @@ type Witness struct {
 	Name string
 	// Missed is how many heads it was asked to cosign since it last did, and Cosigned how many it cosigned.
 	Missed, Cosigned uint64
-	// SeenMore says that it cosigned a later head than it was shown last, or another one of its size.
-	SeenMore bool
-	// Fault is why it didn't cosign the last head, in one line.
+	// IsAhead is true if the witness cosigned a later head than the one that it was last asked to cosign, or another
+	// one of that size.
+	IsAhead bool
+	// Fault is the reason why it did not cosign the last head, in one line.
 	Fault string
 }
 
-// Log is one log. Its methods may be called at once.
+// Log is one log. Its methods may be called at the same time.
 type Log interface {
-	// Submit returns after a published head covers the entry. Its errors are ErrBusy, ErrTooLarge, ErrEnded, ErrClock,
-	// ErrStore, and the context's. After an error the entry may be in the log anyway.
+	// Submit returns after a published head covers the entry. Its errors are ErrBusy, ErrTooLarge, ErrElsewhere,
+	// ErrEnded, ErrClock, ErrStore, and the context's. After an error the entry may be in the log anyway.
 	Submit(ctx context.Context, entry Entry) (Place, error)
-	// Checkpoint is the newest published head.
+	// Checkpoint returns the newest published head.
 	Checkpoint(ctx context.Context) (Head, error)
 	// HeadOf returns a published head of at least so many entries. It returns the newest known head if that has them.
 	// Otherwise it reads the newest one, which may have fewer.
 	HeadOf(ctx context.Context, entries uint64) (Head, error)
 	// Object reads a published object by its name (tile/.., issuer/..). It returns stores.TooLong without reading if
-	// the object has more than most bytes, stores.ErrAbsent if there is none, and stores.ErrName if the name is
+	// the object is longer than maxBytes, stores.ErrAbsent if there is none, and stores.ErrName if the name is
 	// invalid. A full tile is compared with the newest head's tree. If it differs, or is missing although the tree has
 	// it, Object returns ErrStore.
-	Object(ctx context.Context, name string, most int64) ([]byte, error)
+	Object(ctx context.Context, name string, maxBytes int64) ([]byte, error)
 	// IndexOf returns the index of the leaf with this hash as the deduplication index has it, or stores.ErrAbsent. It
 	// need not be correct.
 	IndexOf(ctx context.Context, leafHash [32]byte) (uint64, error)
-	// End takes no more, publishes, and answers who waits, within the context.
+	// End accepts no more submissions, publishes those that wait, and answers them, within the context.
 	End(ctx context.Context) error
-	// Metrics are those of this moment.
+	// Metrics returns the present metrics.
 	Metrics() Metrics
 }

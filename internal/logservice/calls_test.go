@@ -14,12 +14,12 @@ import (
 	"wagtenib/internal/stores"
 )
 
-// stopped is this machine's clock, whose time since boot does not go on by itself, and which waits without a limit for
-// what wakes it. So a node without submissions never looks.
+// stopped is this machine's clock, except that its time since boot does not advance by itself, and that it waits
+// without a limit until it is woken. So a node without submissions never reads the lock.
 type stopped struct {
 	logservice.Clock
 	elapsed atomic.Int64
-	// waits says that the node waits, and that nothing has woken it yet.
+	// waits is true while the node waits and nothing has woken it.
 	waits atomic.Bool
 }
 
@@ -44,19 +44,19 @@ func (s *stopped) Wait(ctx context.Context, long time.Duration, wake <-chan stru
 	}
 }
 
-// watch records when the calls to stores begin and end, in one order for all. A call that is made beside others ends
-// only after all of these have begun.
+// watch records when the calls to stores begin and end, in one order for all. A call of a group ends only after all
+// calls of the group have begun.
 type watch struct {
 	mu sync.Mutex
-	// isOn says that calls are recorded. beside has, for a call, how many calls of its group are made at once.
+	// isOn is true while calls are recorded. groups has the group of a call by its name.
 	isOn   bool
-	beside map[string]*group
+	groups map[string]*group
 	calls  []watched
 	// at counts the beginnings and ends.
 	at int
 }
 
-// group are calls that are made side by side.
+// group is a group of calls that are made at the same time.
 type group struct {
 	size  int
 	begun int
@@ -69,17 +69,18 @@ type watched struct {
 	began, end int
 }
 
-// expects says that these calls are made side by side.
+// expects makes a group of the calls with these names.
 func (w *watch) expects(names ...string) {
 	w.mu.Lock()
 	defer w.mu.Unlock()
 	g := &group{size: len(names), full: make(chan struct{})}
 	for _, name := range names {
-		w.beside[name] = g
+		w.groups[name] = g
 	}
 }
 
-// begins records that a call begins, waits for those beside it, and returns the function that records its end.
+// begins records that a call begins, waits until all calls of its group have begun, and returns the function that
+// records its end.
 func (w *watch) begins(ctx context.Context, name string) func() {
 	w.mu.Lock()
 	if !w.isOn {
@@ -89,7 +90,7 @@ func (w *watch) begins(ctx context.Context, name string) func() {
 	number := len(w.calls)
 	w.at++
 	w.calls = append(w.calls, watched{name: name, began: w.at})
-	if g := w.beside[name]; g != nil {
+	if g := w.groups[name]; g != nil {
 		full := g.full
 		if g.begun++; g.begun == g.size {
 			close(full)
@@ -111,8 +112,8 @@ func (w *watch) begins(ctx context.Context, name string) func() {
 	}
 }
 
-// steps returns the calls of each recorded step, which ends as the published size is raised. A look-up of a submission is
-// none of its calls.
+// steps returns the calls of each recorded step, which ends as the published size is raised. A look-up of a submission
+// is none of its calls.
 func (w *watch) steps() (steps [][]watched) {
 	w.mu.Lock()
 	defer w.mu.Unlock()
@@ -130,7 +131,7 @@ func (w *watch) steps() (steps [][]watched) {
 	return steps
 }
 
-// namesOf returns the calls' names in the order of the alphabet.
+// namesOf returns the calls' names in alphabetical order.
 func namesOf(calls []watched) []string {
 	var names []string
 	for _, call := range calls {
@@ -140,7 +141,7 @@ func namesOf(calls []watched) []string {
 	return names
 }
 
-// chainOf returns how many calls there are in the longest chain of which each began after the end of the one before.
+// chainOf returns the length of the longest chain of calls in which each began after the end of the one before.
 func chainOf(calls []watched) (chain int) {
 	to := make([]int, len(calls))
 	for i, call := range calls {
@@ -155,14 +156,14 @@ func chainOf(calls []watched) (chain int) {
 	return chain
 }
 
-// turn starts to record, or stops.
+// turn starts or stops the recording.
 func (w *watch) turn(isOn bool) {
 	w.mu.Lock()
 	defer w.mu.Unlock()
 	w.isOn = isOn
 }
 
-// kindOf names the kind of an object.
+// kindOf returns the kind of an object by its name.
 func kindOf(name string) string {
 	kind := name[:strings.Index(name+"/", "/")]
 	if strings.HasPrefix(name, "tile/data/") {
@@ -181,14 +182,14 @@ func (o watchedObjects) Put(ctx context.Context, name string, content []byte) er
 	return o.Objects.Put(ctx, name, content)
 }
 
-func (o watchedObjects) Get(ctx context.Context, name string, most int64) ([]byte, error) {
+func (o watchedObjects) Get(ctx context.Context, name string, maxBytes int64) ([]byte, error) {
 	defer o.watch.begins(ctx, "get "+kindOf(name))()
-	return o.Objects.Get(ctx, name, most)
+	return o.Objects.Get(ctx, name, maxBytes)
 }
 
-func (o watchedObjects) List(ctx context.Context, prefix, after string, most int) ([]string, error) {
+func (o watchedObjects) List(ctx context.Context, prefix, after string, maxNames int) ([]string, error) {
 	defer o.watch.begins(ctx, "list "+kindOf(prefix))()
-	return o.Objects.List(ctx, prefix, after, most)
+	return o.Objects.List(ctx, prefix, after, maxNames)
 }
 
 func (o watchedObjects) Delete(ctx context.Context, name string) error {
@@ -226,7 +227,6 @@ func (l watchedLock) Raise(ctx context.Context, published stores.Published) erro
 	return l.Lock.Raise(ctx, published)
 }
 
-// watchedIndex is the index.
 type watchedIndex struct {
 	stores.Index
 	watch *watch
@@ -254,15 +254,16 @@ func (i watchedIndex) Replace(ctx context.Context, rows []stores.Row) error {
 	return i.Index.Replace(ctx, rows)
 }
 
-// TestCallsOfAStep: if the node made the step before, and no fault is open, a step of one entry makes eight calls to
-// stores, and five of them wait for one another. If the heads were not listed for a while, they are listed beside the
-// swap, and no staged batch is deleted. A submission is looked up before its step.
+// TestCallsOfAStep checks the calls to stores of a step with one entry, if the node made the previous step and has no
+// fault. There are eight calls, and the longest chain in which each waits for the one before has five. If the heads
+// were not listed for a while, they are listed during the swap, and no staged batch is deleted. A submission is looked
+// up before its step.
 func TestCallsOfAStep(t *testing.T) {
 	t.Parallel()
-	p, got, w := newPlace(t), &answers{}, &watch{beside: map[string]*group{}}
+	p, got, w := newPlace(t), &answers{}, &watch{groups: map[string]*group{}}
 	config := p.config()
-	clock := &stopped{Clock: config.Machine.Of}
-	config.Machine.Of = clock
+	clock := &stopped{Clock: config.Machine.Clock}
+	config.Machine.Clock = clock
 	// The next step may begin at once, as after a step that took longer than the interval.
 	config.Pace.Interval, config.Pace.MaxWritten = 0, 0
 	config.Stores.Objects, config.Stores.Lock, config.Stores.Index = watchedObjects{config.Stores.Objects, w},
@@ -303,15 +304,15 @@ func TestCallsOfAStep(t *testing.T) {
 			t.Errorf("a step made other calls than expected:\n%s\n%s", made, expected)
 		}
 		if chain := chainOf(calls); chain != 5 {
-			t.Errorf("%d calls of a step wait for one another, and not 5", chain)
+			t.Errorf("the longest chain of a step's calls has %d calls, and not 5", chain)
 		}
 	}
-	if leaves := p.right(got); leaves != 7+short {
+	if leaves := p.checkLog(got); leaves != 7+short {
 		t.Errorf("the log has %d entries", leaves)
 	}
 }
 
-// counting counts what a signer is asked for.
+// counting is a signer that counts its calls.
 type counting struct {
 	signer.Signer
 	lasts, steps, timestamps atomic.Int64
@@ -332,10 +333,10 @@ func (c *counting) SignTimestamps(ctx context.Context, receipts []signer.Receipt
 	return c.Signer.SignTimestamps(ctx, receipts)
 }
 
-// TestStepsAreSignedAtOnce: the timestamps of each step are asked for in one request for the step, whatever the size of
-// the tree before it, and only a duplicate's in another one. The signer's last head is asked for before the first head
-// that this node has signed, and not again.
-func TestStepsAreSignedAtOnce(t *testing.T) {
+// TestSignsEachStepInOneRequest checks that the head and the SCTs of a step are signed in one request, whatever the
+// size of the tree is. Only the SCT of a duplicate needs another request. The signer's last head is asked for before
+// the first head that this node has signed, and not again.
+func TestSignsEachStepInOneRequest(t *testing.T) {
 	t.Parallel()
 	p, got := newPlace(t), &answers{}
 	config := p.config()

@@ -14,7 +14,7 @@ import (
 	"wagtenib/internal/stores"
 )
 
-// timed is a store of objects on another machine, whose clock is ahead by so much.
+// timed is a store of objects on another machine, whose clock is ahead of this machine's.
 type timed struct {
 	stores.Objects
 	by time.Duration
@@ -24,18 +24,19 @@ func (o timed) Time(context.Context) (time.Time, time.Duration, error) {
 	return time.Now().Add(o.by), time.Second, nil
 }
 
-// A node that starts with a wrong clock takes nothing, and says beside which clock it is wrong.
-func TestClockAtStart(t *testing.T) {
+// TestRefusesWrongClockAtStart checks that a node that starts with a wrong clock accepts no submissions, and reports
+// the clock that differs.
+func TestRefusesWrongClockAtStart(t *testing.T) {
 	t.Parallel()
 	p, got := newPlace(t), &answers{}
 	l := started(t, p.config())
 	got.submit(t, l, 0, 3)
 	ends(t, l)
 	for _, test := range []struct {
-		by     time.Duration
-		beside string
-		// hears says that a store on another machine says what time it is.
-		hears bool
+		by      time.Duration
+		message string
+		// hasTimedStore is true if a store on another machine has a clock.
+		hasTimedStore bool
 	}{
 		{time.Second, "", true},
 		{59 * time.Minute, "ahead of the objects' store", true},
@@ -44,43 +45,43 @@ func TestClockAtStart(t *testing.T) {
 		{-59 * time.Minute, "behind the log's newest head", false},
 		{25 * time.Hour, "ahead of the log's newest head", false},
 	} {
-		t.Run(fmt.Sprint(test.by, test.hears), func(t *testing.T) {
+		t.Run(fmt.Sprint(test.by, test.hasTimedStore), func(t *testing.T) {
 			config := p.config()
-			clock := newBent(test.by)
+			clock := newSkewedClock(test.by)
 			clock.set(test.by, false)
-			config.Machine.Of = clock
-			if test.hears {
+			config.Machine.Clock = clock
+			if test.hasTimedStore {
 				config.Stores.Objects = timed{config.Stores.Objects, 0}
 			}
 			l := started(t, config)
 			defer ends(t, l)
 			place, err := l.Submit(limited(t), entryOf(1000+int(test.by.Minutes())))
-			if test.beside == "" {
+			if test.message == "" {
 				must(t, err)
 				got.add(entryOf(1000+int(test.by.Minutes())), place)
 				return
 			}
 			wants(t, err, loginterface.ErrClock, node.ErrClock)
-			if !strings.Contains(err.Error(), test.beside) || !strings.Contains(l.Metrics().Fault, test.beside) {
-				t.Errorf("%v does not say %s", err, test.beside)
+			if !strings.Contains(err.Error(), test.message) || !strings.Contains(l.Metrics().Fault, test.message) {
+				t.Errorf("%v does not say %s", err, test.message)
 			}
 			if head, err := l.Checkpoint(limited(t)); err != nil || head.TreeSize < 3 {
 				t.Errorf("reads: %v, %+v", err, head)
 			}
 		})
 	}
-	p.right(got)
+	p.checkLog(got)
 }
 
-// A clock that is set while the node runs stops it, and it goes on after the kernel says that the clock is right, or
-// after the clock is set right.
-func TestClockSet(t *testing.T) {
+// TestStopsAfterClockIsSet checks that a node stops if its clock is set while it runs. It goes on after the clock is
+// set right, or after the kernel reports that the clock is synchronized.
+func TestStopsAfterClockIsSet(t *testing.T) {
 	t.Parallel()
 	p, got := newPlace(t), &answers{}
 	config := p.config()
-	clock := newBent(0)
+	clock := newSkewedClock(0)
 	clock.set(0, false)
-	config.Machine.Of = clock
+	config.Machine.Clock = clock
 	l := started(t, config)
 	got.submit(t, l, 0, 3)
 	clock.set(time.Minute, false)
@@ -93,13 +94,14 @@ func TestClockSet(t *testing.T) {
 	got.submit(t, l, 6, 7)
 }
 
-// With require-synchronized-clock the kernel must always say that the clock is right.
+// TestRequiresSynchronizedClock checks that with require-synchronized-clock, a node runs only while the kernel reports
+// that the clock is synchronized.
 func TestRequiresSynchronizedClock(t *testing.T) {
 	t.Parallel()
 	p, got := newPlace(t), &answers{}
 	config := p.config()
-	clock := newBent(0)
-	config.Machine.Of, config.Machine.Clock.Synchronized = clock, true
+	clock := newSkewedClock(0)
+	config.Machine.Clock, config.Machine.ClockBounds.Synchronized = clock, true
 	l := started(t, config)
 	got.submit(t, l, 0, 3)
 	clock.set(0, false)
@@ -113,8 +115,8 @@ func TestRequiresSynchronizedClock(t *testing.T) {
 	got.submit(t, l, 5, 6)
 }
 
-// TestNameDay: a log that was stopped for more than a day continues only on the day that its operator confirms, if
-// nothing else confirms the time.
+// TestNameDay checks that a log that was stopped for more than a day goes on only on the day that its operator names,
+// if nothing else confirms the time.
 func TestNameDay(t *testing.T) {
 	t.Parallel()
 	p, got := newPlace(t), &answers{}
@@ -125,10 +127,10 @@ func TestNameDay(t *testing.T) {
 	now := time.Now().Add(later)
 	start := func() *logservice.Log {
 		config := p.config()
-		clock := newBent(later)
+		clock := newSkewedClock(later)
 		clock.set(later, false)
-		config.Machine.Of = clock
-		// The guard has the true time, and would refuse a head of the future.
+		config.Machine.Clock = clock
+		// The guard would refuse a head of the future by its own clock, so the signer has no guard.
 		config.Signer = p.key
 		return started(t, config)
 	}
@@ -146,7 +148,7 @@ func TestNameDay(t *testing.T) {
 	wants(t, logservice.NameDay(p.path("day"), "tomorrow", now), node.ErrConfig)
 	wants(t, logservice.NameDay(p.path("day"), now.Add(-later).UTC().Format("2006-01-02"), now), node.ErrClock)
 	if _, err := os.Stat(p.path("day")); err == nil {
-		t.Error("a day that is refused is kept")
+		t.Error("a refused day is stored")
 	}
 	must(t, os.WriteFile(p.path("day"), []byte(now.Add(-later).UTC().Format("2006-01-02")+"\n"), 0o600))
 	refuses("another day is named")

@@ -11,7 +11,7 @@ import (
 	"wagtenib/internal/node/decider"
 )
 
-// counts counts what the node does, for metrics: a node.Observer.
+// counts is a node.Observer, which counts for metrics what the node does.
 type counts struct {
 	events    [node.Events]atomic.Uint64
 	forwarded atomic.Uint64
@@ -19,17 +19,17 @@ type counts struct {
 
 	mu     sync.Mutex
 	phases map[string]loginterface.Phase
-	// batches says how many submissions steps had.
+	// batches has the numbers of submissions of the steps.
 	batches loginterface.Batches
-	happened
-	wentWell  time.Time
-	witnesses map[string]loginterface.Witness
+	tallies
+	lastSuccess time.Time
+	witnesses   map[string]loginterface.Witness
 }
 
-// happened has the repaired objects, the faults, and the failures beside the steps.
-type happened struct{ repairs, faults, failures tally }
+// tallies count the repaired objects, the faults, and the failures outside of steps.
+type tallies struct{ repairs, faults, failures tally }
 
-// tally counts something, and keeps a description of the last one.
+// tally counts events of one kind, and keeps a description of the last one.
 type tally struct {
 	count uint64
 	last  string
@@ -39,20 +39,20 @@ func (t *tally) add(what string) { t.count, t.last = t.count+1, what }
 
 func newCounts() *counts {
 	return &counts{
-		phases: map[string]loginterface.Phase{}, wentWell: time.Now(), witnesses: map[string]loginterface.Witness{},
-		batches: loginterface.Batches{AtMost: map[int]uint64{}},
+		phases: map[string]loginterface.Phase{}, lastSuccess: time.Now(), witnesses: map[string]loginterface.Witness{},
+		batches: loginterface.Batches{UpTo: map[int]uint64{}},
 	}
 }
 
-// phaseNames are the parts of a step in their order, by the names that metrics have.
+// phaseNames are the parts of a step in their order, by their names in metrics.
 var phaseNames = []string{"take", "look", "step", "stage", "swap", "put", "place", "sign", "answer", "delete"}
 
-// Count is node.Observer's.
+// Count implements node.Observer.
 func (c *counts) Count(of node.Event) { c.events[of].Add(1) }
 
-func (c *counts) of(event node.Event) uint64 { return c.events[event].Load() }
+func (c *counts) total(event node.Event) uint64 { return c.events[event].Load() }
 
-// Took is node.Observer's.
+// Took implements node.Observer.
 func (c *counts) Took(part string, long time.Duration) {
 	if part == decider.Head {
 		part = "sign"
@@ -60,13 +60,13 @@ func (c *counts) Took(part string, long time.Duration) {
 	c.mu.Lock()
 	defer c.mu.Unlock()
 	of := c.phases[part]
-	c.phases[part] = loginterface.Phase{Name: part, Count: of.Count + 1, Took: of.Took + long}
+	c.phases[part] = loginterface.Phase{Name: part, Count: of.Count + 1, Duration: of.Duration + long}
 }
 
-// batchBounds are the numbers of submissions by which steps are counted.
+// batchBounds are the bounds of the histogram of submissions of a step.
 var batchBounds = []int{0, 1, 2, 4, 8, 16, 32, 64, 128, 256, 512, 1024}
 
-// Decided is node.Observer's.
+// Decided implements node.Observer.
 func (c *counts) Decided(submissions, bytes int) {
 	c.written.Add(uint64(bytes))
 	c.mu.Lock()
@@ -75,51 +75,51 @@ func (c *counts) Decided(submissions, bytes int) {
 	c.batches.Submissions += uint64(submissions)
 	for _, bound := range batchBounds {
 		if submissions <= bound {
-			c.batches.AtMost[bound]++
+			c.batches.UpTo[bound]++
 		}
 	}
 }
 
-// Repaired is node.Observer's.
+// Repaired implements node.Observer.
 func (c *counts) Repaired(name string) {
 	c.mu.Lock()
 	defer c.mu.Unlock()
 	c.repairs.add(name)
 }
 
-// Faulted is node.Observer's.
+// Faulted implements node.Observer.
 func (c *counts) Faulted(err error) {
 	c.mu.Lock()
 	defer c.mu.Unlock()
-	c.faults.add(named(err).Error())
+	c.faults.add(withKind(err).Error())
 }
 
-// WentWell is node.Observer's.
+// WentWell implements node.Observer.
 func (c *counts) WentWell() {
 	c.mu.Lock()
 	defer c.mu.Unlock()
-	c.wentWell = time.Now()
+	c.lastSuccess = time.Now()
 }
 
-// failed counts something beside the steps that failed and is done later.
+// failed counts a failure outside of steps. What failed is tried again later.
 func (c *counts) failed(err error) {
 	c.mu.Lock()
 	defer c.mu.Unlock()
 	c.failures.add(err.Error())
 }
 
-// Cosigned is node.Observer's. Only whether a witness saw more is kept here: remote counts the rest.
+// Cosigned implements node.Observer. It records only whether a witness is ahead, because remote counts the rest.
 func (c *counts) Cosigned(name string, err error) {
 	if err == nil || errors.Is(err, node.ErrWitnessAhead) {
 		c.witness(name, func(w *loginterface.Witness) {
-			if w.SeenMore = err != nil; w.SeenMore {
+			if w.IsAhead = err != nil; w.IsAhead {
 				w.Missed, w.Fault = w.Missed+1, err.Error()
 			}
 		})
 	}
 }
 
-// witness changes what is known of a witness.
+// witness changes the state of a witness.
 func (c *counts) witness(name string, change func(*loginterface.Witness)) {
 	c.mu.Lock()
 	defer c.mu.Unlock()
@@ -129,11 +129,11 @@ func (c *counts) witness(name string, change func(*loginterface.Witness)) {
 	c.witnesses[name] = w
 }
 
-// into writes what was counted into the figures of a log.
-func (c *counts) into(f *loginterface.Metrics) {
-	f.LostSwaps, f.Unknown = c.of(node.LostSwap), c.of(node.UnknownSwap)
-	f.Helped, f.Repeats, f.Forwarded, f.Written = c.of(node.ResumedStep), c.of(node.Duplicate), c.forwarded.Load(),
-		c.written.Load()
+// fill writes what was counted into the metrics of a log.
+func (c *counts) fill(f *loginterface.Metrics) {
+	f.LostSwaps, f.UnknownSwaps = c.total(node.LostSwap), c.total(node.UnknownSwap)
+	f.ResumedSteps, f.Duplicates = c.total(node.ResumedStep), c.total(node.Duplicate)
+	f.Forwarded, f.WrittenBytes = c.forwarded.Load(), c.written.Load()
 	c.mu.Lock()
 	defer c.mu.Unlock()
 	for _, name := range phaseNames {
@@ -142,17 +142,17 @@ func (c *counts) into(f *loginterface.Metrics) {
 		f.Phases = append(f.Phases, of)
 	}
 	f.Steps, f.Batches = c.batches.Steps, loginterface.Batches{Steps: c.batches.Steps, Submissions: c.batches.Submissions,
-		AtMost: map[int]uint64{}}
+		UpTo: map[int]uint64{}}
 	for _, bound := range batchBounds {
-		f.Batches.AtMost[bound] = c.batches.AtMost[bound]
+		f.Batches.UpTo[bound] = c.batches.UpTo[bound]
 	}
-	f.SinceRound = time.Since(c.wentWell)
+	f.SinceRound = time.Since(c.lastSuccess)
 	f.Repaired, f.LastRepaired = c.repairs.count, c.repairs.last
 	f.Faults, f.LastFault = c.faults.count, c.faults.last
 	f.JanitorFailures, f.JanitorFailure = c.failures.count, c.failures.last
 }
 
-// Metrics is loginterface.Log's.
+// Metrics implements loginterface.Log.
 func (l *Log) Metrics() loginterface.Metrics {
 	f := loginterface.Metrics{Queue: l.node.Waiting(), MaxQueue: l.config.Pace.MaxQueue}
 	if counted, ok := l.config.Signer.(interface{ Starts() uint64 }); ok {
@@ -161,20 +161,20 @@ func (l *Log) Metrics() loginterface.Metrics {
 	if verifying, ok := l.config.Signer.(interface{ WrongSignatures() uint64 }); ok {
 		f.WrongSignatures = verifying.WrongSignatures()
 	}
-	l.counts.into(&f)
+	l.counts.fill(&f)
 	if head := l.node.Known(); head != nil {
 		f.Entries = head.Size
-		f.HeadAge = time.Duration(l.config.Machine.Of.Now().UnixMilli()-int64(head.Timestamp)) * time.Millisecond
+		f.HeadAge = time.Duration(l.config.Machine.Clock.Now().UnixMilli()-int64(head.Timestamp)) * time.Millisecond
 	}
 	if decided := l.node.Decided(); decided.Size > f.Entries {
 		f.Unpublished = decided.Size - f.Entries
 	}
 	if err := l.node.Fault(); err != nil {
-		f.Fault = named(err).Error()
+		f.Fault = withKind(err).Error()
 	}
 	report := l.janitor.Report()
-	f.DeletedTiles, f.DeletedHeads, f.DeletedBatches, f.Staged, f.RereadTiles = report.Tiles, report.Heads, report.Staged,
-		report.Listed, report.Reread
+	f.DeletedTiles, f.DeletedHeads, f.DeletedBatches = report.Tiles, report.Heads, report.Staged
+	f.StagedBatches, f.RereadTiles = report.Listed, report.Reread
 	f.DeletedTo, f.ReadNext, f.Damaged = report.DeletedTo, report.Next, len(report.Damaged)
 	if f.JanitorFailures += report.Failures; report.Failed != nil {
 		f.JanitorFailure = report.Failed.Error()
@@ -189,7 +189,7 @@ func (l *Log) Metrics() loginterface.Metrics {
 		f.Damage = report.Damaged[first].Error()
 	}
 	for _, r := range l.running.remotes {
-		f.Witnesses = append(f.Witnesses, r.standing())
+		f.Witnesses = append(f.Witnesses, r.state())
 	}
 	return f
 }

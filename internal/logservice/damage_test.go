@@ -15,14 +15,14 @@ import (
 	"wagtenib/internal/stores"
 )
 
-// damages are ways in which a file is not what was written.
+// damages has ways to damage a file.
 var damages = map[string]func(path string) error{
-	"bent": func(path string) error {
+	"changed": func(path string) error {
 		content, err := os.ReadFile(path)
 		if err != nil {
 			return err
 		}
-		// In the part of a data tile's first entry that is in the tree.
+		// In a data tile, this byte is in the part of the first entry that the tree covers.
 		content[min(20, len(content)-1)] ^= 1
 		return os.WriteFile(path, content, 0o644)
 	},
@@ -31,9 +31,9 @@ var damages = map[string]func(path string) error{
 	"removed": os.Remove,
 }
 
-// A full tile of the published tree that is not the tree's, or is missing, is a fault of the store until it is put
-// back. It counts as damaged, and keeps no other one from being read.
-func TestDamagedTilesAreNotGiven(t *testing.T) {
+// TestDamagedTilesAreNotServed checks that a full tile of the published tree that is missing or differs from the tree
+// is a fault of the store until it is restored. It counts as damaged. Other tiles can be read meanwhile.
+func TestDamagedTilesAreNotServed(t *testing.T) {
 	t.Parallel()
 	p, got, ctx := newPlace(t), &answers{}, limited(t)
 	l := started(t, p.config())
@@ -50,10 +50,10 @@ func TestDamagedTilesAreNotGiven(t *testing.T) {
 				t.Errorf("%s, %s: %d tiles are damaged, %q", name, how, f.Damaged, f.Damage)
 			}
 			if _, err := l.Object(ctx, full[(i+2)%len(full)], stores.MaxObject); err != nil {
-				t.Errorf("%s is %s, and another one: %v", name, how, err)
+				t.Errorf("%s is %s, and another tile cannot be read: %v", name, how, err)
 			}
 			must(t, os.WriteFile(p.object(name), content, 0o644))
-			if given, err := l.Object(ctx, name, stores.MaxObject); err != nil || !bytes.Equal(given, content) {
+			if served, err := l.Object(ctx, name, stores.MaxObject); err != nil || !bytes.Equal(served, content) {
 				t.Errorf("%s after it was %s: %v", name, how, err)
 			}
 		}
@@ -73,13 +73,13 @@ func TestDamagedTilesAreNotGiven(t *testing.T) {
 	wants(t, err, loginterface.ErrStore)
 }
 
-// A duplicate whose data tile is damaged is refused, and everything else goes on. The janitor sees when the tile is put
-// back.
-func TestDamageOfADuplicate(t *testing.T) {
+// TestRefusesDuplicateInDamagedTile checks that a duplicate whose data tile is damaged is refused, and that everything
+// else goes on. The janitor notices when the tile is restored.
+func TestRefusesDuplicateInDamagedTile(t *testing.T) {
 	t.Parallel()
 	p, got := newPlace(t), &answers{}
 	config := p.config()
-	config.Keep.Every = 5 * time.Millisecond
+	config.Keep.Interval = 5 * time.Millisecond
 	l := started(t, config)
 	got.submit(t, l, 0, 300)
 	const name = "tile/data/000"
@@ -107,9 +107,9 @@ func TestDamageOfADuplicate(t *testing.T) {
 		t.Errorf("%+v", f)
 	}
 	must(t, os.WriteFile(p.object(name), content, 0o644))
-	eventually(t, "it is whole", func() bool { return l.Metrics().Damaged == 0 })
+	eventually(t, "the tile counts as right", func() bool { return l.Metrics().Damaged == 0 })
 	got.submit(t, l, 0, 256)
-	if leaves := p.right(got); leaves != 310 {
+	if leaves := p.checkLog(got); leaves != 310 {
 		t.Errorf("%d entries", leaves)
 	}
 }
@@ -121,8 +121,9 @@ func issuerOf(number int) (name string, content []byte) {
 	return "issuer/" + hex.EncodeToString(fingerprint[:]), content
 }
 
-// A damaged issuer is seen, and is put again with the next submission that has it, or at once by the node that put it.
-func TestIssuers(t *testing.T) {
+// TestRepairsIssuers checks that a damaged issuer is found. The next submission with it stores it again, or the node
+// does by itself if it knows the issuer's bytes.
+func TestRepairsIssuers(t *testing.T) {
 	t.Parallel()
 	p, got := newPlace(t), &answers{}
 	l := started(t, p.config())
@@ -133,26 +134,26 @@ func TestIssuers(t *testing.T) {
 		name, content := issuerOf(number)
 		must(t, damage(p.object(name)))
 		config := p.config()
-		config.Keep.Every, config.Keep.Reread = 5*time.Millisecond, 5*time.Millisecond
+		config.Keep.Interval, config.Keep.Reread = 5*time.Millisecond, 5*time.Millisecond
 		config.Keep.Tiles = time.Millisecond
 		l := started(t, config)
 		got.submit(t, l, number+1, number+2)
-		eventually(t, how+": it is seen", func() bool {
+		eventually(t, how+": the damage is found", func() bool {
 			f := l.Metrics()
 			return f.DamagedIssuers == 1 && strings.Contains(f.Damage, name)
 		})
 		got.submit(t, l, number, number+1)
-		eventually(t, how+": it is right", func() bool { return l.Metrics().DamagedIssuers == 0 })
+		eventually(t, how+": the issuer counts as right", func() bool { return l.Metrics().DamagedIssuers == 0 })
 		if f := l.Metrics(); f.Repaired != 1 || f.LastRepaired != name {
-			t.Errorf("%s: %d objects are made again, the last is %s", how, f.Repaired, f.LastRepaired)
+			t.Errorf("%s: %d objects are repaired, the last is %s", how, f.Repaired, f.LastRepaired)
 		}
 		must(t, damage(p.object(name)))
-		eventually(t, how+": it is put again without a submission", func() bool {
+		eventually(t, how+": the issuer is stored again without a submission", func() bool {
 			stored, err := os.ReadFile(p.object(name))
 			return err == nil && bytes.Equal(stored, content)
 		})
 		ends(t, l)
 		number += 5
 	}
-	p.right(got)
+	p.checkLog(got)
 }

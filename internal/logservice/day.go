@@ -9,8 +9,8 @@ import (
 	"wagtenib/internal/stores"
 )
 
-// dayForm is how a day is written.
-const dayForm = "2006-01-02"
+// dayFormat is the format of a day.
+const dayFormat = "2006-01-02"
 
 // isOn reports whether a time is on a day, anywhere on earth.
 func isOn(day, at time.Time) bool {
@@ -18,23 +18,23 @@ func isOn(day, at time.Time) bool {
 	return since >= -14*time.Hour && since < 36*time.Hour
 }
 
-// NameDay keeps the day in a file that nodes of this machine have as Files.NamedDay, if the machine's clock says that
-// it is that day. On it a node starts although nothing else says what time it is, and the newest head is old. The error
-// is node.ErrConfig if the day is none, and node.ErrClock if it is another one.
+// NameDay writes the day into the file that nodes of this machine have as Files.NamedDay, if it is that day by the
+// machine's clock. On that day, a node starts although no other clock confirms the time and the newest head is old. The
+// error is node.ErrConfig if the text is not a day, and node.ErrClock if it is another day by the clock.
 func NameDay(path, day string, now time.Time) error {
-	named, err := time.Parse(dayForm, day)
+	named, err := time.Parse(dayFormat, day)
 	if err != nil {
-		return fmt.Errorf("%w: %q is no day (write it as %s)", node.ErrConfig, day, dayForm)
+		return fmt.Errorf("%w: %q is no day (write it like %s)", node.ErrConfig, day, dayFormat)
 	}
 	if !isOn(named, now) {
 		return fmt.Errorf("%w: this machine's clock says %s (set it right first)", node.ErrClock,
 			now.UTC().Format(time.RFC3339))
 	}
-	// A node may run as another user than the one that names the day.
+	// The node may run as another user than the operator who names the day.
 	return stores.ShowFile(path, []byte(day+"\n"))
 }
 
-// readDay reads the day that NameDay kept; stores.ErrAbsent if there is none.
+// readDay reads the day that NameDay wrote. The error is stores.ErrAbsent if there is none.
 func readDay(path string) (time.Time, error) {
 	if path == "" {
 		return time.Time{}, stores.ErrAbsent
@@ -43,9 +43,9 @@ func readDay(path string) (time.Time, error) {
 	if err != nil {
 		return time.Time{}, err
 	}
-	day, err := time.Parse(dayForm, strings.TrimSuffix(string(content), "\n"))
+	day, err := time.Parse(dayFormat, strings.TrimSuffix(string(content), "\n"))
 	if err != nil {
-		return time.Time{}, fmt.Errorf("%s names no day: %.80q", path, content)
+		return time.Time{}, fmt.Errorf("%s contains no day: %.80q (write it again by ctserve clock)", path, content)
 	}
 	return day, nil
 }

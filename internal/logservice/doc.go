@@ -1,12 +1,13 @@
-// Package logservice serves one log out of a node: it is what internal/httpserver asks (internal/loginterface.Log). The
-// node decides (internal/node), and this package has all that the node needs of a machine, and that readers need of a
-// log.
+// Package logservice serves one log with a node. It implements loginterface.Log, which internal/httpserver calls. The
+// node decides (internal/node). This package gives the node what it needs from the machine, and gives readers what they
+// need from the log.
 //
-//   - logservice.go opens the log, and takes submissions;
+//   - logservice.go opens and ends the log, and submit.go takes submissions;
 //   - reads.go and objects.go read heads and objects for clients, and compare each full tile with the tree;
-//   - issuers.go puts the certificates of issuers, once each;
-//   - index.go sees that the index is the log's, and builds it again;
-//   - clock.go and sources.go have the clocks, and memory.go the newest head that this machine accepted;
+//   - issuers.go stores the certificates of issuers, and remote.go asks witnesses for cosignatures;
+//   - index.go checks that the index belongs to the log, finder.go looks entries up in it, and rebuild.go builds a lost
+//     one again;
+//   - clock.go, sources.go and day.go have the clocks, and memory.go the newest head that this machine accepted;
 //   - counts.go counts for metrics;
 //   - forward.go forwards submissions to the node that makes the steps.
 package logservice

@@ -9,18 +9,19 @@ import (
 	"wagtenib/internal/stores"
 )
 
-// maxJoined is how many identities a lookup has at most that shares a call with others.
+// maxJoined is the maximum number of identities of a lookup that shares a call with others.
 const maxJoined = 8
 
-// finder has lookups that come at the same time share a call to the index: each submission looks up one identity.
-// Lookups that come while a call is made share the next one.
+// finder is an index in which simultaneous lookups share a call, because each submission looks up one identity. Lookups
+// that come while a call is being made share the next one.
 type finder struct {
 	stores.Index
 
 	mu sync.Mutex
-	// next has not begun; nil if nobody waits for it. isGoing says that somebody makes one call after the other.
-	next    *lookup
-	isGoing bool
+	// next is the call that has not begun yet. It is nil if no lookup waits for it. isRunning is true while run makes
+	// one call after the other.
+	next      *lookup
+	isRunning bool
 }
 
 // lookup is one call. Its result and its error may be read after done is closed.
@@ -31,7 +32,7 @@ type lookup struct {
 	err        error
 }
 
-// Find is stores.Index's.
+// Find implements stores.Index.
 func (f *finder) Find(ctx context.Context, identities []stores.Identity) (map[stores.Identity]stores.Place, error) {
 	if len(identities) > maxJoined {
 		return f.Index.Find(ctx, identities)
@@ -54,7 +55,8 @@ func (f *finder) Find(ctx context.Context, identities []stores.Identity) (map[st
 	return found, nil
 }
 
-// join adds identities to the call that begins next. If it has room for no more, or none is being made, one begins now.
+// join adds identities to the next call, and returns that. If the next call has no room for them, it begins now, and
+// they are added to a new one. If no call is being made, the next one begins now.
 func (f *finder) join(identities []stores.Identity) *lookup {
 	f.mu.Lock()
 	defer f.mu.Unlock()
@@ -70,19 +72,19 @@ func (f *finder) join(identities []stores.Identity) *lookup {
 	for _, identity := range identities {
 		joined.identities[identity] = true
 	}
-	if !f.isGoing {
-		f.isGoing = true
-		go f.goOn()
+	if !f.isRunning {
+		f.isRunning = true
+		go f.run()
 	}
 	return joined
 }
 
-// goOn makes calls as long as somebody waits for one.
-func (f *finder) goOn() {
+// run makes calls as long as a lookup waits for one.
+func (f *finder) run() {
 	for {
 		f.mu.Lock()
 		now := f.next
-		f.next, f.isGoing = nil, now != nil
+		f.next, f.isRunning = nil, now != nil
 		f.mu.Unlock()
 		if now == nil {
 			return
@@ -91,7 +93,7 @@ func (f *finder) goOn() {
 	}
 }
 
-// call makes one call. It has a time limit of its own, since it is shared.
+// call makes one call. It has a time limit of its own, because it is shared.
 func (f *finder) call(of *lookup) {
 	ctx, cancel := context.WithTimeout(context.Background(), callWithin)
 	defer cancel()

@@ -19,28 +19,29 @@ import (
 )
 
 const (
-	// dialWithin and handshakeWithin are how long a connection to another node may take, and forwardWithin how long its
-	// answer may.
+	// dialWithin and handshakeWithin are the maximum times to connect to another node and for the TLS handshake, and
+	// forwardWithin is that for its answer.
 	dialWithin, handshakeWithin, forwardWithin = time.Second, 2 * time.Second, 10 * time.Second
-	// awayFor is for how long a node does all itself after another one did not answer.
+	// awayFor is the time for which a node forwards nothing after the other one did not answer.
 	awayFor = 2 * time.Second
-	// maxOpen is how many connections to another node there are. Further requests wait for one. All are kept for a while:
-	// clients are answered together, and submit together again.
+	// maxOpen is the maximum number of connections to another node. Further requests wait for one. All are kept open
+	// for a while, because clients are answered together and then submit together again.
 	maxOpen = 1024
-	// maxAnswer is how many bytes an answer may have.
+	// maxAnswer is the maximum number of bytes of an answer.
 	maxAnswer = 64 << 10
-	// dateHeader has a node's clock when it answers (RFC 9110, section 6.6.1).
+	// dateHeader is the header with the time of a node's clock at its answer (RFC 9110, section 6.6.1).
 	dateHeader = "Date"
 )
 
-// Forwarder forwards submissions to the node that makes the steps, over mutual TLS (RFC 8446, section 4.4.2). It never
-// forwards what another node forwarded: the listener for nodes marks that.
+// Forwarder forwards submissions to the node that makes the steps, over mutual TLS (RFC 8446, section 4.4.2). A
+// submission that another node forwarded is never forwarded again: the listener for nodes marks it.
 type Forwarder struct {
 	log       *Log
 	transport *http.Transport
 
 	mu sync.Mutex
-	// awayUntil is until when nothing is forwarded to a node that did not answer, by Elapsed.
+	// awayUntil has, for the address of a node that did not answer, the time by Elapsed until which nothing is
+	// forwarded to it.
 	awayUntil map[string]time.Duration
 }
 
@@ -49,8 +50,8 @@ var (
 	errPlain = errors.New("serve: the node that makes the steps has no https address (give it one by --nodes-address)")
 )
 
-// Forward has a log's submissions forwarded, by a client's configuration of TLS, which must have a certificate and the
-// CA of the nodes.
+// Forward returns a forwarder for a log's submissions. The TLS configuration is that of a client, and must have a
+// certificate and the CA of the nodes.
 func (l *Log) Forward(over *tls.Config) *Forwarder {
 	f := &Forwarder{log: l, awayUntil: map[string]time.Duration{}}
 	f.transport = &http.Transport{
@@ -59,11 +60,11 @@ func (l *Log) Forward(over *tls.Config) *Forwarder {
 		IdleConnTimeout: time.Minute, MaxIdleConnsPerHost: maxOpen, MaxConnsPerHost: maxOpen, DisableCompression: true,
 	}
 	ask := f.askTime
-	l.running.ask.Store(&ask)
+	l.running.askNode.Store(&ask)
 	return f
 }
 
-// leader returns the URL of the node that makes the steps, or nil if no other one does.
+// leader returns the URL of the node that makes the steps. It returns nil if no other node makes them.
 func (f *Forwarder) leader() (*url.URL, error) {
 	address := f.log.node.Leader()
 	if address == "" {
@@ -75,7 +76,7 @@ func (f *Forwarder) leader() (*url.URL, error) {
 	}
 	f.mu.Lock()
 	defer f.mu.Unlock()
-	if f.log.config.Machine.Of.Elapsed() < f.awayUntil[address] {
+	if f.log.config.Machine.Clock.Elapsed() < f.awayUntil[address] {
 		return nil, errAway
 	}
 	return to, nil
@@ -92,7 +93,7 @@ func (f *Forwarder) Forward(w http.ResponseWriter, r *http.Request, client netip
 	if err != nil {
 		if r.Context().Err() == nil {
 			f.mu.Lock()
-			f.awayUntil = map[string]time.Duration{f.log.node.Leader(): f.log.config.Machine.Of.Elapsed() + awayFor}
+			f.awayUntil = map[string]time.Duration{f.log.node.Leader(): f.log.config.Machine.Clock.Elapsed() + awayFor}
 			f.mu.Unlock()
 		}
 		return false, err
@@ -105,13 +106,14 @@ func (f *Forwarder) Forward(w http.ResponseWriter, r *http.Request, client netip
 	}
 	w.Header().Set("Content-Length", strconv.Itoa(len(content)))
 	w.WriteHeader(answer.StatusCode)
-	// (a write that fails concerns only the client)
+	// A failed write concerns only the client.
 	_, _ = w.Write(content)
 	return true, nil
 }
 
 // submit submits a body to another node, and returns its answer with the content. The client's address is the only
-// X-Forwarded-For. An answer that is not whole, or is of 500 or more, is an error: this node takes the submission itself.
+// X-Forwarded-For. An answer that is not whole, or is of 500 or more, is an error: this node takes the submission
+// itself.
 func (f *Forwarder) submit(ctx context.Context, to *url.URL, path string, client netip.Addr,
 	body []byte) (answer *http.Response, content []byte, err error) {
 	ctx, cancel := context.WithTimeout(ctx, forwardWithin)
@@ -121,18 +123,18 @@ func (f *Forwarder) submit(ctx context.Context, to *url.URL, path string, client
 		return nil, nil, fmt.Errorf("serve: forward: %w", err)
 	}
 	request.Header = http.Header{"Content-Type": {"application/json"}, "X-Forwarded-For": {client.String()}}
-	asked := f.log.config.Machine.Of.Elapsed()
+	asked := f.log.config.Machine.Clock.Elapsed()
 	if answer, err = f.transport.RoundTrip(request); err != nil {
 		return nil, nil, fmt.Errorf("serve: forward: %w", err)
 	}
 	defer answer.Body.Close()
-	f.hearTime(answer, to, asked)
+	f.recordTime(answer, to, asked)
 	if answer.StatusCode >= http.StatusInternalServerError {
 		return nil, nil, fmt.Errorf("serve: the node that makes the steps answers %s", answer.Status)
 	}
 	content, err = io.ReadAll(io.LimitReader(answer.Body, maxAnswer+1))
 	if err == nil && len(content) > maxAnswer {
-		err = fmt.Errorf("its answer has more than %d bytes", maxAnswer)
+		err = fmt.Errorf("the answer has more than %d bytes", maxAnswer)
 	}
 	if err != nil {
 		return nil, nil, fmt.Errorf("serve: forward: %w", err)
@@ -140,14 +142,14 @@ func (f *Forwarder) submit(ctx context.Context, to *url.URL, path string, client
 	return answer, content, nil
 }
 
-// hearTime keeps the time of another node's answer. asked is when, by Elapsed, it was asked.
-func (f *Forwarder) hearTime(answer *http.Response, of *url.URL, asked time.Duration) {
+// recordTime records the time in another node's answer. asked is the time by Elapsed at which it was asked.
+func (f *Forwarder) recordTime(answer *http.Response, of *url.URL, asked time.Duration) {
 	if at, err := http.ParseTime(answer.Header.Get(dateHeader)); err == nil {
-		f.log.sources.hearNode(of.Host, at, asked)
+		f.log.sources.recordNode(of.Host, at, asked)
 	}
 }
 
-// askTime asks the node that makes the steps, if another one does, what time it has. One that does not answer is asked
+// askTime asks the node that makes the steps for its time, if it is another one. A node that does not answer is asked
 // again later.
 func (f *Forwarder) askTime(ctx context.Context) {
 	to, err := f.leader()
@@ -160,25 +162,25 @@ func (f *Forwarder) askTime(ctx context.Context) {
 	if err != nil {
 		return
 	}
-	asked := f.log.config.Machine.Of.Elapsed()
+	asked := f.log.config.Machine.Clock.Elapsed()
 	answer, err := f.transport.RoundTrip(request)
 	if err != nil {
 		return
 	}
 	// The answer to HEAD has no body, so closing it cannot fail in a way that matters.
 	_ = answer.Body.Close()
-	f.hearTime(answer, to, asked)
+	f.recordTime(answer, to, asked)
 }
 
-// Close closes the connections that are kept.
+// Close closes the idle connections.
 func (f *Forwarder) Close() { f.transport.CloseIdleConnections() }
 
-// OfNodes returns the handler for requests that other nodes forward, over a handler for submissions. It sends no time
+// OfNodes returns the handler for requests that other nodes forward. It calls the front's handler, and sends no time
 // while this node's clock is wrong, so that two nodes with the same wrong time do not confirm each other.
 func (l *Log) OfNodes(front http.Handler) http.Handler {
 	return http.HandlerFunc(func(w http.ResponseWriter, r *http.Request) {
 		if errors.Is(l.node.Fault(), node.ErrClock) {
-			// A nil value keeps net/http from setting one.
+			// A nil value keeps net/http from adding the header.
 			w.Header()[dateHeader] = nil
 		}
 		front.ServeHTTP(w, r)

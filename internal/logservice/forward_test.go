@@ -16,7 +16,7 @@ import (
 	"wagtenib/internal/logservice"
 )
 
-// otherNode is what a test has in place of another node of the log: a server over TLS.
+// otherNode is a TLS server that stands in for another node of the log.
 type otherNode struct {
 	*httptest.Server
 	status, asked atomic.Int64
@@ -44,22 +44,22 @@ func newOtherNode(t *testing.T) *otherNode {
 	return o
 }
 
-// over is the TLS of a client of the other node.
-func (o *otherNode) over() *tls.Config {
+// config returns the TLS configuration of a client of the other node.
+func (o *otherNode) config() *tls.Config {
 	pool := x509.NewCertPool()
 	pool.AddCert(o.Certificate())
 	return &tls.Config{RootCAs: pool}
 }
 
-// leads has the other node set the newest state: the test swaps the lock's text for one with its address.
+// leads makes the newest state name the other node's address.
 func (p *place) leads(t *testing.T, l *logservice.Log, address string) {
 	t.Helper()
-	// Only a node makes a step, so another one of this log does, whose address is the other's.
+	// Only a node can make a step, so a second node of this log with that address makes one.
 	config := p.config()
 	config.Address, config.Machine.Files.LatestHead = address, p.path("other-latest-head")
 	other := started(t, config)
 	var before loginterface.Head
-	eventually(t, "the first head is published", func() (is bool) {
+	eventually(t, "the first head is published", func() bool {
 		var err error
 		before, err = l.Checkpoint(limited(t))
 		return err == nil
@@ -69,7 +69,7 @@ func (p *place) leads(t *testing.T, l *logservice.Log, address string) {
 	ends(t, other)
 }
 
-// forwards forwards one request, and reports whether it was answered, with what.
+// forwards forwards one request. It reports whether the request was answered, and returns the answer's text.
 func forwards(f *logservice.Forwarder) (isAnswered bool, text string, err error) {
 	w := httptest.NewRecorder()
 	r := httptest.NewRequest(http.MethodPost, "/ct/v1/add-chain", nil)
@@ -77,18 +77,19 @@ func forwards(f *logservice.Forwarder) (isAnswered bool, text string, err error)
 	return isAnswered, w.Body.String(), err
 }
 
-// A node forwards to the node that set the newest state, with the client's address. It takes the submission itself if
-// the other one answers with 500 or more, or not at all, and asks it no more for a while.
+// TestForward checks that a node forwards to the node that made the newest state, with the client's address. If the
+// other one answers with 500 or more, or not at all, the node takes the submission itself, and does not ask the other
+// one for a while.
 func TestForward(t *testing.T) {
 	t.Parallel()
 	p, o := newPlace(t), newOtherNode(t)
 	config := p.config()
 	config.Address = "https://192.0.2.1"
 	l := started(t, config)
-	f := l.Forward(o.over())
+	f := l.Forward(o.config())
 	defer f.Close()
 	if isAnswered, _, err := forwards(f); isAnswered || err != nil {
-		t.Errorf("no other node makes steps: %t, %v", isAnswered, err)
+		t.Errorf("no other node makes the steps: %t, %v", isAnswered, err)
 	}
 	p.leads(t, l, o.URL)
 	eventually(t, "it is forwarded", func() bool {
@@ -98,11 +99,11 @@ func TestForward(t *testing.T) {
 		}
 		return isAnswered
 	})
-	if said := <-o.clients; said != "[192.0.2.7]/ct/v1/add-chainthe body" {
-		t.Errorf("the other node gets %s", said)
+	if received := <-o.clients; received != "[192.0.2.7]/ct/v1/add-chainthe body" {
+		t.Errorf("the other node gets %s", received)
 	}
 	if f := l.Metrics(); f.Forwarded != 1 {
-		t.Errorf("%d are forwarded", f.Forwarded)
+		t.Errorf("%d submissions are forwarded", f.Forwarded)
 	}
 	o.status.Store(http.StatusServiceUnavailable)
 	p.leads(t, l, o.URL)
@@ -115,14 +116,14 @@ func TestForward(t *testing.T) {
 	})
 	asked := o.asked.Load()
 	if isAnswered, _, err := forwards(f); isAnswered || err == nil || o.asked.Load() != asked {
-		t.Errorf("it is asked again at once: %t, %v", isAnswered, err)
+		t.Errorf("the other node is asked again at once: %t, %v", isAnswered, err)
 	}
 	_, err := l.Submit(loginterface.Forwarded(limited(t)), entryOf(1))
 	must(t, err)
 }
 
-// A submission that may be forwarded does not wait here while another node makes the steps, and one that must not be
-// does.
+// TestElsewhere checks that a submission that may be forwarded does not wait here while another node makes the steps,
+// and that one that must not be forwarded does.
 func TestElsewhere(t *testing.T) {
 	t.Parallel()
 	p, o := newPlace(t), newOtherNode(t)
@@ -132,8 +133,8 @@ func TestElsewhere(t *testing.T) {
 	config.Stores.Objects = held
 	l := started(t, config)
 	// Nothing can be staged here, so both wait.
-	letGo := held.hold()
-	defer letGo()
+	release := held.hold()
+	defer release()
 	movable, own := make(chan error, 1), make(chan error, 1)
 	go func() {
 		_, err := l.Submit(loginterface.Forwarded(limited(t)), entryOf(1))
@@ -146,15 +147,16 @@ func TestElsewhere(t *testing.T) {
 	}()
 	eventually(t, "both wait", func() bool { return l.Metrics().Queue == 2 })
 	p.leads(t, l, o.URL)
-	letGo()
+	release()
 	if err := <-movable; err != nil && !errors.Is(err, loginterface.ErrElsewhere) {
-		t.Errorf("the movable one: %v", err)
+		t.Errorf("the submission that may be forwarded: %v", err)
 	}
 	must(t, <-own)
 }
 
-// A node whose address has no https, as the nodes of earlier versions have, gets nothing.
-func TestForwardsOverTLSOnly(t *testing.T) {
+// TestForwardsOnlyOverTLS checks that nothing is forwarded to a node whose address is not https, as those of nodes of
+// earlier versions.
+func TestForwardsOnlyOverTLS(t *testing.T) {
 	t.Parallel()
 	p := newPlace(t)
 	config := p.config()

@@ -12,14 +12,15 @@ import (
 	"wagtenib/internal/node"
 )
 
-// A client that goes away says nothing of the other node, which is still asked. An answer of 500 is none.
-func TestForwardOfAClientThatGoes(t *testing.T) {
+// TestForwardsAfterClientWent checks that a node still forwards after a client went away, which is not the other node's
+// fault. An answer of 500 is not passed on.
+func TestForwardsAfterClientWent(t *testing.T) {
 	t.Parallel()
 	p, o := newPlace(t), newOtherNode(t)
 	config := p.config()
 	config.Address = "https://192.0.2.1"
 	l := started(t, config)
-	f := l.Forward(o.over())
+	f := l.Forward(o.config())
 	defer f.Close()
 	p.leads(t, l, o.URL)
 	isForwarded := func() bool {
@@ -37,7 +38,7 @@ func TestForwardOfAClientThatGoes(t *testing.T) {
 		r := httptest.NewRequest(http.MethodPost, "/ct/v1/add-chain", nil).WithContext(gone)
 		isAnswered, err := f.Forward(httptest.NewRecorder(), r, netip.MustParseAddr("192.0.2.7"), []byte("a body"))
 		if isAnswered {
-			t.Fatal("a client that is gone is answered")
+			t.Fatal("a client that went away is answered")
 		}
 		return err != nil
 	})
@@ -53,15 +54,15 @@ func TestForwardOfAClientThatGoes(t *testing.T) {
 	})
 }
 
-// A node whose clock is wrong sends the other nodes no time, so that two with the same wrong time do not confirm each
-// other.
-func TestNoTimeOfAWrongClock(t *testing.T) {
+// TestSendsNoTimeOfWrongClock checks that a node whose clock is wrong sends no time to other nodes, so that two nodes
+// with the same wrong time do not confirm each other.
+func TestSendsNoTimeOfWrongClock(t *testing.T) {
 	t.Parallel()
 	p, got := newPlace(t), &answers{}
 	config := p.config()
-	clock := newBent(0)
+	clock := newSkewedClock(0)
 	clock.set(0, false)
-	config.Machine.Of = clock
+	config.Machine.Clock = clock
 	l := started(t, config)
 	got.submit(t, l, 0, 3)
 	over := httptest.NewServer(l.OfNodes(http.NotFoundHandler()))
@@ -72,18 +73,19 @@ func TestNoTimeOfAWrongClock(t *testing.T) {
 		must(t, answer.Body.Close())
 		return answer.Header.Values("Date")
 	}
-	if said := dates(); len(said) != 1 {
-		t.Errorf("with a right clock it says %q", said)
+	if sent := dates(); len(sent) != 1 {
+		t.Errorf("with a right clock, the node sends the times %q", sent)
 	}
 	clock.set(time.Minute, false)
 	_, err := l.Submit(limited(t), entryOf(5))
 	wants(t, err, loginterface.ErrClock, node.ErrClock)
-	if said := dates(); len(said) != 0 {
-		t.Errorf("with a wrong clock it says %q", said)
+	if sent := dates(); len(sent) != 0 {
+		t.Errorf("with a wrong clock, the node sends the times %q", sent)
 	}
 }
 
-// A submission that waits for a step, and may be forwarded, leaves the queue once another node makes the steps.
+// TestWaitingSubmissionMoves checks that a waiting submission that may be forwarded leaves the queue when another node
+// makes the steps.
 func TestWaitingSubmissionMoves(t *testing.T) {
 	t.Parallel()
 	p, o := newPlace(t), newOtherNode(t)
@@ -92,8 +94,8 @@ func TestWaitingSubmissionMoves(t *testing.T) {
 	held := &slow{Objects: config.Stores.Objects}
 	config.Stores.Objects = held
 	l := started(t, config)
-	letGo := held.hold()
-	defer letGo()
+	release := held.hold()
+	defer release()
 	own, movable := make(chan error, 1), make(chan error, 1)
 	go func() {
 		_, err := l.Submit(loginterface.Forwarded(limited(t)), entryOf(1))
@@ -106,13 +108,13 @@ func TestWaitingSubmissionMoves(t *testing.T) {
 	}()
 	eventually(t, "both wait", func() bool { return l.Metrics().Queue == 2 })
 	p.leads(t, l, o.URL)
-	letGo()
+	release()
 	wants(t, <-movable, loginterface.ErrElsewhere)
 	must(t, <-own)
 }
 
-// TestForwardOfBrokenAnswer: an answer that breaks off is none. Nothing of it is written, so this node takes the
-// submission itself.
+// TestForwardOfBrokenAnswer checks that nothing of an answer that breaks off is passed on, so that this node can take
+// the submission itself.
 func TestForwardOfBrokenAnswer(t *testing.T) {
 	t.Parallel()
 	p, o := newPlace(t), newOtherNode(t)
@@ -127,7 +129,7 @@ func TestForwardOfBrokenAnswer(t *testing.T) {
 	config := p.config()
 	config.Address = "https://192.0.2.1"
 	l := started(t, config)
-	f := l.Forward(o.over())
+	f := l.Forward(o.config())
 	defer f.Close()
 	p.leads(t, l, breaks.URL)
 	eventually(t, "the answer breaks off", func() bool {

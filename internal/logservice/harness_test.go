@@ -32,7 +32,7 @@ var must, wants = testutil.Must, testutil.Wants
 // limited returns a context that ends with the longest time that a test may take.
 func limited(t testing.TB) context.Context { return testutil.Limited(t, testutil.Longest) }
 
-// place is a folder with a log's key, its stores and what its machine keeps.
+// place is a folder with a log's key, its stores and the files of its machine.
 type place struct {
 	t      testing.TB
 	folder string
@@ -55,11 +55,11 @@ func newPlace(t testing.TB) *place {
 
 func (p *place) path(name string) string { return filepath.Join(p.folder, name) }
 
-// object is the path of an object.
+// object returns the path of an object.
 func (p *place) object(name string) string { return filepath.Join(p.folder, "objects", name) }
 
-// opened returns the index. It is opened once, for all configurations, since only one can have its folder open. If a
-// test took the folder away, it is opened again.
+// opened returns the index. It is opened once for all configurations, because its folder can be opened only once. If a
+// test removed the folder, the index is opened again.
 func (p *place) opened() stores.Index {
 	p.t.Helper()
 	if _, err := os.Stat(p.path("index")); p.index != nil && err == nil {
@@ -76,8 +76,8 @@ func (p *place) opened() stores.Index {
 	return p.index
 }
 
-// config opens the stores, and closes them at the test's end. Its janitor waits for an hour, and the kernel says that
-// its clock is right.
+// config opens the stores, and closes them at the test's end. The janitor waits for an hour, and the kernel reports
+// that the clock is synchronized.
 func (p *place) config() logservice.Config {
 	p.t.Helper()
 	ctx := limited(p.t)
@@ -85,9 +85,9 @@ func (p *place) config() logservice.Config {
 		Origin: "log.example/tried", Create: true,
 		Pace: logservice.Pace{Interval: 5 * time.Millisecond, Refresh: time.Hour, MaxWritten: 16 << 20,
 			MaxBatch: logservice.MaxBatch, MaxQueue: 4096},
-		Keep: logservice.Keep{Heads: time.Hour, Tiles: 5 * time.Minute, Every: time.Hour, Reread: time.Hour},
+		Keep: logservice.Keep{Heads: time.Hour, Tiles: 5 * time.Minute, Interval: time.Hour, Reread: time.Hour},
 		Machine: logservice.MachineConfig{Files: logservice.Files{LatestHead: p.path("latest-head"), NamedDay: p.path("day")},
-			Clock: logservice.ClockBounds{MaxSkew: 10 * time.Second}, Of: newBent(0)},
+			ClockBounds: logservice.ClockBounds{MaxSkew: 10 * time.Second}, Clock: newSkewedClock(0)},
 	}
 	objects, err := stores.ObjectsAt(ctx, "folder:"+p.path("objects"))
 	must(p.t, err)
@@ -102,13 +102,13 @@ func (p *place) config() logservice.Config {
 	return config
 }
 
-// started opens a log, which is ended at the test's end.
+// started opens a log, and ends it at the test's end.
 func started(t testing.TB, config logservice.Config) *logservice.Log {
 	t.Helper()
 	l, err := logservice.Open(limited(t), config)
 	must(t, err)
 	t.Cleanup(func() {
-		// A test that ends it itself has looked at the outcome.
+		// A test that checks the error ends the log itself.
 		ctx, cancel := context.WithTimeout(context.Background(), 10*time.Second)
 		defer cancel()
 		if err := l.End(ctx); err != nil {
@@ -118,23 +118,23 @@ func started(t testing.TB, config logservice.Config) *logservice.Log {
 	return l
 }
 
-// ends ends a log in order.
+// ends ends a log, and fails the test if that fails.
 func ends(t testing.TB, l *logservice.Log) {
 	t.Helper()
 	must(t, l.End(limited(t)))
 }
 
-// eventually waits until something is so.
-func eventually(t testing.TB, what string, is func() bool) {
+// eventually waits until a condition is true.
+func eventually(t testing.TB, what string, condition func() bool) {
 	t.Helper()
-	for until := time.Now().Add(testutil.Longest); !is(); time.Sleep(time.Millisecond) {
+	for until := time.Now().Add(testutil.Longest); !condition(); time.Sleep(time.Millisecond) {
 		if time.Now().After(until) {
-			t.Fatalf("it does not come to be: %s", what)
+			t.Fatalf("this does not happen: %s", what)
 		}
 	}
 }
 
-// entryOf returns the entry of a number. Every third one is a precertificate's.
+// entryOf returns the entry with a number. Every third one is a precertificate.
 func entryOf(i int) loginterface.Entry {
 	text := []byte(strings.Repeat(fmt.Sprintf("%d;", i), 1+i%40))
 	issuers := [][]byte{[]byte(fmt.Sprint("issuer ", i%5)), []byte("root")}
@@ -145,7 +145,7 @@ func entryOf(i int) loginterface.Entry {
 	return loginterface.Entry{Type: chains.X509Entry, Certificate: text, Issuers: issuers}
 }
 
-// answers are what clients got.
+// answers has the answers that clients got.
 type answers struct {
 	mu  sync.Mutex
 	all []logcheck.Answer
@@ -162,7 +162,7 @@ func (a *answers) add(entry loginterface.Entry, place loginterface.Place) {
 	a.all = append(a.all, one)
 }
 
-// submit submits the numbers from one up to another, all at once, and each must be answered.
+// submit submits the entries with the numbers from, .., to-1 at the same time. Each must be answered.
 func (a *answers) submit(t testing.TB, l loginterface.Log, from, to int) {
 	t.Helper()
 	ctx := limited(t)
@@ -186,14 +186,14 @@ func (a *answers) submit(t testing.TB, l loginterface.Log, from, to int) {
 	}
 }
 
-// right has the log's folder judged, with all that was answered, by a judge that shares no code with the node. It
-// returns how many entries there are.
-func (p *place) right(a *answers) int {
+// checkLog checks the log's folder and all answers with logcheck, which shares no code with the node. It returns the
+// number of entries.
+func (p *place) checkLog(a *answers) int {
 	p.t.Helper()
 	for {
 		report, err := logcheck.Folder(p.path("objects"), p.key.Key(), a.all)
 		if errors.Is(err, fs.ErrNotExist) || errors.Is(err, stores.ErrAbsent) {
-			// The janitor deleted something meanwhile.
+			// The janitor deleted an object during the check.
 			continue
 		}
 		must(p.t, err)
@@ -204,32 +204,32 @@ func (p *place) right(a *answers) int {
 	}
 }
 
-// bent is this machine's clock, set ahead by so much. The kernel says that something keeps it right, or that nothing
-// does.
-type bent struct {
+// skewedClock is this machine's clock, set ahead by some time. The test decides whether it is synchronized by the
+// kernel's report.
+type skewedClock struct {
 	logservice.Clock
 	mu             sync.Mutex
 	by             time.Duration
 	isSynchronized bool
 }
 
-func newBent(by time.Duration) *bent {
-	return &bent{Clock: logservice.Machine(), by: by, isSynchronized: by == 0}
+func newSkewedClock(by time.Duration) *skewedClock {
+	return &skewedClock{Clock: logservice.Machine(), by: by, isSynchronized: by == 0}
 }
 
-func (b *bent) set(by time.Duration, isSynchronized bool) {
+func (b *skewedClock) set(by time.Duration, isSynchronized bool) {
 	b.mu.Lock()
 	defer b.mu.Unlock()
 	b.by, b.isSynchronized = by, isSynchronized
 }
 
-func (b *bent) Now() time.Time {
+func (b *skewedClock) Now() time.Time {
 	b.mu.Lock()
 	defer b.mu.Unlock()
 	return b.Clock.Now().Add(b.by)
 }
 
-func (b *bent) Synchronized() (is, known bool) {
+func (b *skewedClock) Synchronized() (isSynchronized, isKnown bool) {
 	b.mu.Lock()
 	defer b.mu.Unlock()
 	return b.isSynchronized, true

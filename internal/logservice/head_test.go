@@ -14,7 +14,7 @@ import (
 	"wagtenib/internal/node"
 )
 
-// newestHead returns the path of the head that was put last, and its note.
+// newestHead returns the path of the newest head in the store, and its note.
 func (p *place) newestHead() (path string, note []byte) {
 	p.t.Helper()
 	paths, err := filepath.Glob(p.object("heads/*"))
@@ -25,20 +25,21 @@ func (p *place) newestHead() (path string, note []byte) {
 	return path, note
 }
 
-// withOtherSignature returns a note whose log signature has another last bit, so the key never made it.
+// withOtherSignature returns a note in which the last bit of the log's signature is changed, so the key never made it.
 func withOtherSignature(t *testing.T, note []byte) []byte {
 	t.Helper()
 	lines := strings.Split(string(note), "\n")
-	words := strings.Split(lines[4], " ")
-	blob, err := base64.StdEncoding.DecodeString(words[2])
+	parts := strings.Split(lines[4], " ")
+	blob, err := base64.StdEncoding.DecodeString(parts[2])
 	must(t, err)
 	blob[len(blob)-1] ^= 1
-	lines[4] = strings.Join([]string{words[0], words[1], base64.StdEncoding.EncodeToString(blob)}, " ")
+	lines[4] = strings.Join([]string{parts[0], parts[1], base64.StdEncoding.EncodeToString(blob)}, " ")
 	return []byte(strings.Join(lines, "\n"))
 }
 
-// A head in the store that has the size, the time and the root of the lock's state, and a signature that the log's key
-// did not make, is not served. A node that starts does not publish it either.
+// TestHeadWithAnotherSignatureIsNotServed checks that a head in the store is not served if it has the size, the
+// timestamp and the root of the lock's state, but a signature that the log's key did not make. A node that starts does
+// not publish it either.
 func TestHeadWithAnotherSignatureIsNotServed(t *testing.T) {
 	t.Parallel()
 	p, got := newPlace(t), &answers{}
@@ -56,17 +57,17 @@ func TestHeadWithAnotherSignatureIsNotServed(t *testing.T) {
 		t.Cleanup(func() { ends(t, again) })
 		var head loginterface.Head
 		if head, err = again.Checkpoint(limited(t)); err == nil {
-			t.Fatalf("it serves %q", head.Note)
+			t.Fatalf("the node serves %q", head.Note)
 		}
 	}
 	wants(t, err, node.ErrDamaged)
 	must(t, os.WriteFile(path, note, 0o644))
-	healed := again
-	if healed == nil {
-		healed = started(t, p.config())
+	recovered := again
+	if recovered == nil {
+		recovered = started(t, p.config())
 	}
-	eventually(t, "the head of the store is served after it was put back", func() bool {
-		head, err := healed.Checkpoint(limited(t))
+	eventually(t, "the head of the store is served after it was restored", func() bool {
+		head, err := recovered.Checkpoint(limited(t))
 		return err == nil && bytes.Equal(head.Note, note)
 	})
 }

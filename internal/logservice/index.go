@@ -12,23 +12,23 @@ import (
 	"wagtenib/internal/stores"
 )
 
-// Which index is the log's says a random id that both have: the index as if it were an identity's place, and the store
-// as the name of an object, places/ID. So a node with an index of its own, or another log's, does not start, whatever
-// entry that index knows.
+// A random id shows whether an index belongs to a log. The index has the id as the place of an identity, and the store
+// of objects has it in the name of an object, places/ID. So a node with an index of its own, or of another log, does
+// not start, whichever entries that index knows.
 
 const placesPrefix = "places/"
 
-// ownIdentity is the identity under which an index has its id. It is no submission's, which is a hash over its entry's
-// type and what follows.
+// ownIdentity is the identity under which an index has its id. No submission has it, because a submission's identity is
+// a hash over its entry's type and what follows.
 var ownIdentity = stores.Identity(sha256.Sum256([]byte("the id of a log's places")))
 
-// own returns a row that is no entry's. There is no leaf of its hash either: a leaf's is one over a zero byte and what
-// follows.
-func own(identity stores.Identity, place stores.Place) stores.Row {
+// ownRow returns a row that belongs to no entry. No leaf has its hash either, because a leaf's hash is one over a zero
+// byte and what follows.
+func ownRow(identity stores.Identity, place stores.Place) stores.Row {
 	return stores.Row{Identity: identity, Leaf: identity, Place: place}
 }
 
-// idName is the name of an id's object.
+// idName returns the name of the object of an id.
 func idName(id stores.Place) string {
 	return fmt.Sprintf("%s%016x%016x", placesPrefix, id.Index, id.Timestamp)
 }
@@ -43,15 +43,15 @@ func idOf(ctx context.Context, in stores.Index) (id stores.Place, ok bool, err e
 	return id, ok, nil
 }
 
-// newID returns an index that has none an id, and reads it, since another node may have been first.
+// newID gives an id to an index that has none. It then reads the id, because another node may have been first.
 func newID(ctx context.Context, in stores.Index) (id stores.Place, err error) {
-	var chance [16]byte
-	if _, err := rand.Read(chance[:]); err != nil {
+	var random [16]byte
+	if _, err := rand.Read(random[:]); err != nil {
 		return id, fmt.Errorf("serve: %w", err)
 	}
-	id.Index, id.Timestamp = binary.BigEndian.Uint64(chance[:8])&stores.MaxNumber,
-		binary.BigEndian.Uint64(chance[8:])&stores.MaxNumber
-	if err := in.Add(ctx, []stores.Row{own(ownIdentity, id)}); err != nil {
+	id.Index, id.Timestamp = binary.BigEndian.Uint64(random[:8])&stores.MaxNumber,
+		binary.BigEndian.Uint64(random[8:])&stores.MaxNumber
+	if err := in.Add(ctx, []stores.Row{ownRow(ownIdentity, id)}); err != nil {
 		return id, fmt.Errorf("serve: the index: %w", err)
 	}
 	id, ok, err := idOf(ctx, in)
@@ -61,7 +61,7 @@ func newID(ctx context.Context, in stores.Index) (id stores.Place, err error) {
 	return id, err
 }
 
-// storedIDs lists the ids that the store has. It has one, except before the first start.
+// storedIDs lists the names of the ids in the store. It has one, except before the first start.
 func storedIDs(ctx context.Context, in stores.Objects) ([]string, error) {
 	names, err := in.List(ctx, placesPrefix, "", stores.MaxListed)
 	if err != nil {
@@ -87,33 +87,32 @@ func (l *Log) checkIndex(ctx context.Context) error {
 	}
 	if len(names) == 0 {
 		if err := objects.Put(ctx, idName(id), []byte(l.config.Origin+"\n")); err != nil {
-			// A store that takes nothing now says so elsewhere, and what it has can be read.
-			l.counts.failed(fmt.Errorf("the index's id is not kept: %w", err))
+			// If the store accepts nothing now, the next step reports that. The log can be read until then.
+			l.counts.failed(fmt.Errorf("the index's id is not stored: %w", err))
 			return nil
 		}
 		if names, err = storedIDs(ctx, objects); err != nil {
 			return err
 		}
 	}
-	its := "none"
+	indexID := "none"
 	if ok {
-		its = idName(id)
+		indexID = idName(id)
 	}
 	if len(names) > 1 {
-		return fmt.Errorf("%w: its id is %s, and the store has %s: nodes with an index of their own each started "+
-			"at once "+
-			"(give all nodes the same index, and delete the other ids)",
-			node.ErrIndex, its, strings.Join(names, " and "))
+		return fmt.Errorf("%w: its id is %s, and the store has %s: nodes that each have an index of their own started "+
+			"at the same time (give all nodes the same index, and delete the other ids)",
+			node.ErrIndex, indexID, strings.Join(names, " and "))
 	}
-	if names[0] != its {
+	if names[0] != indexID {
 		return fmt.Errorf("%w: its id is %s, and the store has %s "+
-			"(give all nodes the same index; build a lost one again by ctserve index)", node.ErrIndex, its, names[0])
+			"(give all nodes the same index; build a lost one again by ctserve index)", node.ErrIndex, indexID, names[0])
 	}
 	return nil
 }
 
-// takeID returns an index the id that the store has, if any.
-func takeID(ctx context.Context, of Stores) error {
+// restoreID gives an index the id that the store has, if there is one.
+func restoreID(ctx context.Context, of Stores) error {
 	names, err := storedIDs(ctx, of.Objects)
 	if err != nil || len(names) == 0 {
 		return err
@@ -127,7 +126,7 @@ func takeID(ctx context.Context, of Stores) error {
 		idName(id) != names[0] {
 		return fmt.Errorf("%w: the store has %s, which is no id of an index (delete it)", node.ErrIndex, names[0])
 	}
-	if err := of.Index.Replace(ctx, []stores.Row{own(ownIdentity, id)}); err != nil {
+	if err := of.Index.Replace(ctx, []stores.Row{ownRow(ownIdentity, id)}); err != nil {
 		return fmt.Errorf("serve: the index: %w", err)
 	}
 	return nil

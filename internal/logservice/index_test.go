@@ -15,8 +15,9 @@ import (
 	"wagtenib/internal/stores"
 )
 
-// An index of another log is refused by its id, and the log's own one is not.
-func TestIndexByItsID(t *testing.T) {
+// TestRefusesIndexOfAnotherLog checks that an index of another log is refused because of its id, and that the log's own
+// index is accepted.
+func TestRefusesIndexOfAnotherLog(t *testing.T) {
 	t.Parallel()
 	p, got := newPlace(t), &answers{}
 	l := started(t, p.config())
@@ -35,7 +36,7 @@ func TestIndexByItsID(t *testing.T) {
 	l = started(t, p.config())
 	got.submit(t, l, 0, 3)
 	ends(t, l)
-	// Two nodes with an index of their own each made a first start at once.
+	// The store is as if two nodes, each with an index of its own, made their first start at the same time.
 	must(t, p.config().Stores.Objects.Put(limited(t), "places/00000000000000010000000000000002", []byte("another\n")))
 	_, err = logservice.Open(limited(t), p.config())
 	wants(t, err, node.ErrIndex)
@@ -46,7 +47,8 @@ func TestIndexByItsID(t *testing.T) {
 	wants(t, logservice.RebuildIndex(limited(t), p.config().Stores, func(uint64) {}), node.ErrIndex)
 }
 
-// A lost index is built again from the tiles, the newest entries first, and knows each entry and each leaf.
+// TestRebuildIndex checks that a lost index is built again from the tiles, the newest entries first, and then has each
+// entry and each leaf.
 func TestRebuildIndex(t *testing.T) {
 	t.Parallel()
 	p, got := newPlace(t), &answers{}
@@ -56,14 +58,14 @@ func TestRebuildIndex(t *testing.T) {
 	must(t, os.RemoveAll(p.path("index")))
 	_, err := logservice.Open(limited(t), p.config())
 	wants(t, err, node.ErrIndex)
-	var told []uint64
-	must(t, logservice.RebuildIndex(limited(t), p.config().Stores, func(left uint64) { told = append(told, left) }))
-	if len(told) != 3 || told[0] != 512 || told[1] != 256 || told[2] != 0 {
-		t.Errorf("it tells %v", told)
+	var reports []uint64
+	must(t, logservice.RebuildIndex(limited(t), p.config().Stores, func(left uint64) { reports = append(reports, left) }))
+	if len(reports) != 3 || reports[0] != 512 || reports[1] != 256 || reports[2] != 0 {
+		t.Errorf("RebuildIndex reports %v", reports)
 	}
 	l = started(t, p.config())
 	got.submit(t, l, 0, 610)
-	if f := l.Metrics(); f.Repeats != 600 || f.Entries != 610 {
+	if f := l.Metrics(); f.Duplicates != 600 || f.Entries != 610 {
 		t.Errorf("%+v", f)
 	}
 	for _, n := range []int{0, 300, 599} {
@@ -73,24 +75,24 @@ func TestRebuildIndex(t *testing.T) {
 			t.Errorf("%d: %v, %d", n, err, index)
 		}
 	}
-	if leaves := p.right(got); leaves != 610 {
+	if leaves := p.checkLog(got); leaves != 610 {
 		t.Errorf("%d entries", leaves)
 	}
 }
 
-// An index is not built from a damaged tile.
-func TestRebuildIndexOfDamagedTiles(t *testing.T) {
+// TestRebuildIndexRefusesDamagedTiles checks that no index is built from a damaged tile.
+func TestRebuildIndexRefusesDamagedTiles(t *testing.T) {
 	t.Parallel()
 	p, got := newPlace(t), &answers{}
 	l := started(t, p.config())
 	got.submit(t, l, 0, 300)
 	ends(t, l)
-	must(t, damages["bent"](p.object("tile/data/000")))
+	must(t, damages["changed"](p.object("tile/data/000")))
 	wants(t, logservice.RebuildIndex(limited(t), p.config().Stores, func(uint64) {}), node.ErrDamaged)
 }
 
-// An index whose rebuild was stopped is completed by the log itself: it knows the newest entries at once, and the first
-// ones after a while.
+// TestLogCompletesIndex checks that the log completes an index whose rebuild was stopped. The index has the newest
+// entries at once, and the first ones after a while.
 func TestLogCompletesIndex(t *testing.T) {
 	t.Parallel()
 	p, got := newPlace(t), &answers{}
@@ -120,13 +122,13 @@ func TestLogCompletesIndex(t *testing.T) {
 		return true
 	})
 	got.submit(t, l, 0, 610)
-	if f := l.Metrics(); f.Repeats != 600 || f.Entries != 610 {
+	if f := l.Metrics(); f.Duplicates != 600 || f.Entries != 610 {
 		t.Errorf("%+v", f)
 	}
 }
 
-// If the newest state is not published, the index is built from the published head, and the node that starts adds the
-// rest.
+// TestRebuildIndexOfUnpublishedState checks that, if the newest state is not published, the index is built from the
+// published head, and the node that starts adds the rest.
 func TestRebuildIndexOfUnpublishedState(t *testing.T) {
 	t.Parallel()
 	p, got := newPlace(t), &answers{}
@@ -149,7 +151,7 @@ func TestRebuildIndexOfUnpublishedState(t *testing.T) {
 	if f := l.Metrics(); f.Entries != 6 {
 		t.Errorf("%+v", f)
 	}
-	if leaves := p.right(got); leaves != 6 {
+	if leaves := p.checkLog(got); leaves != 6 {
 		t.Errorf("%d entries", leaves)
 	}
 }

@@ -17,24 +17,26 @@ import (
 
 const (
 	issuersPrefix = "issuer/"
-	// maxIssuers is how many issuers are remembered as put, and maxIssuerBytes how many bytes these have.
+	// maxIssuers is the maximum number of issuers that are remembered as stored, and maxIssuerBytes that of their
+	// bytes.
 	maxIssuers, maxIssuerBytes = 4096, 16 << 20
-	// maxIssuer is how many bytes are read of one, and maxDamaged how many damaged ones are remembered.
+	// maxIssuer is the maximum number of bytes that are read of an issuer, and maxDamaged that of damaged issuers that
+	// are remembered.
 	maxIssuer, maxDamaged = 1 << 20, 1024
 )
 
 // issuers stores the certificates of issuers under issuer/<SHA-256> (C2SP static-ct-api), each once. If many
-// submissions with one issuer come at once, one stores it and the others wait.
+// submissions with one issuer come at the same time, one stores it and the others wait.
 type issuers struct {
 	objects  stores.Objects
 	repaired func(name string)
 	putting  singleflight.Group
 
 	mu sync.Mutex
-	// known are those that were put, with their bytes.
+	// known has the issuers that were stored, with their bytes.
 	known map[[32]byte][]byte
 	bytes int
-	// damaged are those that were missing or wrong when they were read last, and whose bytes are not known.
+	// damaged has the issuers that were missing or wrong when they were last read, and whose bytes are not known.
 	damaged map[[32]byte]error
 }
 
@@ -61,7 +63,7 @@ func (i *issuers) put(ctx context.Context, certificates [][]byte) error {
 	return parallel(ctx, calls...)
 }
 
-// putOne puts one certificate, or waits for the coroutine that puts it.
+// putOne stores one certificate, or waits for the goroutine that stores it.
 func (i *issuers) putOne(ctx context.Context, certificate []byte) error {
 	fingerprint := sha256.Sum256(certificate)
 	done := i.putting.DoChan(issuerName(fingerprint), func() (any, error) {
@@ -82,7 +84,7 @@ func (i *issuers) putOne(ctx context.Context, certificate []byte) error {
 	}
 }
 
-// write puts one. An object under its name that has another fingerprint is replaced.
+// write stores one certificate. It replaces an object of its name that has another content.
 func (i *issuers) write(ctx context.Context, fingerprint [32]byte, certificate []byte) error {
 	i.mu.Lock()
 	wasDamaged := i.damaged[fingerprint] != nil
@@ -95,7 +97,7 @@ func (i *issuers) write(ctx context.Context, fingerprint [32]byte, certificate [
 	return i.replace(ctx, fingerprint, certificate)
 }
 
-// replace puts a certificate over anything else under its name.
+// replace stores a certificate in place of any other content under its name.
 func (i *issuers) replace(ctx context.Context, fingerprint [32]byte, certificate []byte) error {
 	name := issuerName(fingerprint)
 	if content, err := i.objects.Get(ctx, name, maxIssuer); err == nil && bytes.Equal(content, certificate) {
@@ -122,15 +124,15 @@ func (i *issuers) keep(fingerprint [32]byte, certificate []byte) {
 	delete(i.damaged, fingerprint)
 }
 
-// bytesOf returns the bytes of an issuer that is remembered as put, or nil.
+// bytesOf returns the bytes of an issuer that is remembered as stored, or nil.
 func (i *issuers) bytesOf(fingerprint [32]byte) []byte {
 	i.mu.Lock()
 	defer i.mu.Unlock()
 	return i.known[fingerprint]
 }
 
-// Look reads an issuer again. One that is missing or wrong is put again if its bytes are known. Otherwise it counts as
-// damaged until it comes with a submission, or is there again. An error says that this is not known.
+// Look reads an issuer again. If it is missing or wrong, Look stores it again if its bytes are known. Otherwise the
+// issuer counts as damaged until a submission brings it, or Look reads it right. After an error its state is not known.
 func (i *issuers) Look(ctx context.Context, fingerprint [32]byte) error {
 	name := issuerName(fingerprint)
 	content, err := i.objects.Get(ctx, name, maxIssuer)
@@ -158,7 +160,8 @@ func (i *issuers) Look(ctx context.Context, fingerprint [32]byte) error {
 	return nil
 }
 
-// Next returns an issuer that is damaged, and one that is remembered as put: those that are worth a look.
+// Next returns the issuers that Look should read next: a damaged one and one that is remembered as stored, if there are
+// such.
 func (i *issuers) Next() (fingerprints [][32]byte) {
 	i.mu.Lock()
 	defer i.mu.Unlock()
@@ -173,7 +176,7 @@ func (i *issuers) Next() (fingerprints [][32]byte) {
 	return fingerprints
 }
 
-// damage returns how many issuers are damaged, and why the first of them is.
+// damage returns the number of damaged issuers, and the error of the one with the smallest fingerprint.
 func (i *issuers) damage() (count int, why string) {
 	i.mu.Lock()
 	defer i.mu.Unlock()

@@ -9,59 +9,61 @@ import (
 	"wagtenib/internal/logservice"
 )
 
-// heads is a store of objects that counts how often the janitor lists all heads. A node lists only those after another.
+// heads is a store of objects that counts how often the janitor lists all heads. A node lists only those after a known
+// head.
 type heads struct {
 	refusing
 	listed atomic.Int64
 }
 
-func (h *heads) List(ctx context.Context, prefix, after string, max int) ([]string, error) {
+func (h *heads) List(ctx context.Context, prefix, after string, maxNames int) ([]string, error) {
 	if prefix == "heads/" && after == "" {
 		h.listed.Add(1)
 	}
-	return h.refusing.List(ctx, prefix, after, max)
+	return h.refusing.List(ctx, prefix, after, maxNames)
 }
 
 // passing is a clock that counts how often the janitor waits for its next pass.
 type passing struct {
 	logservice.Clock
-	every  time.Duration
-	passes atomic.Int64
+	interval time.Duration
+	passes   atomic.Int64
 }
 
 func (p *passing) Wait(ctx context.Context, long time.Duration, wake <-chan struct{}) error {
-	if long == p.every {
+	if long == p.interval {
 		p.passes.Add(1)
 	}
 	return p.Clock.Wait(ctx, long, wake)
 }
 
-// While a node has a fault, its janitor deletes nothing, and does not look for what it might delete.
+// TestJanitorRestsDuringAFault checks that, while a node has a fault, its janitor deletes nothing, and does not even
+// list the heads.
 func TestJanitorRestsDuringAFault(t *testing.T) {
 	t.Parallel()
 	p, got := newPlace(t), &answers{}
 	config := p.config()
 	objects := &heads{refusing: refusing{Objects: config.Stores.Objects}}
-	clock := &passing{Clock: config.Machine.Of, every: 7 * time.Millisecond}
-	config.Stores.Objects, config.Machine.Of = objects, clock
-	config.Keep.Every, config.Keep.Tiles = clock.every, time.Millisecond
+	clock := &passing{Clock: config.Machine.Clock, interval: 7 * time.Millisecond}
+	config.Stores.Objects, config.Machine.Clock = objects, clock
+	config.Keep.Interval, config.Keep.Tiles = clock.interval, time.Millisecond
 	l := started(t, config)
 	got.submit(t, l, 0, 3)
 	eventually(t, "the janitor lists heads", func() bool { return objects.listed.Load() > 0 })
-	objects.is.Store(true)
-	// (its issuers are in the store, so only the step puts something)
+	objects.isFull.Store(true)
+	// The entry's issuers are in the store, so only the step stores something.
 	_, err := l.Submit(limited(t), entryOf(5))
 	wants(t, err, errFull)
 	if l.Metrics().Fault == "" {
 		t.Fatal("there is no fault")
 	}
 	passes := clock.passes.Load()
-	eventually(t, "the pass that was made has ended", func() bool { return clock.passes.Load() > passes })
+	eventually(t, "the present pass has ended", func() bool { return clock.passes.Load() > passes })
 	listed := objects.listed.Load()
 	eventually(t, "more passes", func() bool { return clock.passes.Load() > passes+5 })
 	if now := objects.listed.Load(); now != listed {
-		t.Errorf("during a fault it lists the heads %d times", now-listed)
+		t.Errorf("during a fault the janitor lists the heads %d times", now-listed)
 	}
-	objects.is.Store(false)
-	eventually(t, "it goes on after the fault", func() bool { return objects.listed.Load() > listed })
+	objects.isFull.Store(false)
+	eventually(t, "the janitor goes on after the fault", func() bool { return objects.listed.Load() > listed })
 }

@@ -20,8 +20,8 @@ import (
 	"wagtenib/internal/stores"
 )
 
-// 700 entries over the edge of two full tiles, a restart between: all are answered, and the log is judged from its
-// folder.
+// TestOneNode submits 700 entries, which fill two tiles, with a restart in between. All must be answered, and the log's
+// folder must be right.
 func TestOneNode(t *testing.T) {
 	t.Parallel()
 	p, got := newPlace(t), &answers{}
@@ -32,14 +32,14 @@ func TestOneNode(t *testing.T) {
 	wants(t, err, loginterface.ErrEnded)
 	l = started(t, p.config())
 	got.submit(t, l, 300, 700)
-	if leaves := p.right(got); leaves != 700 {
+	if leaves := p.checkLog(got); leaves != 700 {
 		t.Errorf("%d entries", leaves)
 	}
 	head, err := l.Checkpoint(limited(t))
 	must(t, err)
 	f := l.Metrics()
-	if head.TreeSize != 700 || f.Entries != 700 || f.Queue != 0 || f.Unpublished != 0 || f.Repeats != 100 ||
-		f.Fault != "" || f.Steps == 0 || f.Batches.Submissions != 300 || f.Written == 0 {
+	if head.TreeSize != 700 || f.Entries != 700 || f.Queue != 0 || f.Unpublished != 0 || f.Duplicates != 100 ||
+		f.Fault != "" || f.Steps == 0 || f.Batches.Submissions != 300 || f.WrittenBytes == 0 {
 		t.Errorf("%+v %+v", head, f)
 	}
 	must(t, signer.CheckHead(p.key.Key(), signer.Head{Size: head.TreeSize, Timestamp: head.Timestamp,
@@ -56,7 +56,7 @@ func TestOneNode(t *testing.T) {
 	}
 }
 
-// Each leaf is found by its hash, and no other is.
+// TestIndexOf checks that each leaf is found by its hash, and that an unknown hash is not found.
 func TestIndexOf(t *testing.T) {
 	t.Parallel()
 	p, got := newPlace(t), &answers{}
@@ -68,7 +68,7 @@ func TestIndexOf(t *testing.T) {
 		found, err := l.IndexOf(limited(t), leafHash(entryOf(n), place))
 		must(t, err)
 		if found != place.LeafIndex {
-			t.Errorf("leaf %d is said to be %d", place.LeafIndex, found)
+			t.Errorf("leaf %d is found at %d", place.LeafIndex, found)
 		}
 	}
 	_, err := l.IndexOf(limited(t), sha256.Sum256([]byte("no leaf")))
@@ -88,14 +88,14 @@ func leafHash(of loginterface.Entry, at loginterface.Place) [32]byte {
 	return sha256.Sum256(append(leaf, at.Extensions...))
 }
 
-// slow holds the calls on objects until it is let go.
+// slow is a store of objects. After hold, each put of a staged batch waits until release is called.
 type slow struct {
 	stores.Objects
 	mu    sync.Mutex
 	until chan struct{}
 }
 
-func (s *slow) hold() (letGo func()) {
+func (s *slow) hold() (release func()) {
 	s.mu.Lock()
 	defer s.mu.Unlock()
 	s.until = make(chan struct{})
@@ -116,7 +116,8 @@ func (s *slow) Put(ctx context.Context, name string, content []byte) error {
 	return s.Objects.Put(ctx, name, content)
 }
 
-// The queue has a bound of submissions, and one that is given up leaves it.
+// TestFullQueue checks that the queue holds a limited number of submissions, and that a submission leaves it when its
+// client gives up.
 func TestFullQueue(t *testing.T) {
 	t.Parallel()
 	p, got := newPlace(t), &answers{}
@@ -126,8 +127,8 @@ func TestFullQueue(t *testing.T) {
 	config.Stores.Objects = held
 	l := started(t, config)
 	got.submit(t, l, 0, 1)
-	letGo := held.hold()
-	defer letGo()
+	release := held.hold()
+	defer release()
 	ctx, cancel := context.WithCancel(limited(t))
 	gaveUp := make(chan error, 3)
 	for n := 1; n < 4; n++ {
@@ -143,14 +144,15 @@ func TestFullQueue(t *testing.T) {
 	for range 3 {
 		wants(t, <-gaveUp, context.Canceled)
 	}
-	// The one that is in a step stays in it.
+	// One submission is in a step, and stays in it.
 	eventually(t, "the others left", func() bool { return l.Metrics().Queue <= 1 })
-	letGo()
+	release()
 	got.submit(t, l, 20, 22)
-	p.right(got)
+	p.checkLog(got)
 }
 
-// An entry above the bound is refused by name, and one at the bound is taken.
+// TestTooLarge checks that an entry above the maximum size is refused with an error of its own, and that one of the
+// maximum size is accepted.
 func TestTooLarge(t *testing.T) {
 	t.Parallel()
 	p := newPlace(t)
@@ -164,8 +166,8 @@ func TestTooLarge(t *testing.T) {
 	must(t, err)
 }
 
-// End answers all that wait, and refuses the next ones. If the store hangs, it refuses those that wait once its time is
-// over.
+// TestEnd checks that End answers the waiting submissions and refuses further ones. If the store hangs, End refuses the
+// waiting ones when its context ends.
 func TestEnd(t *testing.T) {
 	t.Parallel()
 	p, got := newPlace(t), &answers{}
@@ -174,7 +176,7 @@ func TestEnd(t *testing.T) {
 	config.Stores.Objects = held
 	l := started(t, config)
 	got.submit(t, l, 0, 5)
-	letGo := held.hold()
+	release := held.hold()
 	outcome := make(chan error, 1)
 	go func() {
 		place, err := l.Submit(limited(t), entryOf(7))
@@ -185,16 +187,16 @@ func TestEnd(t *testing.T) {
 	ended := make(chan error, 1)
 	go func() { ended <- l.End(limited(t)) }()
 	eventually(t, "it ends", func() bool {
-		// One that waits is given up, since the store hangs.
+		// A submission that waits gives up, because the store hangs.
 		ctx, cancel := context.WithTimeout(limited(t), 10*time.Millisecond)
 		defer cancel()
 		_, err := l.Submit(ctx, entryOf(8))
 		return errors.Is(err, loginterface.ErrEnded)
 	})
-	letGo()
+	release()
 	must(t, <-ended)
 	must(t, <-outcome)
-	if leaves := p.right(got); leaves != 6 && leaves != 7 {
+	if leaves := p.checkLog(got); leaves != 6 && leaves != 7 {
 		t.Errorf("%d entries", leaves)
 	}
 	l = started(t, config)
@@ -210,23 +212,23 @@ func TestEnd(t *testing.T) {
 	wants(t, <-outcome, loginterface.ErrEnded)
 }
 
-// refusing is a store that refuses each put while it is set.
+// refusing is a store that refuses each put while it is full.
 type refusing struct {
 	stores.Objects
-	is atomic.Bool
+	isFull atomic.Bool
 }
 
 var errFull = errors.New("no space is left")
 
 func (r *refusing) Put(ctx context.Context, name string, content []byte) error {
-	if r.is.Load() {
+	if r.isFull.Load() {
 		return errFull
 	}
 	return r.Objects.Put(ctx, name, content)
 }
 
-// A store that takes nothing is a fault with its reason. The log says so, reads go on, and it goes on by itself after
-// the store does.
+// TestFaultAndItsEnd checks that a full store is a fault, which the log reports with its reason. Reads go on meanwhile,
+// and the log recovers by itself after the store does.
 func TestFaultAndItsEnd(t *testing.T) {
 	t.Parallel()
 	p, got := newPlace(t), &answers{}
@@ -235,7 +237,7 @@ func TestFaultAndItsEnd(t *testing.T) {
 	config.Stores.Objects = full
 	l := started(t, config)
 	got.submit(t, l, 0, 5)
-	full.is.Store(true)
+	full.isFull.Store(true)
 	_, err := l.Submit(limited(t), entryOf(10))
 	wants(t, err, loginterface.ErrStore, errFull)
 	if f := l.Metrics(); !strings.Contains(f.Fault, errFull.Error()) || f.Faults != 1 || f.LastFault != f.Fault {
@@ -244,16 +246,16 @@ func TestFaultAndItsEnd(t *testing.T) {
 	if head, err := l.Checkpoint(limited(t)); err != nil || head.TreeSize != 5 {
 		t.Errorf("%v: %+v", err, head)
 	}
-	full.is.Store(false)
+	full.isFull.Store(false)
 	eventually(t, "the fault is over without a submission", func() bool { return l.Metrics().Fault == "" })
 	got.submit(t, l, 10, 12)
-	if leaves := p.right(got); leaves != 7 {
+	if leaves := p.checkLog(got); leaves != 7 {
 		t.Errorf("%d entries", leaves)
 	}
 }
 
-// A start is refused by name if a part of the log is older than the rest.
-func TestRefusesOlderParts(t *testing.T) {
+// TestRefusesMissingParts checks that a start is refused with an error of its own if a part of the log is missing.
+func TestRefusesMissingParts(t *testing.T) {
 	t.Parallel()
 	for part, kind := range map[string]error{"register": node.ErrRolledBack, "index": node.ErrIndex,
 		"guard": signer.ErrState} {
@@ -269,11 +271,12 @@ func TestRefusesOlderParts(t *testing.T) {
 		}
 	}
 	if logservice.NeedsOperator(node.ErrConfig) {
-		t.Error("a wrong setting is taken for an older log")
+		t.Error("a wrong setting is taken for a missing part of the log")
 	}
 }
 
-// The file of the latest head is of one log, and must be whole.
+// TestLatestHead checks that the file of the latest head must belong to this log and be whole, and that it shows if all
+// stores are rolled back together.
 func TestLatestHead(t *testing.T) {
 	t.Parallel()
 	p, got := newPlace(t), &answers{}
@@ -288,7 +291,7 @@ func TestLatestHead(t *testing.T) {
 	must(t, os.WriteFile(p.path("latest-head"), []byte("{}"), 0o600))
 	_, err = logservice.Open(limited(t), p.config())
 	wants(t, err, node.ErrDamaged)
-	// All stores are rolled back together to nothing: only this file shows it.
+	// If all stores are rolled back to nothing together, only this file shows it.
 	for _, part := range []string{"objects", "register", "index", "guard", "latest-head"} {
 		must(t, os.RemoveAll(p.path(part)))
 	}

@@ -25,69 +25,71 @@ import (
 )
 
 const (
-	// MaxEntry is how many bytes an entry may have: its certificate, or its TBSCertificate and its precertificate.
+	// MaxEntry is the maximum number of bytes of an entry: of its certificate, or of its TBSCertificate and its
+	// precertificate together.
 	MaxEntry = 128 << 10
 	// MaxBatch and MaxBatchBytes are the maximum numbers of entries of one step and of their bytes, and MaxQueueBytes
-	// is how many bytes may wait.
+	// is that of the bytes of waiting submissions.
 	MaxBatch, MaxBatchBytes, MaxQueueBytes = 1024, 12 << 20, 64 << 20
 
-	// callWithin is how long one call to a store may take, roundWithin how long those of a round may take together, and
-	// cosignWithin how long a witness may take.
+	// callWithin is the maximum time of one call to a store, roundWithin that of all calls of a round, and cosignWithin
+	// that of a witness's answer.
 	callWithin, roundWithin, cosignWithin = 10 * time.Second, 2 * time.Minute, 5 * time.Second
-	// patience is how long something may fail until the waiting submissions are refused.
+	// patience is the time for which something may fail before the waiting submissions are refused.
 	patience = 5 * time.Second
-	// lookEvery is how often a node without submissions reads the lock, and helpAfter how long it waits for another
-	// node's head, and up to as much more by chance.
-	lookEvery, helpAfter = time.Second, 400 * time.Millisecond
-	// maxParallel is how many calls of a step are made side by side, and maxLookups how many submissions are looked up
-	// at once.
+	// lookInterval is the interval at which a node without submissions reads the lock. helpAfter is the minimum time
+	// for which it waits for another node's head, and twice that is the maximum. The time between them is random.
+	lookInterval, helpAfter = time.Second, 400 * time.Millisecond
+	// maxParallel is the maximum number of calls of a step that are made at the same time, and maxLookups that of
+	// submissions that are looked up at the same time.
 	maxParallel, maxLookups = 8, 32
-	// maxKnown is how often a submission is looked up again that came into the log meanwhile.
+	// maxKnown is the maximum number of times that a submission is looked up, if a step finds that the log has it
+	// already.
 	maxKnown = 5
 )
 
-// Stores are those that all nodes of a log share.
+// Stores are the stores that all nodes of a log share.
 type Stores struct {
 	Objects stores.Objects
 	Lock    stores.Lock
 	Index   stores.Index
-	// Current keeps the checkpoint that readers fetch without a node. It is nil if nobody does.
+	// Current keeps the checkpoint that readers fetch without a node. It is nil if there are no such readers.
 	Current stores.Current
 }
 
-// Files are of this machine only, and in no backup of the stores. Their names may be empty.
+// Files are the names of files that belong to this machine only, and to no backup of the stores. They may be empty.
 type Files struct {
 	// LatestHead has the newest head that this machine accepted, and NamedDay the day that the operator named
 	// (NameDay).
 	LatestHead, NamedDay string
 }
 
-// ClockBounds say when the machine's clock is wrong.
+// ClockBounds decide whether the machine's clock is wrong.
 type ClockBounds struct {
-	// MaxSkew is how far it may be off by another clock.
+	// MaxSkew is the maximum difference from another clock.
 	MaxSkew time.Duration
-	// Synchronized says that it is wrong unless the kernel says that something keeps it right.
+	// Synchronized makes the clock count as wrong unless the kernel reports that it is synchronized.
 	Synchronized bool
 }
 
-// Pace says how often heads are made.
+// Pace has the limits for the steps of a node.
 type Pace struct {
-	// Interval is the minimum time between two steps, and Refresh how old the newest head gets before one without new
+	// Interval is the minimum time between two steps. Refresh is the age of the newest head at which a head without new
 	// entries is made.
 	Interval, Refresh time.Duration
-	// MaxWritten is how many bytes steps write in a second, on average.
+	// MaxWritten is the maximum number of bytes that steps write in a second, on average.
 	MaxWritten int
-	// MaxBatch is the maximum number of entries of one step, and MaxQueue that of submissions that wait.
+	// MaxBatch is the maximum number of entries of one step, and MaxQueue that of waiting submissions.
 	MaxBatch, MaxQueue int
 }
 
-// Config is what a log needs.
+// Config is the configuration of a log.
 type Config struct {
 	// Origin is the log's name in checkpoints (C2SP tlog-checkpoint).
 	Origin string
 	// Address is the URL at which the other nodes reach this one, or empty.
 	Address string
-	// Create says that the log is created if there is none.
+	// Create creates the log if there is none.
 	Create    bool
 	Stores    Stores
 	Signer    signer.Signer
@@ -98,23 +100,23 @@ type Config struct {
 	Machine   MachineConfig
 }
 
-// MachineConfig is what a node has of its machine.
+// MachineConfig is the configuration of a node's machine.
 type MachineConfig struct {
-	Files Files
-	Clock ClockBounds
-	// Of is the machine's clock. A nil Of is this machine's.
-	Of Clock
+	Files       Files
+	ClockBounds ClockBounds
+	// Clock is the machine's clock. If it is nil, Machine() is used.
+	Clock Clock
 }
 
-// Keep says how long what nobody needs any more stays, and how fast old tiles are read again.
+// Keep says how long unneeded objects are kept, and how fast old tiles are read again.
 type Keep struct {
-	// Heads is for heads and staged batches, and Tiles for partial tiles.
+	// Heads is the time for heads and staged batches, and Tiles that for partial tiles.
 	Heads, Tiles time.Duration
-	// Every is the time between two passes of the janitor, and Reread how long it takes until each tile was read again.
-	Every, Reread time.Duration
+	// Interval is the time between two passes of the janitor, and Reread the time in which it reads each tile again.
+	Interval, Reread time.Duration
 }
 
-// Log is one log, served by this node: a loginterface.Log. Its methods may be called at once.
+// Log is one log, served by this node. It implements loginterface.Log. Its methods may be called at the same time.
 type Log struct {
 	config   Config
 	node     *node.Node
@@ -128,42 +130,42 @@ type Log struct {
 	running  running
 }
 
-// running is what runs of a log.
+// running has the goroutines of a log, and what they share.
 type running struct {
-	// cancel ends all. looped is closed after the loop has ended, and all waits for the rest.
-	cancel context.CancelFunc
-	looped chan struct{}
-	all    *sync.WaitGroup
-	// failed is why the loop ended.
+	// cancel ends all goroutines. loopDone is closed after the node's loop has ended, and others waits for the rest.
+	cancel   context.CancelFunc
+	loopDone chan struct{}
+	others   *sync.WaitGroup
+	// failed is the error with which the loop ended.
 	failed error
 	logID  [32]byte
 	// remotes are the witnesses.
 	remotes []*remote
-	// ask asks the node that makes the steps what time it has; nil before Forward.
-	ask atomic.Pointer[func(context.Context)]
+	// askNode asks the node that makes the steps for its time. It is nil before Forward is called.
+	askNode atomic.Pointer[func(context.Context)]
 }
 
-// Open looks at the lock, the stores, the signer and the files, and begins to serve the log. It refuses with
-// node.ErrRolledBack, node.ErrDamaged, node.ErrIndex, node.ErrConfig or signer.ErrState. The stores and the signer stay
-// open after End.
+// Open checks the lock, the stores, the signer and the files, and begins to serve the log. If one of them is wrong, the
+// error is node.ErrRolledBack, node.ErrDamaged, node.ErrIndex, node.ErrConfig or signer.ErrState. The stores and the
+// signer stay open after End.
 func Open(ctx context.Context, config Config) (*Log, error) {
 	if config.Stores.Objects == nil || config.Stores.Lock == nil || config.Stores.Index == nil || config.Signer == nil {
 		return nil, fmt.Errorf("%w: a store or the signer is missing", node.ErrConfig)
 	}
-	if config.Machine.Of == nil {
-		config.Machine.Of = Machine()
+	if config.Machine.Clock == nil {
+		config.Machine.Clock = Machine()
 	}
 	l := &Log{config: config, counts: newCounts(), lookups: make(chan struct{}, maxLookups)}
 	l.comparer = tile.NewComparer(l.read, tile.Leaves)
 	l.running.logID = sha256.Sum256(config.Signer.Key())
 	l.issuers = newIssuers(config.Stores.Objects, l.counts.Repaired)
-	l.sources = newSources(config.Machine.Of, config.Machine.Clock, config.Machine.Files, config.Stores)
+	l.sources = newSources(config.Machine.Clock, config.Machine.ClockBounds, config.Machine.Files, config.Stores)
 	l.sources.ask(ctx)
-	of, err := l.nodeConfig()
+	nodeConfig, err := l.nodeConfig()
 	if err != nil {
 		return nil, err
 	}
-	n, loop, err := node.Start(ctx, of)
+	n, loop, err := node.Start(ctx, nodeConfig)
 	if err != nil {
 		return nil, err
 	}
@@ -178,30 +180,31 @@ func Open(ctx context.Context, config Config) (*Log, error) {
 	return l, nil
 }
 
-// run starts the loop, the janitor, what completes the index, and what asks other clocks.
+// run starts goroutines for the node's loop, the janitor, the completion of the index, and the questions to other
+// clocks.
 func (l *Log) run(loop *node.Loop) {
 	ctx, cancel := context.WithCancel(context.Background())
 	r := &l.running
-	r.cancel, r.looped, r.all = cancel, make(chan struct{}), &sync.WaitGroup{}
+	r.cancel, r.loopDone, r.others = cancel, make(chan struct{}), &sync.WaitGroup{}
 	go func() {
-		defer close(r.looped)
+		defer close(r.loopDone)
 		r.failed = loop.Run(ctx)
 	}()
-	r.all.Add(3)
+	r.others.Add(3)
 	go func() {
-		defer r.all.Done()
+		defer r.others.Done()
 		l.completeIndex(ctx)
 	}()
 	go func() {
-		defer r.all.Done()
-		// It ends with its context only.
+		defer r.others.Done()
+		// The janitor ends only when its context ends, so its error says nothing else.
 		_ = l.janitor.Run(ctx)
 	}()
 	go func() {
-		defer r.all.Done()
-		l.sources.keep(ctx, func(ctx context.Context) {
-			if ask := r.ask.Load(); ask != nil {
-				(*ask)(ctx)
+		defer r.others.Done()
+		l.sources.run(ctx, func(ctx context.Context) {
+			if askNode := r.askNode.Load(); askNode != nil {
+				(*askNode)(ctx)
 			}
 		})
 	}()
@@ -210,11 +213,11 @@ func (l *Log) run(loop *node.Loop) {
 // nodeConfig returns the configuration of the node.
 func (l *Log) nodeConfig() (node.Config, error) {
 	c := &l.config
-	by, err := random()
+	number, err := random()
 	if err != nil {
 		return node.Config{}, err
 	}
-	help := helpAfter + time.Duration(by%uint64(helpAfter))
+	help := helpAfter + time.Duration(number%uint64(helpAfter))
 	shared := node.Stores{Objects: c.Stores.Objects, Lock: c.Stores.Lock, Index: &finder{Index: c.Stores.Index}}
 	if c.Stores.Current != nil {
 		shared.Current = c.Stores.Current
@@ -223,12 +226,12 @@ func (l *Log) nodeConfig() (node.Config, error) {
 		Origin: c.Origin, Address: c.Address, Create: c.Create, Signer: c.Signer,
 		Stores: shared,
 		Proved: node.Proved{Decider: decider.New(), Steps: step.New(c.Origin)},
-		Machine: node.Machine{Clock: c.Machine.Of, Memory: memory{c.Machine.Files.LatestHead, l.running.logID},
+		Machine: node.Machine{Clock: c.Machine.Clock, Memory: memory{c.Machine.Files.LatestHead, l.running.logID},
 			Parallel: parallel, Random: random, Sources: l.sources, Observer: l.counts},
 		Pace: node.Pace{
-			Look: lookEvery, Refresh: c.Pace.Refresh, Help: help, Call: callWithin, Round: roundWithin,
+			Look: lookInterval, Refresh: c.Pace.Refresh, Help: help, Call: callWithin, Round: roundWithin,
 			Cosign: cosignWithin, Patience: patience,
-			MaxSkew: c.Machine.Clock.MaxSkew, Interval: c.Pace.Interval,
+			MaxSkew: c.Machine.ClockBounds.MaxSkew, Interval: c.Pace.Interval,
 		},
 		Limits: node.Limits{MaxBatch: c.Pace.MaxBatch, MaxQueue: c.Pace.MaxQueue, MaxBatchBytes: MaxBatchBytes,
 			MaxQueueBytes: MaxQueueBytes, MaxWritten: c.Pace.MaxWritten},
@@ -249,7 +252,7 @@ func (l *Log) nodeConfig() (node.Config, error) {
 }
 
 const (
-	// thinAfter and thinApart are those of heads that are too close together (janitor.Keep).
+	// thinAfter and thinApart are the settings for heads that are too close together (Thin and Apart of janitor.Keep).
 	thinAfter, thinApart = 10 * time.Second, 5 * time.Second
 )
 
@@ -257,7 +260,7 @@ const (
 func (l *Log) janitorConfig() janitor.Config {
 	keep, tiles := l.config.Keep, min(l.config.Keep.Tiles, l.config.Keep.Heads)
 	return janitor.Config{
-		Objects: l.config.Stores.Objects, Clock: l.config.Machine.Of, Decider: decider.New(), Random: random,
+		Objects: l.config.Stores.Objects, Clock: l.config.Machine.Clock, Decider: decider.New(), Random: random,
 		Issuers: l.issuers,
 		Newest: func() (janitor.Newest, bool) {
 			now := l.node.Snapshot()
@@ -267,7 +270,7 @@ func (l *Log) janitorConfig() janitor.Config {
 			return janitor.Newest{Head: now.Head.Head, Stepping: l.node.Stepping()}, true
 		},
 		Keep: janitor.Keep{
-			Every: keep.Every, Tiles: tiles, Heads: keep.Heads, Staged: keep.Heads, Thin: min(thinAfter, tiles),
+			Every: keep.Interval, Tiles: tiles, Heads: keep.Heads, Staged: keep.Heads, Thin: min(thinAfter, tiles),
 			Apart: thinApart, Reread: keep.Reread, Call: patience,
 		},
 	}
@@ -282,8 +285,8 @@ func random() (uint64, error) {
 	return binary.BigEndian.Uint64(eight[:]), nil
 }
 
-// parallel calls functions side by side, at most maxParallel at once, waits for all of them and returns the first
-// error. After an error their context ends.
+// parallel calls functions at the same time, at most maxParallel at once. It waits for all of them and returns the
+// first error. After an error their context ends.
 func parallel(ctx context.Context, all ...func(context.Context) error) error {
 	if len(all) == 1 {
 		return all[0](ctx)
@@ -296,37 +299,37 @@ func parallel(ctx context.Context, all ...func(context.Context) error) error {
 	return group.Wait()
 }
 
-// End takes no more submissions, and returns after all that wait are answered, or after the context has ended: then it
-// refuses them.
+// End accepts no more submissions, and returns after all waiting ones are answered. If the context ends before that,
+// End refuses those that still wait.
 func (l *Log) End(ctx context.Context) error {
 	l.node.End()
 	select {
-	case <-l.running.looped:
+	case <-l.running.loopDone:
 	case <-ctx.Done():
 		l.running.cancel()
-		<-l.running.looped
+		<-l.running.loopDone
 	}
 	l.running.cancel()
-	l.running.all.Wait()
+	l.running.others.Wait()
 	for _, r := range l.running.remotes {
 		r.close()
 	}
 	if left := l.node.RefuseAll(node.ErrEnded); left > 0 {
-		return fmt.Errorf("serve: %d submissions that waited were refused at the end: %w", left, errors.Join(ctx.Err(),
+		return fmt.Errorf("serve: %d waiting submissions were refused at the end: %w", left, errors.Join(ctx.Err(),
 			l.node.Fault()))
 	}
 	return nil
 }
 
-// NeedsOperator reports whether a start is refused, and will be until an operator has looked at the log's stores: the
-// lock, the index or the guard's state is gone, damaged or older than the log.
+// NeedsOperator reports whether an error of Open stays until an operator repairs the log's stores, because the lock,
+// the index or the guard's state is missing, damaged or older than the log.
 func NeedsOperator(err error) bool {
 	return errors.Is(err, node.ErrRolledBack) || errors.Is(err, node.ErrIndex) || errors.Is(err, stores.ErrDamaged) ||
 		errors.Is(err, signer.ErrState)
 }
 
-// named returns an error of a kind that package log names.
-func named(err error) error {
+// withKind wraps an error in the error of package loginterface for its kind. That is ErrStore if no other one fits.
+func withKind(err error) error {
 	switch {
 	case errors.Is(err, node.ErrBusy):
 		return fault{loginterface.ErrBusy, err}
@@ -340,7 +343,7 @@ func named(err error) error {
 	return fault{loginterface.ErrStore, err}
 }
 
-// fault is a failure of a kind that package log names.
+// fault is an error with a kind of package loginterface.
 type fault struct{ kind, why error }
 
 func (f fault) Error() string        { return f.kind.Error() + ": " + f.why.Error() }

@@ -11,13 +11,13 @@ import (
 	"wagtenib/internal/stores"
 )
 
-// memory keeps the newest head that this machine accepted in a file of this machine's own.
+// memory keeps the newest head that this machine accepted in a file of this machine.
 type memory struct {
 	path  string
 	logID [32]byte
 }
 
-// latestHead is what that file has: a tree head by the names of get-sth (RFC 6962, section 4.3), in JSON.
+// latestHead is the content of that file in JSON: a tree head with the field names of get-sth (RFC 6962, section 4.3).
 type latestHead struct {
 	LogID     []byte `json:"log_id"`
 	RootHash  []byte `json:"sha256_root_hash"`
@@ -25,7 +25,7 @@ type latestHead struct {
 	TreeSize  uint64 `json:"tree_size"`
 }
 
-// Load returns the head that the file has, and nil if there is no file.
+// Load returns the head in the file. It returns nil if there is no file.
 func (m memory) Load(context.Context) (*signer.Head, error) {
 	if m.path == "" {
 		return nil, nil
@@ -42,13 +42,13 @@ func (m memory) Load(context.Context) (*signer.Head, error) {
 		return nil, fmt.Errorf("%w: %s has no tree head: %.80q", node.ErrDamaged, m.path, content)
 	}
 	if [32]byte(read.LogID) != m.logID {
-		return nil, fmt.Errorf("%w: %s has a head of a log with another key (name another file by --latest-head)",
+		return nil, fmt.Errorf("%w: %s has a head of a log with another key (name another file with --latest-head)",
 			node.ErrConfig, m.path)
 	}
 	return &signer.Head{Size: read.TreeSize, Timestamp: read.Timestamp, Root: [32]byte(read.RootHash)}, nil
 }
 
-// Save replaces the file. It returns after the file is on the disk.
+// Save replaces the file. It returns after the file was synced to the disk.
 func (m memory) Save(_ context.Context, head signer.Head) error {
 	if m.path == "" {
 		return nil

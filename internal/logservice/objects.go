@@ -15,14 +15,14 @@ import (
 	"wagtenib/internal/tile"
 )
 
-// Object is loginterface.Log's. A full tile is compared each time with the tile above it, which was compared up to the
-// head's root. One that is missing from the newest head's tree, or is not that tree's, is a fault of the store, and
-// counts as damaged. A partial tile is compared if something at the log's edge is damaged.
-func (l *Log) Object(ctx context.Context, name string, most int64) ([]byte, error) {
+// Object implements loginterface.Log. A full tile is compared each time with the tile above it, which was compared up
+// to the head's root. If a tile of the newest head's tree is missing or differs from that tree, that is a fault of the
+// store, and the tile counts as damaged. A partial tile is compared only while the node's fault is node.ErrDamaged.
+func (l *Log) Object(ctx context.Context, name string, maxBytes int64) ([]byte, error) {
 	if !strings.HasPrefix(name, tile.Prefix) && !strings.HasPrefix(name, issuersPrefix) {
 		return nil, fmt.Errorf("%w: %.80q is not published", stores.ErrName, name)
 	}
-	content, err := l.stored(ctx, name, most)
+	content, err := l.stored(ctx, name, maxBytes)
 	isMissing := errors.Is(err, stores.ErrAbsent)
 	if err != nil && !isMissing {
 		return nil, err
@@ -44,9 +44,10 @@ func (l *Log) Object(ctx context.Context, name string, most int64) ([]byte, erro
 	return content, nil
 }
 
-// stored reads an object from the store. An error that is not one of the request is a fault of the store.
-func (l *Log) stored(ctx context.Context, name string, most int64) ([]byte, error) {
-	content, err := l.config.Stores.Objects.Get(ctx, name, most)
+// stored reads an object from the store. An error is a fault of the store, unless the object is absent, its name is
+// invalid, or it is longer than maxBytes and not too long for any object.
+func (l *Log) stored(ctx context.Context, name string, maxBytes int64) ([]byte, error) {
+	content, err := l.config.Stores.Objects.Get(ctx, name, maxBytes)
 	var long stores.TooLong
 	switch {
 	case err == nil, errors.Is(err, stores.ErrAbsent), errors.Is(err, stores.ErrName),
@@ -56,8 +57,8 @@ func (l *Log) stored(ctx context.Context, name string, most int64) ([]byte, erro
 	return nil, fault{loginterface.ErrStore, err}
 }
 
-// compared returns the content of a tile of a head's tree if it is that tree's. If it is not, or if the tile is
-// missing, that is a fault of the store. The janitor learns of each full tile that is damaged.
+// compared returns the content of a tile after comparing it with a head's tree. If it differs, or if the tile is
+// missing, that is a fault of the store, and compared notes a damaged full tile for the janitor.
 func (l *Log) compared(
 	ctx context.Context, name string, head signer.Head, content []byte, isMissing bool,
 ) ([]byte, error) {
@@ -75,7 +76,8 @@ func (l *Log) compared(
 	return content, nil
 }
 
-// headWith returns the newest published head that this node knows, and if that has not all of a tile, the newest one.
+// headWith returns the newest published head that this node knows. If that does not have the whole tile, headWith reads
+// the newest one.
 func (l *Log) headWith(ctx context.Context, of tlog.Tile) (signer.Head, error) {
 	if now := l.node.Known(); now != nil && tile.WidthIn(of, now.Size) >= of.W {
 		return now.Head, nil
@@ -84,7 +86,7 @@ func (l *Log) headWith(ctx context.Context, of tlog.Tile) (signer.Head, error) {
 	return signer.Head{Size: head.TreeSize, Timestamp: head.Timestamp, Root: head.RootHash}, err
 }
 
-// read reads an object of the log.
+// read reads an object of the log from the store, within patience.
 func (l *Log) read(ctx context.Context, name string) ([]byte, error) {
 	return tile.Stored(func(ctx context.Context, name string) ([]byte, error) {
 		ctx, cancel := context.WithTimeout(ctx, patience)

@@ -17,13 +17,13 @@ import (
 	"wagtenib/internal/tile"
 )
 
-// defaults are the defaults of ctserve's settings that the pages state.
+// These are the defaults of ctserve's settings that the pages state.
 const (
 	maxWritten, maxSkew = 16 << 20, 10 * time.Second
 	keepTiles, scrub    = 5 * time.Minute, time.Second
 )
 
-// The bounds that docs/SERVICE.md and docs/OPERATING.md state of a node are those of this package.
+// TestPageSaysBounds checks that docs/SERVICE.md and docs/OPERATING.md state the bounds of this package for a node.
 func TestPageSaysBounds(t *testing.T) {
 	t.Parallel()
 	week := 7 * 24 * time.Hour
@@ -45,12 +45,12 @@ func TestPageSaysBounds(t *testing.T) {
 			"16 (the maximum) for 2.5 x 10^9": scrub == time.Second && week/time.Second*tile.Width/1e7 == 15 &&
 			week/time.Second*tile.Width*again/1e8 == 24,
 	})
-	// 255 of the largest entries and a step's new ones, with what a tile and a line have beside them, and a tile of the
-	// largest.
-	const beside = 10 + 32 + 2*3 + 2 + 8 + 2 + 32*chains.MaxCertificates
-	largest, answers := int64(tile.Width*(MaxEntry+beside)), httpserver.DefaultLimits().AnswerBytes
+	// overhead is the number of bytes of a leaf in a data tile besides those that count for MaxEntry, and largest the
+	// size of a tile of the largest entries.
+	const overhead = 10 + 32 + 2*3 + 2 + 8 + 2 + 32*chains.MaxCertificates
+	largest, answers := int64(tile.Width*(MaxEntry+overhead)), httpserver.DefaultLimits().AnswerBytes
 	ofOne := max(answers/8, stores.MaxObject+1<<20)
-	// Half of what is written are partial tiles, and these stay for as long again as they have to.
+	// Half of the written bytes are partial tiles. They may stay for twice the time for which they must stay.
 	partials := float64(maxWritten) / 2 * 2 * keepTiles.Seconds()
 	testutil.Says(t, testutil.Page(t, "../../docs/SERVICE.md"), map[string]bool{
 		"An entry has at most 128 KiB because a step holds 255 of them, in the partial data tile, beside 12 MiB of " +
@@ -69,7 +69,8 @@ func TestPageSaysBounds(t *testing.T) {
 	})
 }
 
-// alertAt returns the number above which, or below which, an alert fires, as release/prometheus/ctserve.rules.yml has it.
+// alertAt returns the number above which, or below which, an alert fires, as release/prometheus/ctserve.rules.yml has
+// it.
 func alertAt(t *testing.T, expression string) float64 {
 	t.Helper()
 	rules, err := os.ReadFile("../../release/prometheus/ctserve.rules.yml")
@@ -88,19 +89,20 @@ func alertAt(t *testing.T, expression string) float64 {
 	return number
 }
 
-// An alert fires after what a log does by itself, and before what it refuses anyway.
+// TestAlertsFitTheBounds checks that no alert fires for what a log does in normal operation, and that each fires before
+// the log refuses submissions for the same reason.
 func TestAlertsFitTheBounds(t *testing.T) {
 	t.Parallel()
 	if ahead := alertAt(t, "ctserve_head_age_seconds <"); ahead >= 0 || -ahead > maxSkew.Seconds() {
-		t.Errorf("a head is ahead from %v s on, and a clock may be by %v", ahead, maxSkew)
+		t.Errorf("the alert for a head in the future fires at %v s, and a clock may be ahead by %v", ahead, maxSkew)
 	}
 	// The longest pause after a round that failed is 5 s.
 	const pause = 5 * time.Second
-	if old := alertAt(t, "ctserve_round_age_seconds >"); old < (roundWithin + pause + lookEvery).Seconds() {
-		t.Errorf("no round went well for %v s, and one may take %v, and be %v after the one before", old, roundWithin,
-			pause)
+	if old := alertAt(t, "ctserve_round_age_seconds >"); old < (roundWithin + pause + lookInterval).Seconds() {
+		t.Errorf("the alert fires %v s after a round, and a round may take %v and begin %v after the one before", old,
+			roundWithin, pause)
 	}
-	// Each pass of the janitor that fails counts.
+	// Each failed pass of the janitor counts.
 	if failed := alertAt(t,
 		`increase\(ctserve_janitor_failures_total\[1h\]\) >`); failed >= time.Hour.Seconds()/scrub.Seconds() ||
 		failed < 1 {

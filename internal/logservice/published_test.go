@@ -22,16 +22,16 @@ import (
 	"wagtenib/internal/witness"
 )
 
-// signedAgain returns a note of a head with another signature of the log's key, for a timestamp.
+// signedAgain returns a note of the same head with another signature of the log's key, for a timestamp.
 func signedAgain(key *signer.Key, content []byte, size, timestamp uint64) ([]byte, error) {
 	text, rest, _ := strings.Cut(string(content), "\n\n")
 	line, _, _ := strings.Cut(rest, "\n")
-	lines, words := strings.Split(text, "\n"), strings.Split(line, " ")
+	lines, parts := strings.Split(text, "\n"), strings.Split(line, " ")
 	root, err := base64.StdEncoding.DecodeString(lines[2])
 	if err != nil {
 		return nil, err
 	}
-	blob, err := base64.StdEncoding.DecodeString(words[2])
+	blob, err := base64.StdEncoding.DecodeString(parts[2])
 	if err != nil {
 		return nil, err
 	}
@@ -41,11 +41,11 @@ func signedAgain(key *signer.Key, content []byte, size, timestamp uint64) ([]byt
 		return nil, err
 	}
 	blob = append(binary.BigEndian.AppendUint64(blob[:4:4], timestamp), signed...)
-	return []byte(fmt.Sprintf("%s\n\n%s %s %s\n", text, words[0], words[1],
+	return []byte(fmt.Sprintf("%s\n\n%s %s %s\n", text, parts[0], parts[1],
 		base64.StdEncoding.EncodeToString(blob))), nil
 }
 
-// overtaken are objects among which another node's signature of each head is put first.
+// overtaken is a store of objects in which another node stores each head first, with another signature.
 type overtaken struct {
 	stores.Objects
 	key *signer.Key
@@ -68,7 +68,8 @@ func (o overtaken) Put(ctx context.Context, name string, content []byte) error {
 	return o.Objects.Put(ctx, name, content)
 }
 
-// If another node put a head first, with its own signature, that one is the head which this node shows.
+// TestShowsTheHeadThatIsInTheStore checks that, if another node stored a head first, with its own signature, this node
+// serves that one.
 func TestShowsTheHeadThatIsInTheStore(t *testing.T) {
 	t.Parallel()
 	p, got := newPlace(t), &answers{}
@@ -79,25 +80,26 @@ func TestShowsTheHeadThatIsInTheStore(t *testing.T) {
 	head, err := l.Checkpoint(limited(t))
 	must(t, err)
 	if _, stored := p.newestHead(); !bytes.Equal(stored, head.Note) {
-		t.Errorf("the store has\n%s\nand the node shows\n%s", stored, head.Note)
+		t.Errorf("the store has\n%s\nand the node serves\n%s", stored, head.Note)
 	}
-	p.right(got)
+	p.checkLog(got)
 }
 
-// stuck is a store of the checkpoint that takes nothing while it is set.
+// stuck is a store of the checkpoint that refuses each swap while it is full.
 type stuck struct {
 	stores.Current
-	is atomic.Bool
+	isFull atomic.Bool
 }
 
 func (s *stuck) Swap(ctx context.Context, name string, old, new []byte) error {
-	if s.is.Load() {
+	if s.isFull.Load() {
 		return errFull
 	}
 	return s.Current.Swap(ctx, name, old, new)
 }
 
-// A head is not said to be published before readers without a node can fetch it as the checkpoint.
+// TestPublishedAfterItsCheckpoint checks that the lock does not name a head as published before readers without a node
+// can fetch it as the checkpoint.
 func TestPublishedAfterItsCheckpoint(t *testing.T) {
 	t.Parallel()
 	p, got := newPlace(t), &answers{}
@@ -109,20 +111,20 @@ func TestPublishedAfterItsCheckpoint(t *testing.T) {
 	config.Stores.Current = checkpoint
 	l := started(t, config)
 	got.submit(t, l, 0, 3)
-	checkpoint.is.Store(true)
+	checkpoint.isFull.Store(true)
 	_, err = l.Submit(limited(t), entryOf(3))
 	wants(t, err, errFull)
 	if published, err := config.Stores.Lock.Published(limited(t)); err != nil || published.Size != 3 {
-		t.Errorf("%v: %d entries are said to be published", err, published.Size)
+		t.Errorf("%v: the lock names %d entries as published", err, published.Size)
 	}
-	checkpoint.is.Store(false)
+	checkpoint.isFull.Store(false)
 	eventually(t, "it goes on", func() bool { return l.Metrics().Fault == "" })
 	got.submit(t, l, 3, 4)
-	p.right(got)
+	p.checkLog(got)
 }
 
-// replaced is a store of the checkpoint. Before its next swap, another node puts a head that is a millisecond later
-// than the one there.
+// replaced is a store of the checkpoint. Before its next swap, another node stores a head that is a millisecond later
+// than the present one.
 type replaced struct {
 	stores.Current
 	key  *signer.Key
@@ -146,7 +148,8 @@ func (r *replaced) Swap(ctx context.Context, name string, old, new []byte) error
 	return r.Current.Swap(ctx, name, old, new)
 }
 
-// If another node has replaced the checkpoint meanwhile, the node reads it again, and replaces that one.
+// TestCheckpointIsReadAgainAfterALostSwap checks that, if another node has replaced the checkpoint meanwhile, the node
+// reads it again and replaces the other node's.
 func TestCheckpointIsReadAgainAfterALostSwap(t *testing.T) {
 	t.Parallel()
 	p, got := newPlace(t), &answers{}
@@ -161,7 +164,8 @@ func TestCheckpointIsReadAgainAfterALostSwap(t *testing.T) {
 	checkpoint.next.Store(true)
 	got.submit(t, l, 3, 4)
 	if fault := l.Metrics().LastFault; fault != "" || checkpoint.next.Load() {
-		t.Errorf("it has the fault %q, and the checkpoint is still to be replaced: %t", fault, checkpoint.next.Load())
+		t.Errorf("the node had the fault %q, and the checkpoint was not replaced in between: %t", fault,
+			checkpoint.next.Load())
 	}
 	head, err := l.Checkpoint(limited(t))
 	must(t, err)
@@ -170,15 +174,15 @@ func TestCheckpointIsReadAgainAfterALostSwap(t *testing.T) {
 	}
 }
 
-// silent is a lock that does not say what is published while it is set. It keeps the time that each such call has.
+// silent is a lock that does not return the published head while it is away. It records the time that such a call has.
 type silent struct {
 	stores.Lock
-	is   atomic.Bool
-	left chan time.Duration
+	isAway atomic.Bool
+	left   chan time.Duration
 }
 
 func (s *silent) Published(ctx context.Context) (stores.Published, error) {
-	if !s.is.Load() {
+	if !s.isAway.Load() {
 		return s.Lock.Published(ctx)
 	}
 	until, _ := ctx.Deadline()
@@ -189,7 +193,8 @@ func (s *silent) Published(ctx context.Context) (stores.Published, error) {
 	return stores.Published{}, errors.New("the lock is silent")
 }
 
-// A reader waits for a silent lock for at most two seconds if the node knows a head, which it then gets.
+// TestReadersWaitBrieflyForTheLock checks that a reader waits for a silent lock for at most two seconds if the node
+// knows a head. Then the reader gets that head.
 func TestReadersWaitBrieflyForTheLock(t *testing.T) {
 	t.Parallel()
 	p, got := newPlace(t), &answers{}
@@ -198,19 +203,19 @@ func TestReadersWaitBrieflyForTheLock(t *testing.T) {
 	config.Stores.Lock = lock
 	l := started(t, config)
 	got.submit(t, l, 0, 3)
-	lock.is.Store(true)
+	lock.isAway.Store(true)
 	head, err := l.Checkpoint(limited(t))
 	if err != nil || head.TreeSize != 3 {
 		t.Errorf("%v, %d entries", err, head.TreeSize)
 	}
 	if left := <-lock.left; left > 2*time.Second {
-		t.Errorf("the call has %v", left)
+		t.Errorf("the call has %v until its deadline", left)
 	}
 }
 
-// A tile at the edge of the tree that has more bytes than any object may have is damaged. The node makes it again from
-// the newest staged batch.
-func TestMendsAnObjectThatIsTooLong(t *testing.T) {
+// TestRepairsAnObjectThatIsTooLong checks that a tile at the right edge of the tree counts as damaged if it has more
+// bytes than any object may have. The node makes it again from the newest staged batch.
+func TestRepairsAnObjectThatIsTooLong(t *testing.T) {
 	t.Parallel()
 	p, got := newPlace(t), &answers{}
 	l := started(t, p.config())
@@ -220,13 +225,13 @@ func TestMendsAnObjectThatIsTooLong(t *testing.T) {
 	l = started(t, p.config())
 	got.submit(t, l, 3, 5)
 	if f := l.Metrics(); f.Repaired != 1 || f.LastRepaired != "tile/0/000.p/3" {
-		t.Errorf("%d objects are made again, the last is %q", f.Repaired, f.LastRepaired)
+		t.Errorf("%d objects are repaired, the last is %q", f.Repaired, f.LastRepaired)
 	}
-	p.right(got)
+	p.checkLog(got)
 }
 
-// Submissions that are given up leave the bytes that they had in the queue to others.
-func TestGivenUpSubmissionsLeaveTheirBytes(t *testing.T) {
+// TestFreesBytesOfAbandonedSubmissions checks that submissions whose clients give up free their bytes in the queue.
+func TestFreesBytesOfAbandonedSubmissions(t *testing.T) {
 	t.Parallel()
 	p, got := newPlace(t), &answers{}
 	config := p.config()
@@ -234,8 +239,8 @@ func TestGivenUpSubmissionsLeaveTheirBytes(t *testing.T) {
 	config.Stores.Objects = held
 	l := started(t, config)
 	got.submit(t, l, 0, 1)
-	letGo := held.hold()
-	defer letGo()
+	release := held.hold()
+	defer release()
 	const many = logservice.MaxQueueBytes*3/4/logservice.MaxEntry + 1
 	for turn := range 2 {
 		ctx, cancel := context.WithCancel(limited(t))
@@ -264,9 +269,9 @@ func TestGivenUpSubmissionsLeaveTheirBytes(t *testing.T) {
 	}
 }
 
-// A log that begins again from nothing is stopped if one witness saw more of it, although enough others cosign its
-// first head.
-func TestOneWitnessThatSawMoreStopsAStart(t *testing.T) {
+// TestRefusesStartIfOneWitnessIsAhead checks that a log that begins again from nothing is stopped if one witness
+// cosigned more of it, although enough other witnesses cosign its first head.
+func TestRefusesStartIfOneWitnessIsAhead(t *testing.T) {
 	t.Parallel()
 	p := newPlace(t)
 	config := p.config()

@@ -12,8 +12,8 @@ import (
 )
 
 const (
-	// maxReading is how long one reading of the newest head may take, and slowReading how long one lasts before the
-	// next one is made beside it.
+	// maxReading is the maximum time of one reading of the newest head, and slowReading the time after which another
+	// one may begin beside it.
 	maxReading, slowReading = 30 * time.Second, time.Second
 )
 
@@ -21,46 +21,48 @@ const (
 // does not wait for each of them. A reading that has begun may be too early, so a later request shares the next one.
 type readings struct {
 	mu sync.Mutex
-	// next has not begun; nil if nobody waits for it. isGoing says that somebody makes one after the other.
-	next    *reading
-	isGoing bool
+	// next is the reading that has not begun yet. It is nil if no request waits for it. isRunning is true while run
+	// makes one reading after the other.
+	next      *reading
+	isRunning bool
 }
 
-// reading is one of them. Its head and error may be read after done is closed.
+// reading is one reading of the newest head. Its head and error may be used after done is closed.
 type reading struct {
 	done chan struct{}
 	head loginterface.Head
 	err  error
 }
 
-// join returns the reading that begins next. If none is being made, it begins at once.
+// join returns the next reading. If none is being made, it begins at once.
 func (r *readings) join(read func(context.Context) (loginterface.Head, error)) *reading {
 	r.mu.Lock()
 	defer r.mu.Unlock()
 	if r.next == nil {
 		r.next = &reading{done: make(chan struct{})}
 	}
-	if !r.isGoing {
-		r.isGoing = true
-		go r.goOn(read)
+	if !r.isRunning {
+		r.isRunning = true
+		go r.run(read)
 	}
 	return r.next
 }
 
-// take returns the next reading, and nil if nobody waits.
-func (r *readings) take() *reading {
+// startNext returns the next reading, which begins now, or nil if no request waits.
+func (r *readings) startNext() *reading {
 	r.mu.Lock()
 	defer r.mu.Unlock()
 	next := r.next
-	r.next, r.isGoing = nil, next != nil
+	r.next, r.isRunning = nil, next != nil
 	return next
 }
 
-// goOn makes readings as long as somebody waits for one. After a slow one another coroutine goes on.
-func (r *readings) goOn(read func(context.Context) (loginterface.Head, error)) {
-	for now := r.take(); now != nil; now = r.take() {
+// run makes readings as long as a request waits for one. It ends after a slow reading, because another goroutine makes
+// the next ones then.
+func (r *readings) run(read func(context.Context) (loginterface.Head, error)) {
+	for now := r.startNext(); now != nil; now = r.startNext() {
 		ctx, cancel := context.WithTimeout(context.Background(), maxReading)
-		slow := time.AfterFunc(slowReading, func() { r.beside(read) })
+		slow := time.AfterFunc(slowReading, func() { r.runAnother(read) })
 		now.head, now.err = read(ctx)
 		isLast := slow.Stop()
 		cancel()
@@ -71,12 +73,13 @@ func (r *readings) goOn(read func(context.Context) (loginterface.Head, error)) {
 	}
 }
 
-// beside makes readings beside a slow one, if somebody waits for one, or after somebody comes.
-func (r *readings) beside(read func(context.Context) (loginterface.Head, error)) {
+// runAnother lets another goroutine make readings beside a slow one. It begins now if a request waits, and otherwise
+// with the next request.
+func (r *readings) runAnother(read func(context.Context) (loginterface.Head, error)) {
 	r.mu.Lock()
 	defer r.mu.Unlock()
-	if r.isGoing = r.next != nil; r.isGoing {
-		go r.goOn(read)
+	if r.isRunning = r.next != nil; r.isRunning {
+		go r.run(read)
 	}
 }
 
@@ -103,7 +106,7 @@ func (l *Log) newest(ctx context.Context) (loginterface.Head, error) {
 	return l.headOf(head)
 }
 
-// HeadOf is loginterface.Log's. A request below a head that this node knows does not wait for the lock.
+// HeadOf implements loginterface.Log. A request below a head that this node knows does not wait for the lock.
 func (l *Log) HeadOf(ctx context.Context, entries uint64) (loginterface.Head, error) {
 	if now := l.node.Known(); now != nil && now.Size >= entries {
 		return l.headOf(*now)
@@ -111,7 +114,7 @@ func (l *Log) HeadOf(ctx context.Context, entries uint64) (loginterface.Head, er
 	return l.Checkpoint(ctx)
 }
 
-// headOf returns a head as package log has it.
+// headOf returns a node's head as a loginterface.Head.
 func (l *Log) headOf(head node.Head) (loginterface.Head, error) {
 	signature, err := l.node.Signature(head)
 	if err != nil {
@@ -121,7 +124,7 @@ func (l *Log) headOf(head node.Head) (loginterface.Head, error) {
 		Signature: signature}, nil
 }
 
-// IndexOf is loginterface.Log's.
+// IndexOf implements loginterface.Log.
 func (l *Log) IndexOf(ctx context.Context, leafHash [32]byte) (uint64, error) {
 	found, err := l.config.Stores.Index.FindLeaves(ctx, []stores.Identity{leafHash})
 	if err != nil {
@@ -129,7 +132,7 @@ func (l *Log) IndexOf(ctx context.Context, leafHash [32]byte) (uint64, error) {
 	}
 	place, ok := found[leafHash]
 	if !ok {
-		return 0, fmt.Errorf("%w: a leaf of this hash", stores.ErrAbsent)
+		return 0, fmt.Errorf("%w: a leaf with this hash", stores.ErrAbsent)
 	}
 	return place.Index, nil
 }

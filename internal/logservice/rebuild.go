@@ -15,29 +15,29 @@ import (
 	"wagtenib/internal/tile"
 )
 
-// leftIdentity is the identity under which an index has how many of the first entries it lacks, while it is being built
-// again. It is no submission's.
+// leftIdentity is the identity under which an index has the number of the first entries that it lacks, while it is
+// being built again. No submission has it.
 var leftIdentity = stores.Identity(sha256.Sum256([]byte("how many of a log's first entries the index lacks")))
 
-// maxHead is how many bytes a head in the store has at most.
+// maxHead is the maximum number of bytes of a head in the store.
 const maxHead = 1 << 20
 
 // RebuildIndex sets the places of all entries of a log from its tiles, each of which is compared with the tree of the
 // newest published head. It works from the newest entry to the first, so that a duplicate entry gets its first place.
-// After each tile it reports how many entries are left, which the index has too: if it is stopped, a node goes on with
-// them.
-func RebuildIndex(ctx context.Context, of Stores, told func(left uint64)) error {
+// After each tile it calls report with the number of entries that are left. The index stores that number too, so if
+// RebuildIndex is stopped, a node goes on with the rest.
+func RebuildIndex(ctx context.Context, of Stores, report func(left uint64)) error {
 	head, err := publishedHead(ctx, of)
 	if err != nil {
 		return err
 	}
-	if err := takeID(ctx, of); err != nil {
+	if err := restoreID(ctx, of); err != nil {
 		return err
 	}
-	return rebuild(ctx, of, head, head.Size, told)
+	return rebuild(ctx, of, head, head.Size, report)
 }
 
-// publishedHead returns the newest head that is published. That is the newest state's, or, if that one is not published
+// publishedHead returns the newest published head. That is the head of the newest state, or if that is not published
 // yet, the head in the store that the lock names. A node that starts adds the entries after it.
 func publishedHead(ctx context.Context, of Stores) (head signer.Head, err error) {
 	text, err := of.Lock.Read(ctx)
@@ -63,7 +63,7 @@ func publishedHead(ctx context.Context, of Stores) (head signer.Head, err error)
 	if err != nil {
 		return head, fmt.Errorf("serve: %s: %w", name, err)
 	}
-	// Its signature is not checked: the index only says where to look for an entry.
+	// The head's signature is not checked, because the index only says where to look for an entry.
 	signed, _, _ := strings.Cut(string(content), "\n\n")
 	checkpoint, err := wagtenib.ReadCheckpoint(signed + "\n")
 	if err != nil || checkpoint.TreeSize != published.Size {
@@ -72,8 +72,8 @@ func publishedHead(ctx context.Context, of Stores) (head signer.Head, err error)
 	return signer.Head{Size: published.Size, Timestamp: published.Timestamp, Root: checkpoint.Root}, nil
 }
 
-// rebuild sets the places of the entries below an index, the newest tile first.
-func rebuild(ctx context.Context, of Stores, head signer.Head, below uint64, told func(left uint64)) error {
+// rebuild sets the places of the entries with an index below a number, the newest tile first.
+func rebuild(ctx context.Context, of Stores, head signer.Head, below uint64, report func(left uint64)) error {
 	read := tile.Stored(func(ctx context.Context, name string) ([]byte, error) {
 		return of.Objects.Get(ctx, name, stores.MaxObject)
 	})
@@ -88,10 +88,10 @@ func rebuild(ctx context.Context, of Stores, head signer.Head, below uint64, tol
 			rows[i] = stores.Row{Identity: node.Identity(&leaves[i]), Leaf: stores.Identity(leaves[i].Hash()),
 				Place: stores.Place{Index: left + uint64(i), Timestamp: leaves[i].Timestamp}}
 		}
-		if err := of.Index.Replace(ctx, append(rows, own(leftIdentity, stores.Place{Index: left}))); err != nil {
+		if err := of.Index.Replace(ctx, append(rows, ownRow(leftIdentity, stores.Place{Index: left}))); err != nil {
 			return fmt.Errorf("serve: the index: %w", err)
 		}
-		told(left)
+		report(left)
 	}
 	return nil
 }
@@ -105,24 +105,26 @@ func leftIn(ctx context.Context, index stores.Index) (uint64, error) {
 	return found[leftIdentity].Index, nil
 }
 
-// completeAfter is the time after which a node goes on with an index if that failed.
+// completeAfter is the time after which a node tries again to complete an index.
 const completeAfter = 10 * time.Second
 
-// completeIndex goes on with an index that RebuildIndex left, until it has all entries or the context ends.
+// completeIndex completes an index that RebuildIndex left incomplete. It returns after the index has all entries, or
+// the context ended.
 func (l *Log) completeIndex(ctx context.Context) {
 	for {
-		err := l.completesIndex(ctx)
+		err := l.completeIndexOnce(ctx)
 		if err == nil || ctx.Err() != nil {
 			return
 		}
 		l.counts.failed(fmt.Errorf("the index is not complete: %w", err))
-		if l.config.Machine.Of.Wait(ctx, completeAfter, nil) != nil {
+		if l.config.Machine.Clock.Wait(ctx, completeAfter, nil) != nil {
 			return
 		}
 	}
 }
 
-func (l *Log) completesIndex(ctx context.Context) error {
+// completeIndexOnce tries once to complete an index.
+func (l *Log) completeIndexOnce(ctx context.Context) error {
 	left, err := leftIn(ctx, l.config.Stores.Index)
 	if err != nil || left == 0 {
 		return err

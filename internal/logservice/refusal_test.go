@@ -16,7 +16,7 @@ import (
 type awayLock struct {
 	stores.Lock
 	isAway atomic.Bool
-	// failed counts the readings that got no answer.
+	// failed counts the reads that failed.
 	failed atomic.Int64
 }
 
@@ -43,8 +43,9 @@ func (s *laterSigner) SignHead(ctx context.Context, head signer.Head, proof [][3
 	return s.Signer.SignHead(ctx, head, proof)
 }
 
-// TestRefusalWhileTheLockIsAway: the signer refuses a head, and the lock cannot be read. Another node may have gone on
-// then, so that is no alarm: the submission waits, and is answered after both work again.
+// TestRefusalWhileTheLockIsAway checks what a node does if the signer refuses a head, and the lock cannot be read.
+// Another node may have gone on, so the node raises no alert. The submission waits, and is answered after both work
+// again.
 func TestRefusalWhileTheLockIsAway(t *testing.T) {
 	t.Parallel()
 	p, got := newPlace(t), &answers{}
@@ -70,7 +71,7 @@ func TestRefusalWhileTheLockIsAway(t *testing.T) {
 	later.refuses.Store(false)
 	lock.isAway.Store(false)
 	must(t, <-answered)
-	if leaves := p.right(got); leaves != 2 {
+	if leaves := p.checkLog(got); leaves != 2 {
 		t.Errorf("the log has %d entries", leaves)
 	}
 }

@@ -16,16 +16,16 @@ import (
 	"wagtenib/internal/witness"
 )
 
-// remote is a witness over HTTP (node.Witness). A call goes on after the node has enough cosignatures, so that a
-// witness that is slow still cosigns the newest head, and is not taken for one that is away.
+// remote is a witness over HTTP (node.Witness). A call goes on after the node has enough cosignatures, so that a slow
+// witness still cosigns the newest head, and is not taken for one that does not answer.
 type remote struct {
 	witness.Client
 	counts  *counts
 	sources *sources
-	// turn is held by the call that is under way, and calls waits for that.
+	// turn has an element while a call is being made, and calls waits for the call's end.
 	turn  chan struct{}
 	calls sync.WaitGroup
-	// isElsewhere reports that it answered from another machine, and so has another clock.
+	// isElsewhere is true if the witness answered from another machine, and so has another clock.
 	isElsewhere atomic.Bool
 }
 
@@ -44,59 +44,59 @@ type answered struct {
 	err    error
 }
 
-// AddCheckpoint is node.Witness's. It returns once the context ends.
+// AddCheckpoint implements node.Witness. It returns when the context ends, even if the call goes on.
 func (r *remote) AddCheckpoint(ctx context.Context, body []byte) (status int, answer string, err error) {
 	select {
 	case r.turn <- struct{}{}:
 	case <-ctx.Done():
-		err := fmt.Errorf("witness: %s is not done with the head before: %w", r.Name, ctx.Err())
+		err := fmt.Errorf("witness: %s has not answered for the previous head: %w", r.Name, ctx.Err())
 		r.missed(err)
 		return 0, "", err
 	}
-	outcome := make(chan answered, 1)
+	outcomes := make(chan answered, 1)
 	r.calls.Add(1)
 	go func() {
 		defer r.calls.Done()
 		own, cancel := context.WithTimeout(context.WithoutCancel(ctx), cosignWithin)
 		defer cancel()
-		came := r.ask(own, body)
+		outcome := r.ask(own, body)
 		<-r.turn
-		outcome <- came
+		outcomes <- outcome
 	}()
 	select {
-	case came := <-outcome:
-		return came.status, came.answer, came.err
+	case outcome := <-outcomes:
+		return outcome.status, outcome.answer, outcome.err
 	case <-ctx.Done():
 		return 0, "", fmt.Errorf("witness: %s: %w", r.Name, ctx.Err())
 	}
 }
 
-// ask makes one call, and counts its outcome. A conflict counts as nothing: the node asks again, or says that the
-// witness saw more.
-func (r *remote) ask(ctx context.Context, body []byte) (came answered) {
+// ask makes one call, and counts its outcome. A conflict is not counted: the node asks again, or reports that the
+// witness is ahead.
+func (r *remote) ask(ctx context.Context, body []byte) (outcome answered) {
 	ctx = httptrace.WithClientTrace(ctx,
 		&httptrace.ClientTrace{GotConn: func(info httptrace.GotConnInfo) {
 			r.isElsewhere.Store(stores.IsElsewhere(info.Conn))
 		}})
 	before := r.sources.clock.Elapsed()
-	came.status, came.answer, came.err = r.Client.AddCheckpoint(ctx, body)
+	outcome.status, outcome.answer, outcome.err = r.Client.AddCheckpoint(ctx, body)
 	switch {
-	case came.err != nil:
-		r.missed(came.err)
-	case came.status == http.StatusConflict || came.status == http.StatusUnprocessableEntity:
-	case came.status != http.StatusOK:
-		r.missed(fmt.Errorf("witness: %s answers %d: %.80q", r.Name, came.status, came.answer))
-	case !r.isCosigned(body, came.answer):
+	case outcome.err != nil:
+		r.missed(outcome.err)
+	case outcome.status == http.StatusConflict || outcome.status == http.StatusUnprocessableEntity:
+	case outcome.status != http.StatusOK:
+		r.missed(fmt.Errorf("witness: %s answers %d: %.80q", r.Name, outcome.status, outcome.answer))
+	case !r.isCosigned(body, outcome.answer):
 		r.missed(fmt.Errorf("witness: %s answers no cosignature of its key", r.Name))
 	default:
 		if r.isElsewhere.Load() {
-			r.sources.hearWitness(r.Name, came.answer, before)
+			r.sources.recordWitness(r.Name, outcome.answer, before)
 		}
 		r.counts.witness(r.Name, func(w *loginterface.Witness) {
 			*w = loginterface.Witness{Name: r.Name, Cosigned: w.Cosigned + 1}
 		})
 	}
-	return came
+	return outcome
 }
 
 // isCosigned reports whether an answer is a cosignature of the request's checkpoint.
@@ -109,19 +109,20 @@ func (r *remote) isCosigned(body []byte, answer string) bool {
 	return err == nil && len(opened.Sigs) == 1
 }
 
-// missed keeps why the witness did not cosign. One that does not answer has seen no less than before.
+// missed records why the witness did not cosign. It leaves IsAhead as it is, because a witness that does not answer is
+// as far ahead as before.
 func (r *remote) missed(err error) {
 	r.counts.witness(r.Name, func(w *loginterface.Witness) { w.Missed, w.Fault = w.Missed+1, err.Error() })
 }
 
-// standing returns the witness's state for the log.
-func (r *remote) standing() loginterface.Witness {
+// state returns the witness's state for the log.
+func (r *remote) state() loginterface.Witness {
 	r.counts.mu.Lock()
 	defer r.counts.mu.Unlock()
 	return r.counts.witnesses[r.Name]
 }
 
-// close returns after the last call.
+// close waits for the last call, and closes the connections.
 func (r *remote) close() {
 	r.calls.Wait()
 	r.HTTP.CloseIdleConnections()

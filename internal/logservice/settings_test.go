@@ -9,8 +9,8 @@ import (
 	"wagtenib/internal/node"
 )
 
-// A log that is started with another log's origin or key is refused, and nothing of it is changed.
-func TestAnotherLogsSettings(t *testing.T) {
+// TestRefusesAnotherLogsSettings checks that a start with another log's origin or key is refused, and changes nothing.
+func TestRefusesAnotherLogsSettings(t *testing.T) {
 	t.Parallel()
 	p, got := newPlace(t), &answers{}
 	l := started(t, p.config())
@@ -30,15 +30,16 @@ func TestAnotherLogsSettings(t *testing.T) {
 			t.Errorf("%v does not say %s", err, what)
 		}
 	}
-	if leaves := p.right(got); leaves != 5 {
+	if leaves := p.checkLog(got); leaves != 5 {
 		t.Errorf("%d entries", leaves)
 	}
 	l = started(t, p.config())
 	got.submit(t, l, 0, 6)
 }
 
-// A configuration that lacks something, or has a number that cannot be, is refused by name.
-func TestConfigurations(t *testing.T) {
+// TestRefusesWrongConfigurations checks that a configuration that lacks something, or has an impossible value, is
+// refused with an error that names it.
+func TestRefusesWrongConfigurations(t *testing.T) {
 	t.Parallel()
 	p := newPlace(t)
 	for what, change := range map[string]func(*logservice.Config){
@@ -56,6 +57,6 @@ func TestConfigurations(t *testing.T) {
 		}
 	}
 	if _, err := os.Stat(p.object("heads")); err == nil {
-		t.Error("a log is made by a configuration that is refused")
+		t.Error("a refused configuration created a log")
 	}
 }

@@ -13,109 +13,112 @@ import (
 )
 
 const (
-	// askEvery is how often other machines are asked for the time, and askWithin how long an answer may take.
-	askEvery  = 10 * time.Second
-	askWithin = 3 * time.Second
-	// forgotten is for how long an answer counts.
-	forgotten = 10 * time.Minute
+	// askInterval is the interval at which other machines are asked for the time, and askWithin the maximum time for
+	// their answers.
+	askInterval = 10 * time.Second
+	askWithin   = 3 * time.Second
+	// maxReadingAge is the time for which an answer counts.
+	maxReadingAge = 10 * time.Minute
 )
 
-// teller is a store on another machine that says what time it is.
-type teller struct {
+// timedStore is a store on another machine that has a clock.
+type timedStore struct {
 	name string
 	stores.Timed
 }
 
-// heard is what a clock said: the time of day, how far off that may be by how it came, and the time since boot at which
-// it was true.
-type heard struct {
+// clockReading is the answer of another clock.
+type clockReading struct {
+	// at is its time of day, which may be off by margin because of the precision and duration of the answer.
 	at     time.Time
-	within time.Duration
-	when   time.Duration
+	margin time.Duration
+	// elapsed is the time since boot of this machine when that was the time of day.
+	elapsed time.Duration
 }
 
-// sources are the clocks beside the machine's own: the kernel's word, the stores' machines, the node that makes the
-// steps, the witnesses, and the day that the operator names. A timestamp in a log never goes back, and one of the
-// future stops it until then, so the time of day is compared with all of these.
+// sources compares the machine's time of day with other sources: the kernel, the clocks of the stores' machines, of the
+// node that makes the steps and of the witnesses, and the day that the operator names. The comparison is needed because
+// the timestamps of a log must never fall: a timestamp in the future stops the log until then.
 type sources struct {
-	clock   Clock
-	files   Files
-	bounds  ClockBounds
-	tellers []teller
-	// soon has the tellers be asked at once.
-	soon chan struct{}
+	clock       Clock
+	files       Files
+	bounds      ClockBounds
+	timedStores []timedStore
+	// askNow wakes the loop that asks the other clocks.
+	askNow chan struct{}
 
 	mu sync.Mutex
-	// said is what tellers said last, by their names, and node is what the node with that address said.
-	said map[string]heard
-	node map[string]heard
-	// cosigned is what the witnesses on other machines said, by their names.
-	cosigned map[string]heard
+	// ofStores has the last readings of the stores' clocks by their names, and ofNode the last one of another node by
+	// its address.
+	ofStores map[string]clockReading
+	ofNode   map[string]clockReading
+	// ofWitnesses has the last readings of the witnesses on other machines by their names.
+	ofWitnesses map[string]clockReading
 }
 
 // newSources returns the sources of a log over these stores.
 func newSources(clock Clock, bounds ClockBounds, files Files, of Stores) *sources {
-	s := &sources{clock: clock, bounds: bounds, files: files, soon: make(chan struct{}, 1), said: map[string]heard{},
-		node: map[string]heard{}, cosigned: map[string]heard{}}
+	s := &sources{clock: clock, bounds: bounds, files: files, askNow: make(chan struct{}, 1),
+		ofStores: map[string]clockReading{}, ofNode: map[string]clockReading{}, ofWitnesses: map[string]clockReading{}}
 	for _, one := range []struct {
 		name  string
 		store any
 	}{{"the objects' store", of.Objects}, {"the lock's store", of.Lock}, {"the index's store", of.Index}} {
 		if timed, ok := one.store.(stores.Timed); ok {
-			s.tellers = append(s.tellers, teller{one.name, timed})
+			s.timedStores = append(s.timedStores, timedStore{one.name, timed})
 		}
 	}
 	return s
 }
 
-// Compare is node.Sources'. The kernel, the stores' machines and the node that makes the steps count always. The
-// witnesses vouch for the time, and only a node that starts is refused by them, since a witness's clock must not stop a
-// log that runs.
+// Compare implements node.Sources. The kernel, the stores' machines and the node that makes the steps always count. The
+// witnesses can confirm the time. They can refuse it only when a node starts, because a witness's clock must not stop a
+// running log.
 func (s *sources) Compare(now time.Time, elapsed time.Duration, starts bool) (bool, error) {
 	isVouched, err := s.compare(now, elapsed, starts)
 	if err != nil {
-		s.hurry()
+		s.askSoon()
 	}
 	return isVouched, err
 }
 
 func (s *sources) compare(now time.Time, elapsed time.Duration, starts bool) (bool, error) {
-	is, known := s.clock.Synchronized()
-	if s.bounds.Synchronized && !(is && known) {
-		return false, errors.New("by the kernel's word it is not synchronized " +
+	isSynchronized, isKnown := s.clock.Synchronized()
+	if s.bounds.Synchronized && !(isSynchronized && isKnown) {
+		return false, errors.New("it is not synchronized, or the kernel does not know whether it is " +
 			"(start an NTP client, or unset --require-synchronized-clock)")
 	}
 	s.mu.Lock()
 	defer s.mu.Unlock()
-	isVouched := is && known
-	for _, from := range []map[string]heard{s.said, s.node} {
-		for name, of := range from {
-			if elapsed-of.when > forgotten {
+	isVouched := isSynchronized && isKnown
+	for _, readings := range []map[string]clockReading{s.ofStores, s.ofNode} {
+		for name, of := range readings {
+			if elapsed-of.elapsed > maxReadingAge {
 				continue
 			}
-			if err := s.off(now.Sub(of.at.Add(elapsed-of.when)), of.within, name); err != nil {
+			if err := s.checkSkew(now.Sub(of.at.Add(elapsed-of.elapsed)), of.margin, name); err != nil {
 				return false, err
 			}
 			isVouched = true
 		}
 	}
-	isWitnessed, off := s.byWitnesses(now, elapsed)
-	if isVouched || isWitnessed && off == nil {
+	isWitnessed, skew := s.compareWitnesses(now, elapsed)
+	if isVouched || isWitnessed && skew == nil {
 		return true, nil
 	}
-	if starts && off != nil {
-		return false, off
+	if starts && skew != nil {
+		return false, skew
 	}
 	return starts && s.isNamed(now), nil
 }
 
-// byWitnesses compares the time of day with the witnesses'. The one in the middle counts, since others may lie or have
-// wrong clocks. The caller has the lock.
-func (s *sources) byWitnesses(now time.Time, elapsed time.Duration) (isSaid bool, err error) {
-	var all []heard
-	for _, of := range s.cosigned {
-		if elapsed-of.when <= forgotten {
-			of.at, of.when = of.at.Add(elapsed-of.when), elapsed
+// compareWitnesses compares the time of day with the median of the witnesses' clocks, because some witnesses may lie or
+// have wrong clocks. If there is no reading of a witness, isKnown is false. The caller holds the mutex.
+func (s *sources) compareWitnesses(now time.Time, elapsed time.Duration) (isKnown bool, err error) {
+	var all []clockReading
+	for _, of := range s.ofWitnesses {
+		if elapsed-of.elapsed <= maxReadingAge {
+			of.at, of.elapsed = of.at.Add(elapsed-of.elapsed), elapsed
 			all = append(all, of)
 		}
 	}
@@ -123,17 +126,17 @@ func (s *sources) byWitnesses(now time.Time, elapsed time.Duration) (isSaid bool
 		return false, nil
 	}
 	sort.Slice(all, func(i, j int) bool { return all[i].at.Before(all[j].at) })
-	middle := all[(len(all)-1)/2]
-	return true, s.off(now.Sub(middle.at), middle.within, "the witnesses")
+	median := all[(len(all)-1)/2]
+	return true, s.checkSkew(now.Sub(median.at), median.margin, "the witnesses")
 }
 
-// off returns an error if a clock differs from another one by more than the bound.
-func (s *sources) off(ahead, within time.Duration, of string) error {
+// checkSkew returns an error if this machine's clock differs from another one by more than the bound and a margin.
+func (s *sources) checkSkew(ahead, margin time.Duration, other string) error {
 	switch {
-	case ahead > s.bounds.MaxSkew+within:
-		return fmt.Errorf("it is ahead of %s by %v (set it right)", of, ahead.Round(time.Millisecond))
-	case -ahead > s.bounds.MaxSkew+within:
-		return fmt.Errorf("it is behind %s by %v (set it right)", of, (-ahead).Round(time.Millisecond))
+	case ahead > s.bounds.MaxSkew+margin:
+		return fmt.Errorf("it is ahead of %s by %v (set it right)", other, ahead.Round(time.Millisecond))
+	case -ahead > s.bounds.MaxSkew+margin:
+		return fmt.Errorf("it is behind %s by %v (set it right)", other, (-ahead).Round(time.Millisecond))
 	}
 	return nil
 }
@@ -144,62 +147,64 @@ func (s *sources) isNamed(now time.Time) bool {
 	return err == nil && isOn(day, now)
 }
 
-// hear keeps what another machine said, when it was asked before.
-func (s *sources) hear(into map[string]heard, name string, at time.Time, within, before time.Duration) {
-	took := s.clock.Elapsed() - before
+// record records the time of another clock. asked is the time by Elapsed at which it was asked. The time counts as that
+// of the middle between the question and now, and half of that duration is added to its margin.
+func (s *sources) record(into map[string]clockReading, name string, at time.Time, margin, asked time.Duration) {
+	took := s.clock.Elapsed() - asked
 	s.mu.Lock()
 	defer s.mu.Unlock()
-	into[name] = heard{at, within + took/2, before + took/2}
+	into[name] = clockReading{at, margin + took/2, asked + took/2}
 }
 
-// hearNode keeps what the node that makes the steps said. It forgets every other node.
-func (s *sources) hearNode(address string, at time.Time, before time.Duration) {
+// recordNode records the time of the node that makes the steps. It forgets every other node.
+func (s *sources) recordNode(address string, at time.Time, asked time.Duration) {
 	s.mu.Lock()
-	s.node = map[string]heard{}
-	into := s.node
+	s.ofNode = map[string]clockReading{}
+	into := s.ofNode
 	s.mu.Unlock()
-	s.hear(into, "the node "+address, at, time.Second, before)
+	s.record(into, "the node "+address, at, time.Second, asked)
 }
 
-// hearWitness keeps the time of a witness's cosignature.
-func (s *sources) hearWitness(name, line string, before time.Duration) {
+// recordWitness records the time of a witness's cosignature.
+func (s *sources) recordWitness(name, line string, asked time.Duration) {
 	if _, at, ok := witness.TimestampOf(line); ok {
-		s.hear(s.cosigned, name, at, time.Second, before)
+		s.record(s.ofWitnesses, name, at, time.Second, asked)
 	}
 }
 
-// ask asks all tellers at once. One that does not answer is asked again later.
+// ask asks the clocks of all timed stores at the same time. A store that does not answer is asked again later.
 func (s *sources) ask(ctx context.Context) {
 	ctx, cancel := context.WithTimeout(ctx, askWithin)
 	defer cancel()
 	var all sync.WaitGroup
-	for _, one := range s.tellers {
+	for _, one := range s.timedStores {
 		all.Add(1)
 		go func() {
 			defer all.Done()
-			before := s.clock.Elapsed()
-			if at, within, err := one.Time(ctx); err == nil {
-				s.hear(s.said, one.name, at, within, before)
+			asked := s.clock.Elapsed()
+			if at, margin, err := one.Time(ctx); err == nil {
+				s.record(s.ofStores, one.name, at, margin, asked)
 			}
 		}()
 	}
 	all.Wait()
 }
 
-// hurry has the tellers be asked soon.
-func (s *sources) hurry() {
+// askSoon makes the loop of run ask the other clocks without waiting for the interval.
+func (s *sources) askSoon() {
 	select {
-	case s.soon <- struct{}{}:
+	case s.askNow <- struct{}{}:
 	default:
 	}
 }
 
-// keep asks the tellers, and another one, again and again until the context ends.
-func (s *sources) keep(ctx context.Context, another func(context.Context)) {
-	for s.clock.Wait(ctx, askEvery, s.soon) == nil {
+// run asks the timed stores at each interval until the context ends, and calls askNode, which asks the node that makes
+// the steps.
+func (s *sources) run(ctx context.Context, askNode func(context.Context)) {
+	for s.clock.Wait(ctx, askInterval, s.askNow) == nil {
 		s.ask(ctx)
-		another(ctx)
-		// Whatever the reason to hurry is, a second passes before the next question.
+		askNode(ctx)
+		// A second passes before the next question, even if askSoon was called.
 		if s.clock.Wait(ctx, time.Second, nil) != nil {
 			return
 		}

@@ -18,14 +18,14 @@ import (
 	"wagtenib/internal/stores"
 )
 
-// identityOf is SHA-256 over the type of a certificate's entry and the certificate.
+// identityOf returns the identity of a certificate's entry: SHA-256 over the entry type and the certificate.
 func identityOf(entry loginterface.Entry) stores.Identity {
 	return sha256.Sum256(append([]byte{0, 0}, entry.Certificate...))
 }
 
-// An index that has a place beyond the end of the log for a new entry gets the right one, so that the entry is found
-// when it comes again.
-func TestIndexAheadOfTheLog(t *testing.T) {
+// TestRepairsPlaceBeyondTheLog checks that, if the index has a place beyond the end of the log for a new entry, the
+// step sets the right place, so that a duplicate is found.
+func TestRepairsPlaceBeyondTheLog(t *testing.T) {
 	t.Parallel()
 	p, got := newPlace(t), &answers{}
 	config := p.config()
@@ -38,12 +38,12 @@ func TestIndexAheadOfTheLog(t *testing.T) {
 		must(t, err)
 		got.add(entryOf(4), place)
 	}
-	if leaves := p.right(got); leaves != 4 {
+	if leaves := p.checkLog(got); leaves != 4 {
 		t.Errorf("%d entries", leaves)
 	}
 }
 
-// unsure is a lock whose next swap is done, and whose outcome is then not known.
+// unsure is a lock whose next swap is done, but reports that its outcome is unknown.
 type unsure struct {
 	stores.Lock
 	next atomic.Bool
@@ -57,7 +57,8 @@ func (u *unsure) Swap(ctx context.Context, old, new string) error {
 	return err
 }
 
-// A swap whose outcome is not known is made again, which shows that it was done. The node has not lost it.
+// TestSwapOfUnknownOutcomeIsMadeAgain checks that a swap of unknown outcome is made again, which shows that it was
+// done. It does not count as lost.
 func TestSwapOfUnknownOutcomeIsMadeAgain(t *testing.T) {
 	t.Parallel()
 	p, got := newPlace(t), &answers{}
@@ -68,24 +69,24 @@ func TestSwapOfUnknownOutcomeIsMadeAgain(t *testing.T) {
 	got.submit(t, l, 0, 3)
 	lock.next.Store(true)
 	got.submit(t, l, 3, 4)
-	if f := l.Metrics(); f.LostSwaps != 0 || f.Unknown != 1 {
-		t.Errorf("%d swaps are lost, and of %d the outcome was not known", f.LostSwaps, f.Unknown)
+	if f := l.Metrics(); f.LostSwaps != 0 || f.UnknownSwaps != 1 {
+		t.Errorf("%d swaps are lost, and %d had an unknown outcome", f.LostSwaps, f.UnknownSwaps)
 	}
-	p.right(got)
+	p.checkLog(got)
 }
 
-// A step that was decided is not published if the store has a head that does not belong to the log's history: the lock
-// was rolled back before the step, and the log went on elsewhere. Such a head has more entries, or it is between two
-// states of which one follows the other.
-func TestStepBesideAnotherHistory(t *testing.T) {
+// TestRefusesStepBesideAnotherHistory checks that a decided step is not published if the store has a head that does not
+// belong to the log's history. Then the lock was rolled back before the step, and the log had gone on. Such a head has
+// more entries, or it is between two states of which one follows the other.
+func TestRefusesStepBesideAnotherHistory(t *testing.T) {
 	t.Parallel()
 	for _, size := range []int{3, 10} {
 		p, got := newPlace(t), &answers{}
 		config := p.config()
-		// (the guard of a signer would refuse the head, too)
+		// A guard would refuse the head, too, so the signer has no guard.
 		config.Signer = p.key
-		clock := &stopped{Clock: config.Machine.Of}
-		config.Machine.Of = clock
+		clock := &stopped{Clock: config.Machine.Clock}
+		config.Machine.Clock = clock
 		l := started(t, config)
 		got.submit(t, l, 0, 3)
 		head, err := l.Checkpoint(limited(t))
@@ -93,7 +94,7 @@ func TestStepBesideAnotherHistory(t *testing.T) {
 		other := head.Timestamp + 1
 		must(t, os.WriteFile(p.object(fmt.Sprintf("heads/%020d-%020d", size, other)), []byte("a head"), 0o644))
 		eventually(t, "the next timestamp is later", func() bool { return uint64(time.Now().UnixMilli()) > other })
-		// The list of the heads that the step before made is too old then.
+		// The previous step's list of the heads is too old then.
 		clock.elapsed.Add(int64(time.Second))
 		_, err = l.Submit(limited(t), entryOf(3))
 		wants(t, err, node.ErrRolledBack)
@@ -103,50 +104,50 @@ func TestStepBesideAnotherHistory(t *testing.T) {
 	}
 }
 
-// lost is an index that finds nothing while it is set. It counts what it does not answer.
-type lost struct {
+// awayIndex is an index that does not answer lookups while it is away. It counts the failed lookups.
+type awayIndex struct {
 	stores.Index
-	is   atomic.Bool
-	lost atomic.Int64
+	isAway atomic.Bool
+	failed atomic.Int64
 }
 
 var errLost = errors.New("the index does not answer")
 
-func (i *lost) Find(ctx context.Context, identities []stores.Identity) (map[stores.Identity]stores.Place, error) {
-	if i.is.Load() {
-		i.lost.Add(1)
+func (i *awayIndex) Find(ctx context.Context, identities []stores.Identity) (map[stores.Identity]stores.Place, error) {
+	if i.isAway.Load() {
+		i.failed.Add(1)
 		return nil, errLost
 	}
 	return i.Index.Find(ctx, identities)
 }
 
-// The fault of an index is not over as long as the index does not answer, although a step without entries would not
-// ask it.
+// TestFaultOfTheIndexLasts checks that the fault of an index lasts as long as the index does not answer, although a
+// step without entries would not ask it.
 func TestFaultOfTheIndexLasts(t *testing.T) {
 	t.Parallel()
 	p, got := newPlace(t), &answers{}
 	config := p.config()
-	index := &lost{Index: config.Stores.Index}
+	index := &awayIndex{Index: config.Stores.Index}
 	config.Stores.Index = index
 	l := started(t, config)
 	// Nothing is looked up before the first step, so the step asks the index.
-	index.is.Store(true)
+	index.isAway.Store(true)
 	_, err := l.Submit(limited(t), entryOf(0))
 	wants(t, err, errLost)
-	before := index.lost.Load()
+	before := index.failed.Load()
 	eventually(t, "the index is asked again", func() bool {
 		if l.Metrics().Fault == "" {
-			t.Fatal("the fault is over, and the index does not answer")
+			t.Fatal("the fault is over although the index does not answer")
 		}
-		return index.lost.Load() > before+1
+		return index.failed.Load() > before+1
 	})
-	index.is.Store(false)
+	index.isAway.Store(false)
 	eventually(t, "it goes on", func() bool { return l.Metrics().Fault == "" })
 	got.submit(t, l, 0, 1)
-	p.right(got)
+	p.checkLog(got)
 }
 
-// held is a store of objects, one call of which waits.
+// held is a store of objects that calls a function before each get, and another one before each put.
 type held struct {
 	stores.Objects
 	mu  sync.Mutex
@@ -154,7 +155,7 @@ type held struct {
 	put func(name string)
 }
 
-func (h *held) Get(ctx context.Context, name string, max int64) ([]byte, error) {
+func (h *held) Get(ctx context.Context, name string, maxBytes int64) ([]byte, error) {
 	h.mu.Lock()
 	get := h.get
 	h.mu.Unlock()
@@ -163,7 +164,7 @@ func (h *held) Get(ctx context.Context, name string, max int64) ([]byte, error) 
 			return nil, err
 		}
 	}
-	return h.Objects.Get(ctx, name, max)
+	return h.Objects.Get(ctx, name, maxBytes)
 }
 
 func (h *held) Put(ctx context.Context, name string, content []byte) error {
@@ -176,7 +177,7 @@ func (h *held) Put(ctx context.Context, name string, content []byte) error {
 	return h.Objects.Put(ctx, name, content)
 }
 
-// readTexts is a lock that says when each text was read first.
+// readTexts is a lock that records when each text was first read.
 type readTexts struct {
 	stores.Lock
 	mu   sync.Mutex
@@ -194,14 +195,16 @@ func (r *readTexts) Read(ctx context.Context) (string, error) {
 	return text, err
 }
 
-// another returns the configuration of another node of the log, on another machine.
+// another returns the configuration of another node of the log, on another machine. The name is that of its file of the
+// latest head.
 func (p *place) another(name string) logservice.Config {
 	config := p.config()
 	config.Machine.Files.LatestHead = p.path(name)
 	return config
 }
 
-// A node leaves a step to the node that made it for a while, also if neither has an address.
+// TestWaitsForTheNodeThatMadeAStep checks that a node waits for a while before it completes a step of another node,
+// also if neither has an address.
 func TestWaitsForTheNodeThatMadeAStep(t *testing.T) {
 	t.Parallel()
 	p, got := newPlace(t), &answers{}
@@ -229,11 +232,11 @@ func TestWaitsForTheNodeThatMadeAStep(t *testing.T) {
 	other.Stores.Objects, other.Stores.Lock = helper, texts
 	started(t, other)
 
-	letGo := make(chan struct{})
+	release := make(chan struct{})
 	maker.mu.Lock()
 	maker.put = func(name string) {
 		if strings.HasPrefix(name, "heads/") {
-			<-letGo
+			<-release
 		}
 	}
 	maker.mu.Unlock()
@@ -245,17 +248,17 @@ func TestWaitsForTheNodeThatMadeAStep(t *testing.T) {
 		}
 		submitted <- err
 	}()
-	// The other node takes the step's staged batch 400 ms after it saw the step, at the earliest.
+	// The other node reads the step's staged batch at the earliest 400 ms after it read the state of the step.
 	if since := <-helped; since < 400*time.Millisecond {
-		t.Errorf("it helps %v after it saw the step", since)
+		t.Errorf("the other node reads the staged batch %v after the state of the step", since)
 	}
-	close(letGo)
+	close(release)
 	must(t, <-submitted)
-	p.right(got)
+	p.checkLog(got)
 }
 
-// A node that looks at the step of another one, whose staged batch was deleted meanwhile since the other one went on,
-// looks again. It has no fault.
+// TestStagedBatchOfAnOlderStepIsGone checks that it is no fault if the staged batch of another node's step was deleted
+// before a node read it, because the other node went on. The node reads the lock again.
 func TestStagedBatchOfAnOlderStepIsGone(t *testing.T) {
 	t.Parallel()
 	p, got := newPlace(t), &answers{}
@@ -265,10 +268,10 @@ func TestStagedBatchOfAnOlderStepIsGone(t *testing.T) {
 	l := started(t, config)
 	got.submit(t, l, 0, 3)
 
-	letGo, wentOn := make(chan struct{}), make(chan struct{})
+	release, wentOn := make(chan struct{}), make(chan struct{})
 	other := p.another("other-latest-head")
 	once := sync.OnceFunc(func() {
-		close(letGo)
+		close(release)
 		<-wentOn
 	})
 	var isOver atomic.Bool
@@ -284,7 +287,7 @@ func TestStagedBatchOfAnOlderStepIsGone(t *testing.T) {
 	maker.mu.Lock()
 	maker.put = func(name string) {
 		if strings.HasPrefix(name, "heads/") {
-			<-letGo
+			<-release
 		}
 	}
 	maker.mu.Unlock()
@@ -293,7 +296,7 @@ func TestStagedBatchOfAnOlderStepIsGone(t *testing.T) {
 	close(wentOn)
 	got.submit(t, second, 6, 7)
 	if fault := second.Metrics().LastFault; !isOver.Load() || fault != "" {
-		t.Errorf("the other node looked: %t, and had the fault %q", isOver.Load(), fault)
+		t.Errorf("the other node read the staged batch: %t, and had the fault %q", isOver.Load(), fault)
 	}
-	p.right(got)
+	p.checkLog(got)
 }

@@ -13,9 +13,9 @@ import (
 	"wagtenib/internal/tile"
 )
 
-// Submit is loginterface.Log's. A submission that the log has already is answered with the first timestamp of its
-// entry, without waiting for a step. Others wait for one, unless another node makes the steps: then the error is
-// loginterface.ErrElsewhere if the submission may be forwarded (loginterface.IsForwarded).
+// Submit implements loginterface.Log. A duplicate is answered with the first timestamp of its entry, without waiting
+// for a step. Other submissions wait for a step. If another node makes the steps, and the submission may be forwarded
+// (loginterface.IsForwarded), the error is loginterface.ErrElsewhere.
 func (l *Log) Submit(ctx context.Context, entry loginterface.Entry) (loginterface.Place, error) {
 	submission, err := submissionOf(entry)
 	if err != nil {
@@ -25,7 +25,7 @@ func (l *Log) Submit(ctx context.Context, entry loginterface.Entry) (loginterfac
 		return loginterface.Place{}, fault{loginterface.ErrEnded, node.ErrEnded}
 	}
 	if err := l.node.Lasting(); err != nil {
-		return loginterface.Place{}, named(err)
+		return loginterface.Place{}, withKind(err)
 	}
 	if err := l.issuers.put(ctx, entry.Issuers); err != nil {
 		return loginterface.Place{}, l.why(ctx, err)
@@ -44,23 +44,23 @@ func (l *Log) Submit(ctx context.Context, entry loginterface.Entry) (loginterfac
 		}
 		ticket, err := r.Enqueue()
 		if err != nil {
-			return loginterface.Place{}, named(err)
+			return loginterface.Place{}, withKind(err)
 		}
 		answer, err := r.Wait(ctx, ticket)
 		switch {
 		case err != nil:
 			return loginterface.Place{}, err
 		case answer.Err != nil:
-			return loginterface.Place{}, named(answer.Err)
+			return loginterface.Place{}, withKind(answer.Err)
 		case !answer.Known:
 			return l.placeOf(answer.Place), nil
 		}
 	}
 	return loginterface.Place{}, fault{loginterface.ErrStore,
-		errors.New("serve: the index says again and again that the log has the entry, which is not there")}
+		errors.New("serve: the index has an index for the entry again and again, but the log does not have the entry there")}
 }
 
-// lookup looks a submission up. Only so many tiles are read at once, since each may have megabytes.
+// lookup looks a submission up. It limits the number of tiles that are read at once, because each may have megabytes.
 func (l *Log) lookup(ctx context.Context, r *node.Request) (*node.Place, error) {
 	candidate, err := r.Find(ctx)
 	if err != nil || candidate == nil {
@@ -75,7 +75,7 @@ func (l *Log) lookup(ctx context.Context, r *node.Request) (*node.Place, error) 
 	return r.Claim(ctx, candidate)
 }
 
-// why returns the error of a request: the context's if that has ended, and otherwise one of the log.
+// why returns the error of a request. It is the context's error if that has ended, and otherwise an error of the log.
 func (l *Log) why(ctx context.Context, err error) error {
 	if ctx.Err() != nil {
 		return fmt.Errorf("serve: %w", ctx.Err())
@@ -84,16 +84,17 @@ func (l *Log) why(ctx context.Context, err error) error {
 	if errors.As(err, &damaged) {
 		l.janitor.Note(damaged.Number, err)
 	}
-	return named(err)
+	return withKind(err)
 }
 
-// placeOf returns a place as package log has it.
+// placeOf returns a node's place as a loginterface.Place.
 func (l *Log) placeOf(of node.Place) loginterface.Place {
 	return loginterface.Place{LeafIndex: of.Index, Timestamp: of.Timestamp, Extensions: tile.Extensions(of.Index),
 		Signature: of.Signature, LogID: l.running.logID}
 }
 
-// submissionOf returns an entry as the step takes it. The error is loginterface.ErrTooLarge if it has too many bytes.
+// submissionOf returns an entry as a submission for a step. The error is loginterface.ErrTooLarge if the entry has too
+// many bytes.
 func submissionOf(entry loginterface.Entry) (step.Submission, error) {
 	var s step.Submission
 	switch entry.Type {

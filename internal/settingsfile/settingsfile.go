@@ -1,5 +1,5 @@
-// Package settingsfile reads a program's settings: its command line, and the file that this names, which has what it
-// takes, a line each.
+// Package settingsfile reads a program's settings from its command line and from the config file that the flag config
+// names. Each line of the file has the name of a flag and a value.
 package settingsfile
 
 import (
@@ -15,16 +15,16 @@ import (
 	"time"
 )
 
-// Rules are those of one program's file, by the names of its flags.
+// Rules are the rules of one program's config file, by the names of its flags.
 type Rules struct {
-	// Only has the flags that may be only in the command line.
+	// Only has the flags that may be only on the command line.
 	Only []string
-	// Several has the flags that may be in several lines, and in the command line as well.
+	// Several has the flags that may be in several lines of the file, and on the command line as well.
 	Several []string
 }
 
-// Flags returns the flags of a program, or of one of its commands, by its name. Errors in its arguments are written to
-// one writer. If help is requested, the page is written there with each flag after it.
+// Flags returns the flags of a program or of one of its commands, which has this name. Errors in the arguments are
+// written to the writer. If help is requested, the page is written there, with each flag after it.
 func Flags(name, page string, to io.Writer) *flag.FlagSet {
 	flags := flag.NewFlagSet(name, flag.ContinueOnError)
 	flags.SetOutput(to)
@@ -48,8 +48,8 @@ func Ends(err error, to io.Writer) (status int, ends bool) {
 	return 2, true
 }
 
-// ParseArguments sets flags from the arguments of a command line, up to the first one that is no flag. The error of a value
-// that a flag refuses names the flag, the value and what to write. If help was requested it returns flag.ErrHelp.
+// ParseArguments sets flags from the arguments of a command line, up to the first one that is no flag. The error of a
+// value that a flag refuses names the flag, the value and what to write. If help was requested it returns flag.ErrHelp.
 func ParseArguments(flags *flag.FlagSet, arguments []string) error {
 	err := flags.Parse(arguments)
 	if err == nil || errors.Is(err, flag.ErrHelp) {
@@ -79,7 +79,7 @@ func (r Rules) Parse(flags *flag.FlagSet, arguments []string) error {
 		return err
 	}
 	if flags.NArg() > 0 {
-		return fmt.Errorf("%q isn't expected (see --help)", flags.Arg(0))
+		return fmt.Errorf("%q is not expected (see --help)", flags.Arg(0))
 	}
 	if path := flags.Lookup("config").Value.String(); path != "" {
 		return r.read(flags, path)
@@ -87,8 +87,8 @@ func (r Rules) Parse(flags *flag.FlagSet, arguments []string) error {
 	return nil
 }
 
-// ParseAndValidate parses, and then calls validate to check the settings. An error of either is wrapped in fault. If help was
-// requested it returns flag.ErrHelp, and does not call validate.
+// ParseAndValidate parses, and then calls validate to check the settings. An error of either is wrapped in fault. If
+// help was requested it returns flag.ErrHelp, and does not call validate.
 func (r Rules) ParseAndValidate(flags *flag.FlagSet, arguments []string, validate func() error, fault error) error {
 	err := r.Parse(flags, arguments)
 	if err == nil {
@@ -100,8 +100,8 @@ func (r Rules) ParseAndValidate(flags *flag.FlagSet, arguments []string, validat
 	return fmt.Errorf("%w: %v", fault, err)
 }
 
-// read sets the flags that the command line did not set, from a file. Each line has a name and a value. Comments begin
-// with #. The flag checks the value.
+// read sets the flags that the command line did not set, from a file. Each line has a name and a value, which the flag
+// checks. Comments begin with #.
 func (r Rules) read(flags *flag.FlagSet, path string) error {
 	file, err := os.Open(path)
 	if err != nil {
@@ -110,6 +110,7 @@ func (r Rules) read(flags *flag.FlagSet, path string) error {
 	defer file.Close()
 	given := map[string]bool{}
 	flags.Visit(func(of *flag.Flag) { given[of.Name] = true })
+	// seen has the number of the last line with a name.
 	lines, seen := bufio.NewScanner(file), map[string]int{}
 	for number := 1; lines.Scan(); number++ {
 		line, _, _ := strings.Cut(lines.Text(), "#")
@@ -136,7 +137,7 @@ func (r Rules) read(flags *flag.FlagSet, path string) error {
 	return lines.Err()
 }
 
-// Duration reads a duration. The error names the text and what to write.
+// Duration parses a duration. The error names the text and says what to write.
 func Duration(text string) (time.Duration, error) {
 	set, err := time.ParseDuration(text)
 	if err != nil {
@@ -153,8 +154,8 @@ func Positive(name string, value time.Duration) error {
 	return nil
 }
 
-// refused returns why a flag refuses a value, and what to write: for a flag that is true or false, this format with its
-// name. A flag of another type than those below gives a reason of its own.
+// refused returns why a flag refuses a value, and what to write. For a boolean flag, that is the format trueOrFalse
+// with the flag's name. A flag of a type that is not below has a reason of its own.
 func refused(of *flag.Flag, value, reason, trueOrFalse string) string {
 	var kind any
 	if getter, isGetter := of.Value.(flag.Getter); isGetter {

@@ -12,8 +12,8 @@ import (
 	"time"
 )
 
-// TestParse: the command line counts before the file, several lines add up where they may, and each line that isn't one
-// is named.
+// TestParse checks that the command line counts before the file, that lines of a flag that may have several add up, and
+// that the error for a wrong line names it.
 func TestParse(t *testing.T) {
 	rules := Rules{Only: []string{"config"}, Several: []string{"log"}}
 	for _, c := range []struct{ text, arguments, size, logs, fault string }{
@@ -24,7 +24,7 @@ func TestParse(t *testing.T) {
 		{"size 3\n\nsize 4", "", "3", "[]", "line 3: size is in line 1 already"},
 		{"size three", "", "0", "[]", "line 1: size: "},
 		{"size 3\n" + strings.Repeat("x", 1<<17), "", "3", "[]", "token too long"},
-		{"size 3", "--size 4 more", "4", "[]", `"more" isn't expected`},
+		{"size 3", "--size 4 more", "4", "[]", `"more" is not expected`},
 		{"size 3", "--other", "0", "[]", "not defined: -other"},
 	} {
 		flags, size, logs := made()
@@ -40,30 +40,31 @@ func TestParse(t *testing.T) {
 	}
 }
 
-// TestParseAlone: without a file only the arguments count. A missing file is an error, and help is flag.ErrHelp.
-func TestParseAlone(t *testing.T) {
+// TestParseWithoutFile checks that without a file, only the arguments count. A missing file is an error, and help is
+// flag.ErrHelp.
+func TestParseWithoutFile(t *testing.T) {
 	flags, size, _ := made()
 	if err := (Rules{}).Parse(flags, []string{"--size", "4"}); err != nil || *size != 4 {
 		t.Errorf("without a file: %v, %d", err, *size)
 	}
 	flags, _, _ = made()
 	if err := (Rules{}).Parse(flags, []string{"--config", filepath.Join(t.TempDir(), "absent")}); !os.IsNotExist(err) {
-		t.Errorf("a file that isn't there: %v", err)
+		t.Errorf("a missing file: %v", err)
 	}
 	flags, _, _ = made()
 	if err := (Rules{}).Parse(flags, []string{"--help"}); !errors.Is(err, flag.ErrHelp) {
-		t.Errorf("who asks for help is told: %v", err)
+		t.Errorf("a request for help: %v", err)
 	}
 }
 
-// TestSettle: an error in the arguments, or in the settings, is the program's usage error. If help is requested,
-// nothing is checked.
-func TestSettle(t *testing.T) {
-	usage, unfit := errors.New("program"), errors.New("4 is too much")
+// TestParseAndValidate checks that an error in the arguments or in the settings is the program's usage error. If help
+// is requested, nothing is validated.
+func TestParseAndValidate(t *testing.T) {
+	usage, invalid := errors.New("program"), errors.New("4 is too much")
 	for _, c := range []struct {
-		arguments, told string
-		looks           int
-		wanted          error
+		arguments, message string
+		validations        int
+		wanted             error
 	}{
 		{"--size 3", "", 1, nil},
 		{"--size 4", "program: 4 is too much", 1, usage},
@@ -71,55 +72,56 @@ func TestSettle(t *testing.T) {
 		{"--help", "flag: help requested", 0, flag.ErrHelp},
 	} {
 		flags, size, _ := made()
-		looks := 0
+		validations := 0
 		err := (Rules{}).ParseAndValidate(flags, strings.Fields(c.arguments), func() error {
-			looks++
+			validations++
 			if *size > 3 {
-				return unfit
+				return invalid
 			}
 			return nil
 		}, usage)
-		if !errors.Is(err, c.wanted) || err != nil && err.Error() != c.told || looks != c.looks {
-			t.Errorf("%s: %v, looked at %d times", c.arguments, err, looks)
+		if !errors.Is(err, c.wanted) || err != nil && err.Error() != c.message || validations != c.validations {
+			t.Errorf("%s: %v, validated %d times", c.arguments, err, validations)
 		}
 	}
 }
 
-// TestPositive: a duration that is not above 0 is refused with the name of its flag.
+// TestPositive checks that a duration that is not above 0 is refused with the name of its flag.
 func TestPositive(t *testing.T) {
-	for value, due := range map[time.Duration]string{
+	for value, expected := range map[time.Duration]string{
 		1: "", 0: "--pause 0s is not above 0 (write for example 30s, or leave pause out)",
 		-time.Minute: "--pause -1m0s is not above 0 (write for example 30s, or leave pause out)"} {
-		if err := Positive("pause", value); (err == nil) != (due == "") || err != nil && err.Error() != due {
+		if err := Positive("pause", value); (err == nil) != (expected == "") || err != nil && err.Error() != expected {
 			t.Errorf("%v: %v", value, err)
 		}
 	}
 }
 
-// TestFlags: help is a program's page with each flag after it. It is also written for a wrong argument.
+// TestFlags checks that help is a program's page with each flag after it, and that it is also written for a wrong
+// argument.
 func TestFlags(t *testing.T) {
-	for _, c := range []struct{ arguments, told string }{
+	for _, c := range []struct{ arguments, output string }{
 		{"--size 3", ""},
 		{"--help", "100% of it\n\n  -size int\n"},
 		{"--size three", "invalid value \"three\" for flag -size: parse error\n100% of it\n\n  -size int\n"},
 	} {
-		var told strings.Builder
-		flags := Flags("program", "100% of it", &told)
+		var output strings.Builder
+		flags := Flags("program", "100% of it", &output)
 		flags.Int("size", 0, "")
-		if err := flags.Parse(strings.Fields(c.arguments)); (err == nil) != (c.told == "") {
+		if err := flags.Parse(strings.Fields(c.arguments)); (err == nil) != (c.output == "") {
 			t.Errorf("%s: %v", c.arguments, err)
 		}
-		if strings.TrimSpace(told.String()) != strings.TrimSpace(c.told) || flags.Name() != "program" {
-			t.Errorf("%s: %s tells %q", c.arguments, flags.Name(), told.String())
+		if strings.TrimSpace(output.String()) != strings.TrimSpace(c.output) || flags.Name() != "program" {
+			t.Errorf("%s: %s writes %q", c.arguments, flags.Name(), output.String())
 		}
 	}
 }
 
-// TestEnds: a program with right arguments does not end. A request for help is not an error.
+// TestEnds checks that a program with right arguments does not end, and that a request for help is not an error.
 func TestEnds(t *testing.T) {
 	for _, c := range []struct {
 		err    error
-		told   string
+		output string
 		status int
 		ends   bool
 	}{
@@ -128,14 +130,14 @@ func TestEnds(t *testing.T) {
 		{fmt.Errorf("program: %w", flag.ErrHelp), "", 0, true},
 		{errors.New("program: 4 is too much"), "program: 4 is too much\n", 2, true},
 	} {
-		var told strings.Builder
-		if status, ends := Ends(c.err, &told); status != c.status || ends != c.ends || told.String() != c.told {
-			t.Errorf("%v: %d, %v, and %q is told", c.err, status, ends, told.String())
+		var output strings.Builder
+		if status, ends := Ends(c.err, &output); status != c.status || ends != c.ends || output.String() != c.output {
+			t.Errorf("%v: %d, %v, and it writes %q", c.err, status, ends, output.String())
 		}
 	}
 }
 
-// made are flags, with what they set.
+// made returns flags, and the variables that they set.
 func made() (flags *flag.FlagSet, size *int, logs *[]string) {
 	flags, logs = Flags("", "", io.Discard), &[]string{}
 	size = flags.Int("size", 0, "")
@@ -144,11 +146,11 @@ func made() (flags *flag.FlagSet, size *int, logs *[]string) {
 	return flags, size, logs
 }
 
-// TestNamesWrongValues: the error of a value that a flag refuses has the name, the value and what to write, on the
-// command line and in the file. A flag with a reason of its own keeps it, whatever is in it.
+// TestNamesWrongValues checks that the error for a value that a flag refuses has the name, the value and what to write,
+// on the command line and in the file. The reason of a flag that has one of its own stays as it is, whatever is in it.
 func TestNamesWrongValues(t *testing.T) {
 	const either = `"maybe" is neither true nor false (write `
-	for _, c := range []struct{ name, value, due string }{
+	for _, c := range []struct{ name, value, expected string }{
 		{"pause", "2 seconds", `"2 seconds" is not a duration (write a duration such as 2s, 5m or 24h)`},
 		{"pause", "", `"" is not a duration (write a duration such as 2s, 5m or 24h)`},
 		{"pause", `"a" for flag -size: b`,
@@ -166,18 +168,18 @@ func TestNamesWrongValues(t *testing.T) {
 		flags.Func("own", "", func(text string) error {
 			return fmt.Errorf("it is %q for flag -size: and more (write y)", text)
 		})
-		due := strings.Replace(c.due, either+"on true, or on false)", either+"--on, or --on=false)", 1)
+		expected := strings.Replace(c.expected, either+"on true, or on false)", either+"--on, or --on=false)", 1)
 		if err := ParseArguments(flags, []string{"--" + c.name + "=" + c.value}); err == nil ||
-			err.Error() != "--"+c.name+": "+due {
-			t.Errorf("the flag: %v, and %s is due", err, due)
+			err.Error() != "--"+c.name+": "+expected {
+			t.Errorf("the flag: %v, and not %s", err, expected)
 		}
 		path := filepath.Join(t.TempDir(), "settings")
 		if err := os.WriteFile(path, []byte(c.name+" "+c.value), 0o600); err != nil {
 			t.Fatal(err)
 		}
 		if err := (Rules{}).Parse(flags, []string{"--config", path}); err == nil ||
-			err.Error() != path+", line 1: "+c.name+": "+c.due {
-			t.Errorf("the file: %v, and %s is due", err, c.due)
+			err.Error() != path+", line 1: "+c.name+": "+c.expected {
+			t.Errorf("the file: %v, and not %s", err, c.expected)
 		}
 	}
 }

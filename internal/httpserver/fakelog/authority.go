@@ -24,7 +24,7 @@ type Authority struct {
 	last atomic.Int64
 }
 
-// NewAuthority makes one with a new key.
+// NewAuthority makes an authority with a new key.
 func NewAuthority(name string) (*Authority, error) {
 	key, err := ecdsa.GenerateKey(elliptic.P256(), rand.Reader)
 	if err != nil {
@@ -47,7 +47,7 @@ func NewAuthority(name string) (*Authority, error) {
 	return &Authority{Root: root, key: key, leaf: leaf}, err
 }
 
-// PEM is the root as a file of roots has it.
+// PEM returns the root in PEM, as a file of roots has it.
 func (a *Authority) PEM() []byte {
 	return pem.EncodeToMemory(&pem.Block{Type: "CERTIFICATE", Bytes: a.Root.Raw})
 }
@@ -56,7 +56,7 @@ func (a *Authority) PEM() []byte {
 func (a *Authority) KeyPEM() []byte {
 	der, err := x509.MarshalPKCS8PrivateKey(a.key)
 	if err != nil {
-		panic(err) // (a key of P-256 can always be written)
+		panic(err) // A P-256 key can always be encoded.
 	}
 	return pem.EncodeToMemory(&pem.Block{Type: "PRIVATE KEY", Bytes: der})
 }
@@ -65,7 +65,7 @@ func (a *Authority) KeyPEM() []byte {
 var poison = []pkix.Extension{{Id: asn1.ObjectIdentifier{1, 3, 6, 1, 4, 1, 11129, 2, 4, 3}, Critical: true,
 	Value: []byte{5, 0}}}
 
-// template has a number and a name of its own.
+// template returns a template with a new serial number and name.
 func (a *Authority) template(notAfter time.Time) *x509.Certificate {
 	number := a.last.Add(1) + 1
 	return &x509.Certificate{
@@ -74,7 +74,7 @@ func (a *Authority) template(notAfter time.Time) *x509.Certificate {
 	}
 }
 
-// Issue issues a certificate of its own, or with the poison a precertificate; it ends at a moment.
+// Issue issues a certificate that expires at a time. If poisoned is true, it is a precertificate.
 func (a *Authority) Issue(poisoned bool, notAfter time.Time) ([]byte, error) {
 	template := a.template(notAfter)
 	if poisoned {
@@ -99,7 +99,7 @@ func (a *Authority) IssuePair(notAfter time.Time) (precertificate, tbs []byte, e
 	return precertificate, parsed.RawTBSCertificate, err
 }
 
-// Submission is the body of add-chain and add-pre-chain.
+// Submission returns the body of add-chain and add-pre-chain for a chain.
 func Submission(chain ...[]byte) []byte {
 	texts := []string{}
 	for _, der := range chain {
@@ -112,7 +112,7 @@ func Submission(chain ...[]byte) []byte {
 	return body
 }
 
-// KeyPair makes a server's certificate with its key, in PEM.
+// KeyPair issues a server's certificate, and returns it and its key in PEM.
 func (a *Authority) KeyPair() (certificate, key []byte, err error) {
 	der, err := a.Issue(false, a.Root.NotAfter)
 	if err != nil {

@@ -1,5 +1,5 @@
-// Package fakelog helps to test a front. It has a log in memory, a CA, and a reader of tiles. It is not for serving a
-// log: it keeps everything in memory.
+// Package fakelog helps to test a front. It has a log in memory and a CA. It cannot serve a real log, because it keeps
+// everything in memory.
 package fakelog
 
 import (
@@ -22,11 +22,11 @@ import (
 	"wagtenib/internal/stores"
 )
 
-// Log is a log in memory. Its heads come when Publish is called, or by themselves.
+// Log is a log in memory. It publishes a head when Publish is called, and if Interval is above 0, at each interval.
 type Log struct {
-	Key   *ecdsa.PrivateKey
-	Every time.Duration
-	// MaxQueue is how many submissions may wait.
+	Key      *ecdsa.PrivateKey
+	Interval time.Duration
+	// MaxQueue is the maximum number of waiting submissions.
 	MaxQueue int
 	Troubles
 
@@ -38,20 +38,20 @@ type Log struct {
 	stop    chan struct{}
 }
 
-// Troubles are how a log misbehaves.
+// Troubles are the ways in which a log misbehaves.
 type Troubles struct {
 	// Fault is the error of each call, or nil.
 	Fault error
-	// Damage is what its figures say of a tile that is damaged.
+	// Damage is the description of a damaged tile in the metrics.
 	Damage string
-	// Slow is how long each reading takes.
+	// Slow is the time that each read takes.
 	Slow time.Duration
-	// faults counts how often it was broken, and lastFault is by what it was last.
+	// faults counts the faults, and lastFault is the last one.
 	faults    uint64
 	lastFault string
 }
 
-// tree is what a log has published.
+// tree has what a log published.
 type tree struct {
 	objects map[string][]byte
 	leaves  [][]byte
@@ -64,8 +64,9 @@ type waiting struct {
 	place chan loginterface.Place
 }
 
-// New makes a log without entries, which publishes every so often; with 0 only where Publish is called.
-func New(every time.Duration) (*Log, error) {
+// New makes a log without entries, which publishes at each interval. If the interval is 0, it publishes only when
+// Publish is called.
+func New(interval time.Duration) (*Log, error) {
 	key, err := ecdsa.GenerateKey(elliptic.P256(), rand.Reader)
 	if err != nil {
 		return nil, err
@@ -74,17 +75,17 @@ func New(every time.Duration) (*Log, error) {
 	if err != nil {
 		return nil, err
 	}
-	l := &Log{Key: key, Every: every, MaxQueue: 1024, id: sha256.Sum256(public), tree: tree{objects: map[string][]byte{}},
-		stop: make(chan struct{})}
+	l := &Log{Key: key, Interval: interval, MaxQueue: 1024, id: sha256.Sum256(public),
+		tree: tree{objects: map[string][]byte{}}, stop: make(chan struct{})}
 	l.publish()
-	if every > 0 {
+	if interval > 0 {
 		go l.run()
 	}
 	return l, nil
 }
 
 func (l *Log) run() {
-	timer := time.NewTicker(l.Every)
+	timer := time.NewTicker(l.Interval)
 	defer timer.Stop()
 	for {
 		select {
@@ -96,7 +97,7 @@ func (l *Log) run() {
 	}
 }
 
-// Submit is loginterface.Log's.
+// Submit implements loginterface.Log.
 func (l *Log) Submit(ctx context.Context, entry loginterface.Entry) (loginterface.Place, error) {
 	w := waiting{entry, make(chan loginterface.Place, 1)}
 	l.mutex.Lock()
@@ -123,7 +124,7 @@ func (l *Log) Submit(ctx context.Context, entry loginterface.Entry) (loginterfac
 	}
 }
 
-// Add publishes entries, whose places nobody waits for.
+// Add publishes entries without waiting for their places.
 func (l *Log) Add(entries []loginterface.Entry) {
 	l.mutex.Lock()
 	defer l.mutex.Unlock()
@@ -133,7 +134,7 @@ func (l *Log) Add(entries []loginterface.Entry) {
 	l.publish()
 }
 
-// Publish publishes what waits.
+// Publish publishes the waiting submissions.
 func (l *Log) Publish() {
 	l.mutex.Lock()
 	defer l.mutex.Unlock()
@@ -161,7 +162,7 @@ func (l *Log) publish() {
 	}
 }
 
-// take settles an entry.
+// take adds an entry to the tree.
 func (l *Log) take(entry loginterface.Entry, now uint64) loginterface.Place {
 	index := uint64(len(l.tree.leaves))
 	extensions := []byte{0, 0, 5, byte(index >> 32), byte(index >> 24), byte(index >> 16),
@@ -198,7 +199,7 @@ func timestampedEntry(entry loginterface.Entry, now uint64, extensions []byte) [
 	return b.BytesOrPanic()
 }
 
-// tiles puts the tiles of levels 0 and 1 and the data tiles, and takes away the partial ones of a full one.
+// tiles stores the tiles of levels 0 and 1 and the data tiles, and deletes the partial tiles below a full one.
 func (l *Log) tiles() {
 	var above []byte
 	for first := 0; first+256 <= len(l.tree.hashes); first += 256 {
@@ -240,7 +241,7 @@ func (l *Log) sign(signed []byte) []byte {
 	return append([]byte{4, 3, 0, byte(len(signature))}, signature...)
 }
 
-// Checkpoint is loginterface.Log's.
+// Checkpoint implements loginterface.Log.
 func (l *Log) Checkpoint(ctx context.Context) (loginterface.Head, error) {
 	if err := l.slowly(ctx); err != nil {
 		return loginterface.Head{}, err
@@ -250,13 +251,13 @@ func (l *Log) Checkpoint(ctx context.Context) (loginterface.Head, error) {
 	return l.tree.head, l.Fault
 }
 
-// HeadOf is loginterface.Log's.
+// HeadOf implements loginterface.Log.
 func (l *Log) HeadOf(ctx context.Context, _ uint64) (loginterface.Head, error) {
 	return l.Checkpoint(ctx)
 }
 
-// Object is loginterface.Log's.
-func (l *Log) Object(ctx context.Context, name string, most int64) ([]byte, error) {
+// Object implements loginterface.Log.
+func (l *Log) Object(ctx context.Context, name string, maxBytes int64) ([]byte, error) {
 	if err := l.slowly(ctx); err != nil {
 		return nil, err
 	}
@@ -269,7 +270,7 @@ func (l *Log) Object(ctx context.Context, name string, most int64) ([]byte, erro
 	if !there {
 		return nil, stores.ErrAbsent
 	}
-	if int64(len(content)) > most {
+	if int64(len(content)) > maxBytes {
 		return nil, stores.TooLong{Length: int64(len(content))}
 	}
 	return content, nil
@@ -295,8 +296,8 @@ func (l *Log) Change(name string, content []byte) {
 	}
 }
 
-// Break has each call give an error; nil ends that.
-func (l *Log) Break(err error) {
+// SetFault makes each call return an error. A nil error ends the fault.
+func (l *Log) SetFault(err error) {
 	l.mutex.Lock()
 	defer l.mutex.Unlock()
 	if err != nil {
@@ -306,22 +307,22 @@ func (l *Log) Break(err error) {
 	l.Fault = err
 }
 
-// Stumble has its figures tell of a fault that is over.
-func (l *Log) Stumble(fault string) {
+// AddPastFault adds a fault that is over to the metrics.
+func (l *Log) AddPastFault(fault string) {
 	l.mutex.Lock()
 	defer l.mutex.Unlock()
 	l.faults++
 	l.lastFault = fault
 }
 
-// Bend has its figures tell of damage; an empty text ends that.
-func (l *Log) Bend(damage string) {
+// SetDamage sets the damage in the metrics. An empty text ends the damage.
+func (l *Log) SetDamage(damage string) {
 	l.mutex.Lock()
 	defer l.mutex.Unlock()
 	l.Damage = damage
 }
 
-// IndexOf is loginterface.Log's.
+// IndexOf implements loginterface.Log.
 func (l *Log) IndexOf(ctx context.Context, leafHash [32]byte) (uint64, error) {
 	if err := l.slowly(ctx); err != nil {
 		return 0, err
@@ -336,7 +337,7 @@ func (l *Log) IndexOf(ctx context.Context, leafHash [32]byte) (uint64, error) {
 	return 0, stores.ErrAbsent
 }
 
-// End is loginterface.Log's.
+// End implements loginterface.Log.
 func (l *Log) End(ctx context.Context) error {
 	l.mutex.Lock()
 	defer l.mutex.Unlock()
@@ -348,34 +349,34 @@ func (l *Log) End(ctx context.Context) error {
 	return ctx.Err()
 }
 
-// Metrics is loginterface.Log's.
+// Metrics implements loginterface.Log.
 func (l *Log) Metrics() loginterface.Metrics {
 	l.mutex.Lock()
 	defer l.mutex.Unlock()
-	figures := loginterface.Metrics{
+	metrics := loginterface.Metrics{
 		Queue: len(l.waiting), MaxQueue: l.MaxQueue, Entries: l.tree.head.TreeSize,
 		HeadAge: time.Since(time.UnixMilli(int64(l.tree.head.Timestamp))),
-		Rounds: loginterface.Rounds{LostSwaps: 3, Unpublished: 18, SinceRound: 2500 * time.Millisecond, Written: 16,
-			Phases:  []loginterface.Phase{{Name: "stage", Count: 17, Took: 1500 * time.Millisecond}},
-			Batches: loginterface.Batches{Steps: 20, Submissions: 21, AtMost: map[int]uint64{1: 18, 8: 20}}},
+		Rounds: loginterface.Rounds{LostSwaps: 3, Unpublished: 18, SinceRound: 2500 * time.Millisecond, WrittenBytes: 16,
+			Phases:  []loginterface.Phase{{Name: "stage", Count: 17, Duration: 1500 * time.Millisecond}},
+			Batches: loginterface.Batches{Steps: 20, Submissions: 21, UpTo: map[int]uint64{1: 18, 8: 20}}},
 		Answers: loginterface.Answers{SignerStarts: 7, WrongSignatures: 22},
-		Janitor: loginterface.Janitor{DeletedTiles: 4, DeletedHeads: 8, RereadTiles: 5, DeletedBatches: 11, Staged: 12, JanitorFailures: 13,
-			JanitorFailure: "nothing is deleted", DeletedTo: 512, ReadNext: 19},
+		Janitor: loginterface.Janitor{DeletedTiles: 4, DeletedHeads: 8, RereadTiles: 5, DeletedBatches: 11,
+			StagedBatches: 12, JanitorFailures: 13, JanitorFailure: "nothing is deleted", DeletedTo: 512, ReadNext: 19},
 		Damages:  loginterface.Damages{Damaged: 6, Damage: l.Damage, DamagedIssuers: 9, Repaired: 10, LastRepaired: "issuer/07"},
 		Faulting: loginterface.Faulting{Faults: l.faults, LastFault: l.lastFault},
-		Witnesses: []loginterface.Witness{{Name: "w.example", Missed: 14, Cosigned: 15, SeenMore: true,
+		Witnesses: []loginterface.Witness{{Name: "w.example", Missed: 14, Cosigned: 15, IsAhead: true,
 			Fault: "it has seen 7 entries"}},
 	}
 	if l.Fault != nil {
-		figures.Fault = l.Fault.Error()
+		metrics.Fault = l.Fault.Error()
 	}
-	return figures
+	return metrics
 }
 
-// LeafHash and MerkleTreeHash are RFC 6962's, section 2.1, word for word.
+// LeafHash returns the hash of a leaf (RFC 6962, section 2.1).
 func LeafHash(leaf []byte) [32]byte { return sha256.Sum256(append([]byte{0}, leaf...)) }
 
-// MerkleTreeHash is over hashes of leaves.
+// MerkleTreeHash returns the Merkle Tree Hash of leaves with these hashes, by the recursion of RFC 6962, section 2.1.
 func MerkleTreeHash(hashes [][32]byte) [32]byte {
 	switch len(hashes) {
 	case 0:
@@ -391,7 +392,7 @@ func MerkleTreeHash(hashes [][32]byte) [32]byte {
 	return sha256.Sum256(append(append([]byte{1}, left[:]...), right[:]...))
 }
 
-// HeadSigned are the bytes under a head's signature (RFC 6962, section 3.5).
+// HeadSigned returns the bytes under a head's signature (RFC 6962, section 3.5).
 func HeadSigned(head loginterface.Head) []byte {
 	var b cryptobyte.Builder
 	b.AddUint16(1)
@@ -401,7 +402,7 @@ func HeadSigned(head loginterface.Head) []byte {
 	return b.BytesOrPanic()
 }
 
-// TimestampSigned are the bytes under a timestamp's signature (RFC 6962, section 3.2).
+// TimestampSigned returns the bytes under the signature of an SCT (RFC 6962, section 3.2).
 func TimestampSigned(entry loginterface.Entry, timestamp uint64, extensions []byte) []byte {
 	return append([]byte{0, 0}, timestampedEntry(entry, timestamp, extensions)...)
 }

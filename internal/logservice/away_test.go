@@ -23,25 +23,25 @@ import (
 	"wagtenib/internal/witness"
 )
 
-// later is this machine's clock after some time has passed at once. Nothing keeps it right.
+// later is this machine's clock after a jump to a later time. It is not synchronized.
 type later struct {
 	logservice.Clock
 	by atomic.Int64
 }
 
-func (l *later) Now() time.Time                 { return l.Clock.Now().Add(time.Duration(l.by.Load())) }
-func (l *later) Elapsed() time.Duration         { return l.Clock.Elapsed() + time.Duration(l.by.Load()) }
-func (l *later) Synchronized() (is, known bool) { return false, true }
+func (l *later) Now() time.Time                               { return l.Clock.Now().Add(time.Duration(l.by.Load())) }
+func (l *later) Elapsed() time.Duration                       { return l.Clock.Elapsed() + time.Duration(l.by.Load()) }
+func (l *later) Synchronized() (isSynchronized, isKnown bool) { return false, true }
 
-// A node that runs trusts its clock, also after more than a day without a head: its store may have been away for so
-// long. Only a node that starts asks for another clock then.
+// TestGoesOnAfterADayWithoutHeads checks that a running node trusts its clock even after more than a day without a
+// head, because its store may have been away for so long. Only a node that starts needs another clock then.
 func TestGoesOnAfterADayWithoutHeads(t *testing.T) {
 	t.Parallel()
 	p, got := newPlace(t), &answers{}
 	config := p.config()
 	clock := &later{Clock: logservice.Machine()}
-	// (the guard has the machine's own clock, by which the next head is of the future)
-	config.Machine.Of, config.Signer = clock, p.key
+	// The guard has the machine's own clock, by which the next head is of the future, so the signer has no guard.
+	config.Machine.Clock, config.Signer = clock, p.key
 	l := started(t, config)
 	got.submit(t, l, 0, 3)
 	clock.by.Store(int64(30 * time.Hour))
@@ -55,22 +55,22 @@ func TestGoesOnAfterADayWithoutHeads(t *testing.T) {
 	}
 }
 
-// unread is a lock that can be kept from being read.
+// unread is a lock that does not answer readers while it is away.
 type unread struct {
 	stores.Lock
-	is atomic.Bool
+	isAway atomic.Bool
 }
 
 var errUnread = errors.New("the lock does not answer")
 
 func (u *unread) Read(ctx context.Context) (string, error) {
-	if u.is.Load() {
+	if u.isAway.Load() {
 		return "", errUnread
 	}
 	return u.Lock.Read(ctx)
 }
 
-// asked is a witness over HTTP, which counts the requests to cosign a signed head again.
+// asked is the handler of a witness. It counts the requests to cosign a head that it was asked to cosign before.
 type asked struct {
 	http.Handler
 	mu    sync.Mutex
@@ -104,7 +104,7 @@ func (a *asked) times() int {
 	return a.again
 }
 
-// witnessed adds a witness to a configuration.
+// witnessed adds a witness to a configuration, and returns its handler.
 func (p *place) witnessed(config *logservice.Config) *asked {
 	p.t.Helper()
 	_, private, err := ed25519.GenerateKey(rand.Reader)
@@ -128,8 +128,8 @@ func (p *place) witnessed(config *logservice.Config) *asked {
 	return a
 }
 
-// A node that could not read the lock does not know what was decided meanwhile. So its witnesses must cosign the newest
-// head again before it takes anything.
+// TestWitnessesAreAskedAgainAfterTheLockWasAway checks that a node that could not read the lock has its witnesses
+// cosign the newest head again before it accepts submissions, because it does not know what was decided meanwhile.
 func TestWitnessesAreAskedAgainAfterTheLockWasAway(t *testing.T) {
 	t.Parallel()
 	p, got := newPlace(t), &answers{}
@@ -142,12 +142,12 @@ func TestWitnessesAreAskedAgainAfterTheLockWasAway(t *testing.T) {
 	if again := w.times(); again != 0 {
 		t.Fatalf("the first heads are cosigned again %d times", again)
 	}
-	lock.is.Store(true)
-	eventually(t, "the lock is missed", func() bool { return strings.Contains(l.Metrics().Fault, errUnread.Error()) })
-	lock.is.Store(false)
-	eventually(t, "the lock is read", func() bool { return l.Metrics().Fault == "" })
+	lock.isAway.Store(true)
+	eventually(t, "the node has a fault", func() bool { return strings.Contains(l.Metrics().Fault, errUnread.Error()) })
+	lock.isAway.Store(false)
+	eventually(t, "the lock is read again", func() bool { return l.Metrics().Fault == "" })
 	got.submit(t, l, 3, 4)
 	if again := w.times(); again == 0 {
-		t.Error("it takes a submission without having the newest head cosigned again")
+		t.Error("the node accepts a submission although the newest head was not cosigned again")
 	}
 }
