@@ -180,7 +180,7 @@ func prove(ctx context.Context, reader *watch.Reader, head watch.Head, entry wat
 	out io.Writer) (watch.Inclusion, error) {
 	var none watch.Inclusion
 	leafHash := wagtenib.LeafHash(entry.Leaf)
-	index, path, err := reader.Place(ctx, head, leafHash, entry.Index)
+	index, path, err := reader.FindLeaf(ctx, head, leafHash, entry.Index)
 	switch {
 	case errors.Is(err, watch.ErrAbsent):
 		return none, &statusError{statusAccused, fmt.Sprintf("ctwatch: %s: the log gives entry %d, and its tree does not "+

@@ -107,7 +107,7 @@ func (r *run) followTiles(ctx context.Context, p *promise, at *endpoint) {
 	}
 	entry, entryErr := at.reader.Entry(ctx, head, p.index)
 	if !p.done[CheckInclusionByTiles] {
-		_, path, err := at.reader.Place(ctx, head, p.hash, p.index)
+		_, path, err := at.reader.FindLeaf(ctx, head, p.hash, p.index)
 		if err != nil {
 			r.noteNonsense(p, CheckInclusionByTiles, err)
 			return
@@ -196,7 +196,7 @@ func (r *run) followCalls(ctx context.Context, p *promise, at *endpoint) {
 		return
 	}
 	if !p.done[CheckInclusionByHash] {
-		index, path, err := at.reader.Place(ctx, head, p.hash, p.index)
+		index, path, err := at.reader.FindLeaf(ctx, head, p.hash, p.index)
 		if err != nil {
 			if !errors.Is(err, watch.ErrAbsent) { // (that one is asked for again, until the merge delay ends)
 				r.noteNonsense(p, CheckInclusionByHash, err)

@@ -19,16 +19,16 @@ import (
 // kinds are the kinds of logs.
 var kinds = []string{"tiled", "RFC 6962"}
 
-// watched returns the log of a server as it is watched, by one of its kinds.
+// watched returns the description of a log of this kind at a URL.
 func watched(log *testlog.Log, url, kind string) watch.Log {
-	of := watch.Log{ID: sha256.Sum256(log.PublicKey()), Name: kind, URL: url, PublicKey: log.PublicKey()}
+	description := watch.Log{ID: sha256.Sum256(log.PublicKey()), Name: kind, URL: url, PublicKey: log.PublicKey()}
 	if kind == "tiled" {
-		of.Origin = log.Origin
+		description.Origin = log.Origin
 	}
-	return of
+	return description
 }
 
-// serve serves a log, and returns it as it is watched.
+// serve serves a log, and returns its description.
 func serve(t testing.TB, log *testlog.Log, kind string) watch.Log {
 	t.Helper()
 	server := httptest.NewServer(log)
@@ -36,8 +36,8 @@ func serve(t testing.TB, log *testlog.Log, kind string) watch.Log {
 	return watched(log, server.URL, kind)
 }
 
-// follower returns a follower of a log.
-func follower(t testing.TB, log watch.Log, k watch.Keeper, options watch.Options) *watch.Follower {
+// newFollower returns a follower of a log, or ends the test.
+func newFollower(t testing.TB, log watch.Log, k watch.Keeper, options watch.Options) *watch.Follower {
 	t.Helper()
 	f, err := watch.NewFollower(log, k, options)
 	if err != nil {
@@ -46,41 +46,41 @@ func follower(t testing.TB, log watch.Log, k watch.Keeper, options watch.Options
 	return f
 }
 
-// count returns the numbers from first on, before end.
-func count(first, end uint64) (numbers []uint64) {
+// numbers returns the numbers from first to end-1.
+func numbers(first, end uint64) (all []uint64) {
 	for i := first; i < end; i++ {
-		numbers = append(numbers, i)
+		all = append(all, i)
 	}
-	return numbers
+	return all
 }
 
-func wantsEntries(t testing.TB, k *keeper, id watch.LogID, due []uint64) {
+func checkEntries(t testing.TB, k *keeper, id watch.LogID, expected []uint64) {
 	t.Helper()
-	if found := k.indexes(id); !slices.Equal(found, due) {
-		t.Errorf("%d entries were kept, and %d are due; they begin with %v, and %v", len(found), len(due),
-			found[:min(len(found), 5)], due[:min(len(due), 5)])
+	if found := k.indexes(id); !slices.Equal(found, expected) {
+		t.Errorf("%d entries were stored, which begin with %v, and %d are expected, which begin with %v", len(found),
+			found[:min(len(found), 5)], len(expected), expected[:min(len(expected), 5)])
 	}
 }
 
-func wantsVerdicts(t testing.TB, k *keeper, id watch.LogID, due ...string) {
+func checkVerdicts(t testing.TB, k *keeper, id watch.LogID, expected ...string) {
 	t.Helper()
-	if found := k.verdicts(id); !slices.Equal(found, due) {
-		t.Errorf("the log is accused of %q, and %q is due", found, due)
+	if found := k.verdicts(id); !slices.Equal(found, expected) {
+		t.Errorf("the log is accused of %q, and %q is expected", found, expected)
 	}
 }
 
-// A log is followed over days from its start: each entry comes once, in order, as the log has it.
+// A log that grows is followed from its start: each entry is stored once, in order, and unchanged.
 func TestFollowsFromStart(t *testing.T) {
 	for _, kind := range kinds {
 		t.Run(kind, func(t *testing.T) {
 			log := newLog(t, 0)
 			of := serve(t, log, kind)
 			k := newKeeper()
-			f := follower(t, of, k, watch.Options{FromStart: true})
+			f := newFollower(t, of, k, watch.Options{FromStart: true})
 			for _, growth := range []uint64{0, 1, 255, 1, 700, 0, 3000, 44} {
 				grow(log, growth)
 				if growth == 0 {
-					log.Publish(log.Size(), begun+1000*log.Size()+500)
+					log.Publish(log.Size(), epoch+1000*log.Size()+500)
 				}
 				if err := f.Pass(context.Background()); err != nil {
 					t.Fatalf("%d entries: %v", log.Size(), err)
@@ -92,13 +92,13 @@ func TestFollowsFromStart(t *testing.T) {
 						log.Size())
 				}
 			}
-			wantsEntries(t, k, of.ID, count(0, log.Size()))
-			wantsVerdicts(t, k, of.ID)
-			due := entriesOf(0, log.Size())
+			checkEntries(t, k, of.ID, numbers(0, log.Size()))
+			checkVerdicts(t, k, of.ID)
+			expected := makeEntries(0, log.Size())
 			for i, entry := range k.entries[of.ID] {
-				if entry.Fault != nil || entry.Timestamp != due[i].Timestamp ||
-					string(entry.Certificate) != string(due[i].Certificate) ||
-					string(entry.Leaf) != string(due[i].MerkleLeaf(uint64(i))) {
+				if entry.Fault != nil || entry.Timestamp != expected[i].Timestamp ||
+					string(entry.Certificate) != string(expected[i].Certificate) ||
+					string(entry.Leaf) != string(expected[i].MerkleLeaf(uint64(i))) {
 					t.Fatalf("entry %d is %+v", i, entry)
 				}
 			}
@@ -106,7 +106,7 @@ func TestFollowsFromStart(t *testing.T) {
 	}
 }
 
-// A log is begun at its end, whatever its size: nothing before is read, and nothing after is left out.
+// A log of any size is followed from its end: no earlier entry is read, and no later one is left out.
 func TestFollowsFromEnd(t *testing.T) {
 	for _, kind := range kinds {
 		for _, size := range []uint64{0, 1, 2, 3, 255, 256, 257, 300, 1000, 65_536, 65_537} {
@@ -117,7 +117,7 @@ func TestFollowsFromEnd(t *testing.T) {
 				log := newLog(t, size)
 				of := serve(t, log, kind)
 				k := newKeeper()
-				f := follower(t, of, k, watch.Options{})
+				f := newFollower(t, of, k, watch.Options{})
 				if err := f.Pass(context.Background()); err != nil {
 					t.Fatal(err)
 				}
@@ -128,14 +128,14 @@ func TestFollowsFromEnd(t *testing.T) {
 				if err := f.Pass(context.Background()); err != nil {
 					t.Fatal(err)
 				}
-				wantsEntries(t, k, of.ID, count(size, size+1300))
-				wantsVerdicts(t, k, of.ID)
+				checkEntries(t, k, of.ID, numbers(size, size+1300))
+				checkVerdicts(t, k, of.ID)
 			})
 		}
 	}
 }
 
-// A monitor that is killed at any call of its Keeper continues from what was kept. Each entry is kept once.
+// A monitor that is killed at any call of its Keeper continues from the stored state. Each entry is stored once.
 func TestKilledAtEachCall(t *testing.T) {
 	for _, kind := range kinds {
 		for _, stores := range []bool{false, true} {
@@ -147,11 +147,11 @@ func TestKilledAtEachCall(t *testing.T) {
 					k := newKeeper()
 					k.killAt, k.stores = at, stores
 					run := log.Fork(10)
-					run.Publish(10, begun+10_000)
+					run.Publish(10, epoch+10_000)
 					server := httptest.NewServer(run)
 					of.URL = server.URL
 					killed := false
-					f := follower(t, of, k, watch.Options{FromStart: true})
+					f := newFollower(t, of, k, watch.Options{FromStart: true})
 					for _, growth := range []uint64{0, 600, 1, 2000} {
 						grow(run, growth)
 						for err := f.Pass(context.Background()); err != nil; err = f.Pass(context.Background()) {
@@ -159,19 +159,19 @@ func TestKilledAtEachCall(t *testing.T) {
 								t.Fatal(err)
 							}
 							killed = true
-							f = follower(t, of, k, watch.Options{FromStart: true})
+							f = newFollower(t, of, k, watch.Options{FromStart: true})
 						}
 					}
 					server.Close()
-					wantsEntries(t, k, of.ID, count(0, run.Size()))
-					wantsVerdicts(t, k, of.ID)
+					checkEntries(t, k, of.ID, numbers(0, run.Size()))
+					checkVerdicts(t, k, of.ID)
 					if !killed {
 						break
 					}
 					kills++
 				}
 				if kills < 6 {
-					t.Fatalf("there were %d kills only", kills)
+					t.Fatalf("there were only %d kills", kills)
 				}
 			})
 		}
@@ -195,7 +195,7 @@ func TestNewFollowerRefuses(t *testing.T) {
 		of, options := good, watch.Options{}
 		change(&of, &options)
 		if _, err := watch.NewFollower(of, newKeeper(), options); err == nil {
-			t.Errorf("%s: a follower", what)
+			t.Errorf("%s: NewFollower returns no error", what)
 		}
 	}
 	if _, err := watch.NewFollower(good, newKeeper(), watch.Options{}); err != nil {
@@ -213,12 +213,12 @@ func TestReportsDuringAPass(t *testing.T) {
 	log := newLog(t, 20_000)
 	of := serve(t, log, "tiled")
 	k := newKeeper()
-	at := newClock(begun)
+	at := newClock(epoch)
 	log.Intercept(func(http.ResponseWriter, *http.Request) bool {
-		at.now.Add(1000) // (each answer takes a second)
+		at.now.Add(1000) // Each answer takes a second.
 		return false
 	})
-	f := follower(t, of, k, watch.Options{FromStart: true, Client: logclient.Options{Clock: at}})
+	f := newFollower(t, of, k, watch.Options{FromStart: true, Client: logclient.Options{Clock: at}})
 	if err := f.Pass(context.Background()); err != nil {
 		t.Fatal(err)
 	}
@@ -227,15 +227,14 @@ func TestReportsDuringAPass(t *testing.T) {
 		status := <-k.reported
 		read = append(read, status.Read)
 	}
-	// (how many entries come at once depends on the machine, but never all of them do)
+	// How many entries arrive at once depends on the machine, but it is never all of them.
 	if len(read) < 2 || !slices.IsSorted(read) || read[0] == 0 || read[0] == 20_000 || read[len(read)-1] != 20_000 {
 		t.Errorf("the reports say that %v entries are read", read)
 	}
 }
 
-// A monitor that is killed at any call of its Keeper loses no evidence: neither that against a head, nor that against
-// an entry, nor an entry.
-func TestKilledWhileAccusing(t *testing.T) {
+// A monitor that is killed at any call of its Keeper loses no evidence against a head or an entry, and no entry.
+func TestLosesNothingWhenKilledWhileAccusing(t *testing.T) {
 	for _, kind := range kinds {
 		for _, stores := range []bool{false, true} {
 			kills := 0
@@ -246,26 +245,26 @@ func TestKilledWhileAccusing(t *testing.T) {
 				of.MaxMergeDelay = 2 * time.Minute
 				k := newKeeper()
 				k.killAt, k.stores = at, stores
-				options := watch.Options{FromStart: true, Client: logclient.Options{Clock: newClock(begun + 310_000)}}
-				f, killed := follower(t, of, k, options), false
-				// passes makes passes until one ends as it must, with a new follower after each kill.
-				passes := func(ends func(error) bool) {
-					for err := f.Pass(context.Background()); !ends(err); err = f.Pass(context.Background()) {
+				options := watch.Options{FromStart: true, Client: logclient.Options{Clock: newClock(epoch + 310_000)}}
+				f, killed := newFollower(t, of, k, options), false
+				// passUntil makes passes until the error of one is the expected one, with a new follower after each kill.
+				passUntil := func(isExpected func(error) bool) {
+					for err := f.Pass(context.Background()); !isExpected(err); err = f.Pass(context.Background()) {
 						if !errors.Is(err, errKilled) {
 							t.Fatal(err)
 						}
-						killed, f = true, follower(t, of, k, options)
+						killed, f = true, newFollower(t, of, k, options)
 					}
 				}
-				passes(func(err error) bool { return err == nil })
-				log.Add(testlog.Entry{Timestamp: begun + 100, Certificate: []byte("late")})
-				log.Publish(301, begun+305_000)
-				passes(func(err error) bool { return err == nil })
-				log.PublishRoot(301, begun+306_000, [32]byte{1})
+				passUntil(func(err error) bool { return err == nil })
+				log.Add(testlog.Entry{Timestamp: epoch + 100, Certificate: []byte("late")})
+				log.Publish(301, epoch+305_000)
+				passUntil(func(err error) bool { return err == nil })
+				log.PublishRoot(301, epoch+306_000, [32]byte{1})
 				var accused *watch.AccusedError
-				passes(func(err error) bool { return errors.As(err, &accused) })
+				passUntil(func(err error) bool { return errors.As(err, &accused) })
 				server.Close()
-				wantsEntries(t, k, of.ID, count(0, 301))
+				checkEntries(t, k, of.ID, numbers(0, 301))
 				if found := slices.Compact(k.verdicts(of.ID)); !slices.Equal(found, []string{watch.VerdictLateMerge,
 					watch.VerdictFork}) {
 					t.Errorf("killed at %d: the log is accused of %q", at, found)
@@ -276,7 +275,7 @@ func TestKilledWhileAccusing(t *testing.T) {
 				kills++
 			}
 			if kills < 8 {
-				t.Errorf("%s: there were %d kills only", kind, kills)
+				t.Errorf("%s: there were only %d kills", kind, kills)
 			}
 		}
 	}

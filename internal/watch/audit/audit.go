@@ -186,7 +186,7 @@ func (p promise) judge(ctx context.Context) (outcome Outcome, index uint64, text
 		return Never, 0, "the timestamp of a tiled log names no index (leaf_index)", nil
 	}
 	hash := wagtenib.LeafHash(p.leaf)
-	index, path, err := p.reader.Place(ctx, p.head, hash, named)
+	index, path, err := p.reader.FindLeaf(ctx, p.head, hash, named)
 	switch {
 	case errors.Is(err, watch.ErrAbsent):
 		delay := uint64(p.reader.Log.MaxMergeDelay.Milliseconds())
@@ -220,7 +220,7 @@ func (p promise) judgeOther(ctx context.Context, index uint64, why error) (Outco
 	if err != nil {
 		return NoAnswer, index, err.Error(), nil
 	}
-	_, path, err := p.reader.Place(ctx, p.head, other, index)
+	_, path, err := p.reader.FindLeaf(ctx, p.head, other, index)
 	if err != nil {
 		return NoAnswer, index, err.Error(), nil
 	}
