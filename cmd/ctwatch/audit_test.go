@@ -208,7 +208,7 @@ func TestCosignsAndWantsCosignatures(t *testing.T) {
 		t.Errorf("without the line: status %d: %s%s", status, out, faults)
 	}
 	if status, out, _ := ctwatch(t, "health", "--folder", folder); status != statusAccused ||
-		!strings.Contains(out, "the policy wants 1 of 1") {
+		!strings.Contains(out, "the policy requires 1 of 1") {
 		t.Errorf("the health: status %d: %s", status, out)
 	}
 	content, err := os.ReadFile(cosigned)

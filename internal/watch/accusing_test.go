@@ -113,13 +113,18 @@ type scene struct {
 	follower *watch.Follower
 }
 
+// options returns the options of the scene's followers.
+func (s *scene) options() watch.Options {
+	return watch.Options{FromStart: true, Client: logclient.Options{Clock: s.clock}}
+}
+
 // newScene follows a log of 300 entries from its start.
 func newScene(t *testing.T, kind string, mmd time.Duration) *scene {
 	t.Helper()
 	s := &scene{log: newLog(t, 300), keeper: newKeeper(), clock: newClock(epoch + 300_000)}
 	s.watched = serve(t, s.log, kind)
 	s.watched.MaxMergeDelay = mmd
-	s.follower = newFollower(t, s.watched, s.keeper, watch.Options{FromStart: true, Client: logclient.Options{Clock: s.clock}})
+	s.follower = newFollower(t, s.watched, s.keeper, s.options())
 	if err := s.follower.Pass(context.Background()); err != nil {
 		t.Fatal(err)
 	}
@@ -192,7 +197,7 @@ func TestAccusesRewrittenHistory(t *testing.T) {
 			server := httptest.NewServer(other)
 			t.Cleanup(server.Close)
 			s.watched.URL = server.URL
-			s.follower = newFollower(t, s.watched, s.keeper, watch.Options{FromStart: true, Client: logclient.Options{Clock: s.clock}})
+			s.follower = newFollower(t, s.watched, s.keeper, s.options())
 			s.checkAccused(t, watch.VerdictOtherRoot)
 			checkVerdicts(t, s.keeper, s.watched.ID, watch.VerdictInconsistent, watch.VerdictOtherRoot)
 			checkEvidence(t, s.keeper, s.watched)
@@ -358,7 +363,7 @@ func TestAccusesOtherSigner(t *testing.T) {
 			server := httptest.NewServer(other)
 			t.Cleanup(server.Close)
 			s.watched.URL = server.URL
-			s.follower = newFollower(t, s.watched, s.keeper, watch.Options{FromStart: true, Client: logclient.Options{Clock: s.clock}})
+			s.follower = newFollower(t, s.watched, s.keeper, s.options())
 			s.checkAccused(t, watch.VerdictSigner)
 			checkEvidence(t, s.keeper, s.watched)
 			checkEntries(t, s.keeper, s.watched.ID, numbers(0, 300))

@@ -89,8 +89,8 @@ func TestSlowLogDelaysNoOther(t *testing.T) {
 	}
 }
 
-// nonsense holds wrong answers that a log gives instead of its head or its entries, and what the reason must contain for
-// each.
+// nonsense holds wrong answers that a log gives instead of its head or its entries, and what the reason must contain
+// for each.
 var nonsense = map[string]struct {
 	answer        func(w http.ResponseWriter, r *http.Request)
 	head, entries string // the expected part of the reason
@@ -131,8 +131,8 @@ func drip(w http.ResponseWriter, r *http.Request, pause time.Duration) {
 	}
 }
 
-// A log that answers nonsense is reported with the reason, is accused of nothing, and is followed again after it answers
-// correctly.
+// A log that answers nonsense is reported with the reason, is accused of nothing, and is followed again after it
+// answers correctly.
 func TestReportsWhyAnAnswerIsNonsense(t *testing.T) {
 	for _, kind := range kinds {
 		for what, wrong := range nonsense {
@@ -144,8 +144,8 @@ func TestReportsWhyAnAnswerIsNonsense(t *testing.T) {
 			for _, part := range []string{"head", "entries"} {
 				t.Run(kind+" "+part+" "+what, func(t *testing.T) {
 					s := newScene(t, kind, 0)
-					s.follower = newFollower(t, s.watched, s.keeper, watch.Options{FromStart: true, Client: logclient.Options{Clock: s.clock,
-						Limits: limits}})
+					s.follower = newFollower(t, s.watched, s.keeper, watch.Options{FromStart: true,
+						Client: logclient.Options{Clock: s.clock, Limits: limits}})
 					grow(s.log, 20)
 					s.log.Intercept(func(w http.ResponseWriter, r *http.Request) bool {
 						isHead := strings.HasSuffix(r.URL.Path, "checkpoint") || strings.HasSuffix(r.URL.Path, "get-sth")
@@ -221,8 +221,8 @@ func TestFollowsChangedList(t *testing.T) {
 	checkEntries(t, k, b.ID, numbers(0, 20))
 }
 
-// holding is a keeper whose first call with entries returns only after the log is asked at its other address, or after a
-// while.
+// holding is a keeper whose first call with entries returns only after the log is asked at its other address, or after
+// a while.
 type holding struct {
 	*keeper
 	held, asked chan struct{}

@@ -12,8 +12,9 @@ import (
 	"wagtenib/internal/logclient"
 )
 
-// The maximum size of a batch. The Keeper stores each batch in one step. Larger batches are read faster, and the entries
-// of smaller ones are searched sooner. A batch has more than one tile or page only if the next ones have arrived already.
+// The maximum size of a batch. The Keeper stores each batch in one step. Larger batches are read faster, and the
+// entries of smaller ones are searched sooner. A batch has more than one tile or page only if the next ones have
+// arrived already.
 const (
 	maxBatch      = 4096     // entries
 	maxBatchBytes = 16 << 20 // bytes
@@ -100,8 +101,8 @@ func (f *Follower) judgeProof(ctx context.Context) error {
 	return nil
 }
 
-// stage gives a batch's tiles to the mirror. It returns no error, because a full disk of the mirror must not prevent the
-// search of entries. Mirror.Accept reads a tile again if it is not staged, and returns the error if it persists.
+// stage gives a batch's tiles to the mirror. It returns no error, because a full disk of the mirror must not prevent
+// the search of entries. Mirror.Accept reads a tile again if it is not staged, and returns the error if it persists.
 func (f *Follower) stage(b batch) {
 	if f.mirror == nil {
 		return

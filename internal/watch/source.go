@@ -105,8 +105,8 @@ func (c *calls) entries(ctx context.Context, start, size uint64, use func(b batc
 	})
 }
 
-// readExtraData reads the chain of an entry and, for a precertificate, the submitted precertificate before it (RFC 6962,
-// section 4.6). The log does not sign them. If they cannot be read, they stay empty, and only the leaf is judged.
+// readExtraData reads the chain of an entry and, for a precertificate, the submitted precertificate before it (RFC
+// 6962, section 4.6). The log does not sign them. If they cannot be read, they stay empty, and only the leaf is judged.
 func readExtraData(entry *Entry, extra []byte) {
 	if entry.Fault != nil {
 		return

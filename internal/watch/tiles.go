@@ -15,8 +15,8 @@ import (
 	"wagtenib/internal/signature"
 )
 
-// maxTreeSize is the maximum number of leaves of a head that openHead accepts. The index of a leaf of a tiled log has 40
-// bits (C2SP static-ct-api), and logs of RFC 6962 are much smaller.
+// maxTreeSize is the maximum number of leaves of a head that openHead accepts. The index of a leaf of a tiled log has
+// 40 bits (C2SP static-ct-api), and logs of RFC 6962 are much smaller.
 const maxTreeSize = 1 << 48
 
 // openHead reads a signed head of a log of either kind, and verifies its signature. The returned head holds the bytes
