@@ -40,18 +40,18 @@ func TestFollowsChangedOrigin(t *testing.T) {
 		cancel()
 		group.Wait()
 	}()
-	of := serve(t, newLog(t, 10), "tiled")
-	group.Follow(ctx, []watch.Log{of})
+	listed := serve(t, newLog(t, 10), "tiled")
+	group.Follow(ctx, []watch.Log{listed})
 	await(t, k, "the log", func(s watch.Status) bool { return s.Accepted == 10 && s.Fault == nil })
-	of.Origin = "another.example/2027"
-	group.Follow(ctx, []watch.Log{of})
+	listed.Origin = "another.example/2027"
+	group.Follow(ctx, []watch.Log{listed})
 	before := 0
 	await(t, k, "the fault of another origin", func(s watch.Status) bool {
 		// The reports of earlier passes arrive first.
 		if before++; before > 1000 {
 			t.Fatalf("it is still followed by the origin %s", s.Log.Origin)
 		}
-		return s.Log.Origin == of.Origin && s.Fault != nil
+		return s.Log.Origin == listed.Origin && s.Fault != nil
 	})
 }
 

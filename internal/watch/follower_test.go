@@ -74,9 +74,9 @@ func TestFollowsFromStart(t *testing.T) {
 	for _, kind := range kinds {
 		t.Run(kind, func(t *testing.T) {
 			log := newLog(t, 0)
-			of := serve(t, log, kind)
+			listed := serve(t, log, kind)
 			k := newKeeper()
-			f := newFollower(t, of, k, watch.Options{FromStart: true})
+			f := newFollower(t, listed, k, watch.Options{FromStart: true})
 			for _, growth := range []uint64{0, 1, 255, 1, 700, 0, 3000, 44} {
 				grow(log, growth)
 				if growth == 0 {
@@ -85,17 +85,17 @@ func TestFollowsFromStart(t *testing.T) {
 				if err := f.Pass(context.Background()); err != nil {
 					t.Fatalf("%d entries: %v", log.Size(), err)
 				}
-				state := k.states[of.ID]
+				state := k.states[listed.ID]
 				if state.Accepted.TreeSize != log.Size() || state.Accepted.Root != log.Root(log.Size()) ||
 					state.Read != log.Size() || len(state.Waiting.Signed) > 0 {
 					t.Fatalf("%d entries are accepted and %d read, and the log has %d", state.Accepted.TreeSize, state.Read,
 						log.Size())
 				}
 			}
-			checkEntries(t, k, of.ID, numbers(0, log.Size()))
-			checkVerdicts(t, k, of.ID)
+			checkEntries(t, k, listed.ID, numbers(0, log.Size()))
+			checkVerdicts(t, k, listed.ID)
 			expected := makeEntries(0, log.Size())
-			for i, entry := range k.entries[of.ID] {
+			for i, entry := range k.entries[listed.ID] {
 				if entry.Fault != nil || entry.Timestamp != expected[i].Timestamp ||
 					string(entry.Certificate) != string(expected[i].Certificate) ||
 					string(entry.Leaf) != string(expected[i].MerkleLeaf(uint64(i))) {
@@ -115,21 +115,21 @@ func TestFollowsFromEnd(t *testing.T) {
 			}
 			t.Run(fmt.Sprint(kind, size), func(t *testing.T) {
 				log := newLog(t, size)
-				of := serve(t, log, kind)
+				listed := serve(t, log, kind)
 				k := newKeeper()
-				f := newFollower(t, of, k, watch.Options{})
+				f := newFollower(t, listed, k, watch.Options{})
 				if err := f.Pass(context.Background()); err != nil {
 					t.Fatal(err)
 				}
-				if state := k.states[of.ID]; state.Start != size || state.Read != size || state.Accepted.TreeSize != size {
+				if state := k.states[listed.ID]; state.Start != size || state.Read != size || state.Accepted.TreeSize != size {
 					t.Fatalf("the state begins at %d and has read %d", state.Start, state.Read)
 				}
 				grow(log, 1300)
 				if err := f.Pass(context.Background()); err != nil {
 					t.Fatal(err)
 				}
-				checkEntries(t, k, of.ID, numbers(size, size+1300))
-				checkVerdicts(t, k, of.ID)
+				checkEntries(t, k, listed.ID, numbers(size, size+1300))
+				checkVerdicts(t, k, listed.ID)
 			})
 		}
 	}
@@ -141,7 +141,7 @@ func TestKilledAtEachCall(t *testing.T) {
 		for _, stores := range []bool{false, true} {
 			t.Run(fmt.Sprint(kind, stores), func(t *testing.T) {
 				log := newLog(t, 10)
-				of := serve(t, log, kind)
+				listed := serve(t, log, kind)
 				kills := 0
 				for at := 1; ; at++ {
 					k := newKeeper()
@@ -149,9 +149,9 @@ func TestKilledAtEachCall(t *testing.T) {
 					run := log.Fork(10)
 					run.Publish(10, epoch+10_000)
 					server := httptest.NewServer(run)
-					of.URL = server.URL
+					listed.URL = server.URL
 					killed := false
-					f := newFollower(t, of, k, watch.Options{FromStart: true})
+					f := newFollower(t, listed, k, watch.Options{FromStart: true})
 					for _, growth := range []uint64{0, 600, 1, 2000} {
 						grow(run, growth)
 						for err := f.Pass(context.Background()); err != nil; err = f.Pass(context.Background()) {
@@ -159,12 +159,12 @@ func TestKilledAtEachCall(t *testing.T) {
 								t.Fatal(err)
 							}
 							killed = true
-							f = newFollower(t, of, k, watch.Options{FromStart: true})
+							f = newFollower(t, listed, k, watch.Options{FromStart: true})
 						}
 					}
 					server.Close()
-					checkEntries(t, k, of.ID, numbers(0, run.Size()))
-					checkVerdicts(t, k, of.ID)
+					checkEntries(t, k, listed.ID, numbers(0, run.Size()))
+					checkVerdicts(t, k, listed.ID)
 					if !killed {
 						break
 					}
@@ -182,19 +182,19 @@ func TestKilledAtEachCall(t *testing.T) {
 func TestNewFollowerRefuses(t *testing.T) {
 	log := newLog(t, 1)
 	good := watched(log, "https://log.example", "tiled")
-	for what, change := range map[string]func(of *watch.Log, options *watch.Options){
-		"another ID": func(of *watch.Log, _ *watch.Options) { of.ID[0] ^= 1 },
-		"no key":     func(of *watch.Log, _ *watch.Options) { of.PublicKey = []byte{1} },
-		"no address": func(of *watch.Log, _ *watch.Options) { of.URL = "log.example" },
-		"a file":     func(of *watch.Log, _ *watch.Options) { of.URL = "file:///etc/passwd" },
-		"a query":    func(of *watch.Log, _ *watch.Options) { of.URL = "https://log.example/?a=b" },
+	for what, change := range map[string]func(listed *watch.Log, options *watch.Options){
+		"another ID": func(listed *watch.Log, _ *watch.Options) { listed.ID[0] ^= 1 },
+		"no key":     func(listed *watch.Log, _ *watch.Options) { listed.PublicKey = []byte{1} },
+		"no address": func(listed *watch.Log, _ *watch.Options) { listed.URL = "log.example" },
+		"a file":     func(listed *watch.Log, _ *watch.Options) { listed.URL = "file:///etc/passwd" },
+		"a query":    func(listed *watch.Log, _ *watch.Options) { listed.URL = "https://log.example/?a=b" },
 		"a mirror only": func(_ *watch.Log, options *watch.Options) {
 			options.Mirror = func(watch.Log) (watch.Mirror, error) { return noMirror{}, nil }
 		},
 	} {
-		of, options := good, watch.Options{}
-		change(&of, &options)
-		if _, err := watch.NewFollower(of, newKeeper(), options); err == nil {
+		listed, options := good, watch.Options{}
+		change(&listed, &options)
+		if _, err := watch.NewFollower(listed, newKeeper(), options); err == nil {
 			t.Errorf("%s: NewFollower returns no error", what)
 		}
 	}
@@ -211,14 +211,14 @@ func (noMirror) Accept(context.Context, watch.Head) error { return nil }
 // During a long pass the status is reported as well, with the fault of the last pass.
 func TestReportsDuringAPass(t *testing.T) {
 	log := newLog(t, 20_000)
-	of := serve(t, log, "tiled")
+	listed := serve(t, log, "tiled")
 	k := newKeeper()
 	at := newClock(epoch)
 	log.Intercept(func(http.ResponseWriter, *http.Request) bool {
 		at.now.Add(1000) // Each answer takes a second.
 		return false
 	})
-	f := newFollower(t, of, k, watch.Options{FromStart: true, Client: logclient.Options{Clock: at}})
+	f := newFollower(t, listed, k, watch.Options{FromStart: true, Client: logclient.Options{Clock: at}})
 	if err := f.Pass(context.Background()); err != nil {
 		t.Fatal(err)
 	}
@@ -241,19 +241,19 @@ func TestLosesNothingWhenKilledWhileAccusing(t *testing.T) {
 			for at := 1; ; at++ {
 				log := newLog(t, 300)
 				server := httptest.NewServer(log)
-				of := watched(log, server.URL, kind)
-				of.MaxMergeDelay = 2 * time.Minute
+				listed := watched(log, server.URL, kind)
+				listed.MaxMergeDelay = 2 * time.Minute
 				k := newKeeper()
 				k.killAt, k.stores = at, stores
 				options := watch.Options{FromStart: true, Client: logclient.Options{Clock: newClock(epoch + 310_000)}}
-				f, killed := newFollower(t, of, k, options), false
+				f, killed := newFollower(t, listed, k, options), false
 				// passUntil makes passes until the error of one is the expected one, with a new follower after each kill.
 				passUntil := func(isExpected func(error) bool) {
 					for err := f.Pass(context.Background()); !isExpected(err); err = f.Pass(context.Background()) {
 						if !errors.Is(err, errKilled) {
 							t.Fatal(err)
 						}
-						killed, f = true, newFollower(t, of, k, options)
+						killed, f = true, newFollower(t, listed, k, options)
 					}
 				}
 				passUntil(func(err error) bool { return err == nil })
@@ -264,8 +264,8 @@ func TestLosesNothingWhenKilledWhileAccusing(t *testing.T) {
 				var accused *watch.AccusedError
 				passUntil(func(err error) bool { return errors.As(err, &accused) })
 				server.Close()
-				checkEntries(t, k, of.ID, numbers(0, 301))
-				if found := slices.Compact(k.verdicts(of.ID)); !slices.Equal(found, []string{watch.VerdictLateMerge,
+				checkEntries(t, k, listed.ID, numbers(0, 301))
+				if found := slices.Compact(k.verdicts(listed.ID)); !slices.Equal(found, []string{watch.VerdictLateMerge,
 					watch.VerdictFork}) {
 					t.Errorf("killed at %d: the log is accused of %q", at, found)
 				}

@@ -55,11 +55,11 @@ func TestSlowLogDelaysNoOther(t *testing.T) {
 				return true
 			})
 		}
-		of := serve(t, log, kinds[i%2])
-		of.Name = fmt.Sprint(i)
-		logs = append(logs, of)
+		listed := serve(t, log, kinds[i%2])
+		listed.Name = fmt.Sprint(i)
+		logs = append(logs, listed)
 		if i != 3 {
-			served[of.ID] = log
+			served[listed.ID] = log
 		}
 	}
 	group.Follow(ctx, logs)
@@ -288,7 +288,7 @@ func TestOnceReturnsAResultForEachLog(t *testing.T) {
 	checkEntries(t, k, a.ID, numbers(0, 500))
 	// A pass ends at its time limit, and the next one continues.
 	slow := newLog(t, 3000)
-	of := serve(t, slow, "tiled")
+	listed := serve(t, slow, "tiled")
 	slow.Intercept(func(_ http.ResponseWriter, r *http.Request) bool {
 		if r.URL.Path != "/tile/data/007" {
 			return false
@@ -298,12 +298,12 @@ func TestOnceReturnsAResultForEachLog(t *testing.T) {
 	})
 	for limit := 300 * time.Millisecond; ; limit *= 2 {
 		limited := watch.NewGroup(k, watch.Options{FromStart: true, Limit: limit})
-		if results := limited.Once(context.Background(), []watch.Log{of}); !errors.Is(results[of.ID],
+		if results := limited.Once(context.Background(), []watch.Log{listed}); !errors.Is(results[listed.ID],
 			context.DeadlineExceeded) {
 			t.Fatalf("%v", results)
 		}
 		// A busy machine may need more than the first limit for the entries that can be read.
-		found := k.indexes(of.ID)
+		found := k.indexes(listed.ID)
 		if slices.Equal(found, numbers(0, 7*256)) {
 			break
 		}
@@ -313,10 +313,10 @@ func TestOnceReturnsAResultForEachLog(t *testing.T) {
 	}
 	slow.Intercept(nil)
 	limited := watch.NewGroup(k, watch.Options{FromStart: true})
-	if results := limited.Once(context.Background(), []watch.Log{of}); results[of.ID] != nil {
+	if results := limited.Once(context.Background(), []watch.Log{listed}); results[listed.ID] != nil {
 		t.Errorf("%v", results)
 	}
-	checkEntries(t, k, of.ID, numbers(0, 3000))
+	checkEntries(t, k, listed.ID, numbers(0, 3000))
 }
 
 // A log with 30,000 entries that refuses one request in five is followed to its head in one pass.
@@ -335,13 +335,13 @@ func TestFollowsDespiteRefusals(t *testing.T) {
 			w.WriteHeader(http.StatusTooManyRequests)
 			return true
 		})
-		of := serve(t, log, kind)
+		listed := serve(t, log, kind)
 		k := newKeeper()
-		f := newFollower(t, of, k, watch.Options{FromStart: true, Client: logclient.Options{Clock: newClock(epoch)}})
+		f := newFollower(t, listed, k, watch.Options{FromStart: true, Client: logclient.Options{Clock: newClock(epoch)}})
 		if err := f.Pass(context.Background()); err != nil {
 			t.Fatal(err)
 		}
-		checkEntries(t, k, of.ID, numbers(0, 30_000))
+		checkEntries(t, k, listed.ID, numbers(0, 30_000))
 		if n := <-asked; n < 100 {
 			t.Errorf("%d requests were made", n)
 		}
@@ -371,13 +371,13 @@ func TestAsksABusyLogLater(t *testing.T) {
 			w.WriteHeader(http.StatusTooManyRequests)
 			return true
 		})
-		of := serve(t, log, "tiled")
+		listed := serve(t, log, "tiled")
 		at := &waitClock{waits: make(chan time.Duration)}
 		at.now.Store(epoch)
 		k := newKeeper()
 		group := watch.NewGroup(k, watch.Options{Pause: time.Minute, Client: logclient.Options{Clock: at}})
 		ctx, cancel := context.WithCancel(context.Background())
-		group.Follow(ctx, []watch.Log{of})
+		group.Follow(ctx, []watch.Log{listed})
 		if pause := <-at.waits; pause < expected-time.Minute || pause > expected+time.Minute {
 			t.Errorf("after Retry-After: %s, the log is asked again after %v", retryAfter, pause)
 		}
