@@ -12,17 +12,17 @@ import (
 	"wagtenib/internal/watch"
 )
 
-// acceptedFolder is a Keeper that also puts the head of each tiled log that was accepted last into a folder, as the log
+// acceptedFolder is a watch.Keeper that also writes the newest accepted head of each tiled log to a folder, as the log
 // signed it. A witness reads it there (ctwitness --accepted-by).
 type acceptedFolder struct {
 	watch.Keeper
 	folder string
 	lines  *httpserver.Lines
 	mutex  sync.Mutex
-	shown  map[watch.LogID]uint64 // by log, the timestamp of the head in the folder
+	shown  map[watch.LogID]uint64 // the timestamp of the head in the folder, by log
 }
 
-// newAcceptedFolder makes the folder, unless it exists.
+// newAcceptedFolder creates the folder, unless it exists.
 func newAcceptedFolder(keeper watch.Keeper, folder string, lines *httpserver.Lines) (*acceptedFolder, error) {
 	if err := os.MkdirAll(folder, 0o755); err != nil {
 		return nil, fmt.Errorf("ctwatch: accepted-folder: %w", err)
@@ -30,11 +30,11 @@ func newAcceptedFolder(keeper watch.Keeper, folder string, lines *httpserver.Lin
 	return &acceptedFolder{Keeper: keeper, folder: folder, lines: lines, shown: map[watch.LogID]uint64{}}, nil
 }
 
-// acceptedName is the name of a log's file: its origin, in which a slash is written as %2F.
+// acceptedName returns the name of a log's file, which is the log's origin with %2F instead of each slash.
 func acceptedName(origin string) string { return url.PathEscape(origin) }
 
-// Keep keeps what was read, and then puts the accepted head into the folder. If the file cannot be written, the state
-// is kept all the same: a witness then refuses newer heads, and the next head that is accepted is written again.
+// Keep stores what was read, and then writes the accepted head to the folder. If the file cannot be written, Keep only
+// logs this: a witness then refuses newer heads until the next accepted head is written.
 func (a *acceptedFolder) Keep(log watch.Log, next watch.State, entries []watch.Entry) error {
 	if err := a.Keeper.Keep(log, next, entries); err != nil {
 		return err

@@ -16,14 +16,14 @@ import (
 	"wagtenib/internal/witness"
 )
 
-// TestAcceptedFolder checks that a run puts the head that it accepted into the folder, as the log signed it, and that a
-// witness reads it there. A later head that the entries do not have does not get there.
-func TestAcceptedFolder(t *testing.T) {
+// TestWritesAcceptedHead: a run writes the accepted head to the folder, as the log signed it, and a witness reads it
+// there. A later head whose root differs from that of the entries is not written.
+func TestWritesAcceptedHead(t *testing.T) {
 	log := newTestLog(t, 300)
 	folder := t.TempDir()
 	run := append([]string{"run", "--once", "--quiet", "--listen=", "--from-start", "--unread", "none",
 		"--folder", filepath.Join(folder, "store"), "--accepted-folder", filepath.Join(folder, "accepted"),
-		"--name", "a.example"}, logWords(t, log)...)
+		"--name", "a.example"}, logArguments(t, log)...)
 	if status, out, faults := ctwatch(t, run...); status != 0 {
 		t.Fatalf("run: status %d: %s%s", status, out, faults)
 	}
@@ -48,15 +48,15 @@ func TestAcceptedFolder(t *testing.T) {
 	}
 }
 
-// failing is a keeper that keeps nothing.
+// failing is a watch.Keeper that stores nothing.
 type failing struct{ watch.Keeper }
 
 func (failing) Keep(watch.Log, watch.State, []watch.Entry) error {
 	return errors.New("the disk is full")
 }
 
-// TestAcceptedFolderAfterTheStore: a head that the store does not keep is not shown to a witness.
-func TestAcceptedFolderAfterTheStore(t *testing.T) {
+// TestWritesNoHeadThatTheStoreRefuses: a head that could not be stored is not written for a witness.
+func TestWritesNoHeadThatTheStoreRefuses(t *testing.T) {
 	folder := filepath.Join(t.TempDir(), "accepted")
 	keeper, err := newAcceptedFolder(failing{}, folder, httpserver.NewLines(io.Discard))
 	must(t, err)

@@ -20,27 +20,27 @@ import (
 
 var _ = addCommand("audit", "CERTIFICATE asks logs whether they keep the promises (SCTs) in a certificate", runAudit)
 
-// The statuses of an audit, beside those of the program.
+// The exit statuses of an audit, in addition to those of the program.
 const (
-	statusNotYet     = 6 // a log does not have an entry yet, and may take longer
-	statusUnknownLog = 7 // no log that was given has the key of a timestamp
+	statusNotYet     = 6 // a log does not have an entry, but may still add it
+	statusUnknownLog = 7 // none of the given logs has the key of a timestamp
 )
 
-// auditStatuses are the statuses of outcomes, the gravest outcome last.
+// auditStatuses holds the exit status for each outcome.
 var auditStatuses = map[audit.Outcome]int{audit.Included: 0, audit.NotYet: statusNotYet,
 	audit.UnknownLog: statusUnknownLog, audit.NoAnswer: statusUnread,
 	audit.Unreadable: statusFault, audit.Never: statusAccused}
 
-// maxCertificateFile is the largest number of bytes of a file of certificates or timestamps.
+// maxCertificateFile is the maximum number of bytes of a file with certificates or timestamps.
 const maxCertificateFile = 16 << 20
 
-// auditSettings say which logs are asked.
+// auditSettings holds the settings that say which logs are asked.
 type auditSettings struct {
 	settings
-	evidence string // the folder that gets evidence, or an entry with its proof; empty if it is not written
+	evidence string // the folder to which evidence, or an entry with its proof, is written; empty to write none
 }
 
-// defineLogs defines the flags of the logs that are asked.
+// defineLogs defines the flags for the logs that are asked.
 func (s *auditSettings) defineLogs(flags *flag.FlagSet) {
 	flags.StringVar(&s.logs.list, "log-list", "",
 		"`file or URL` of a log list (version 3). The default is "+defaultList+", or none if --log is given")
@@ -50,12 +50,12 @@ func (s *auditSettings) defineLogs(flags *flag.FlagSet) {
 	flags.StringVar(&s.logs.contact, "contact", "", "your mail `address` or URL, which logs see in the User-Agent")
 }
 
-// defineEvidence defines the flag of the folder that gets evidence against logs.
+// defineEvidence defines the flag for the folder to which evidence against logs is written.
 func (s *auditSettings) defineEvidence(flags *flag.FlagSet) {
 	flags.StringVar(&s.evidence, "evidence", "", "new `folder` that gets the evidence against logs, for ctfsck evidence")
 }
 
-// client returns how logs are asked.
+// client returns the options for requests to logs.
 func (s *auditSettings) client() (logclient.Options, error) {
 	agent, err := logclient.UserAgent("ctwatch", version.Number(), s.logs.contact)
 	if err != nil {
@@ -66,8 +66,8 @@ func (s *auditSettings) client() (logclient.Options, error) {
 	})}, nil
 }
 
-// readLogs returns the logs that are asked: those of --log, and all of the list in any state, since a certificate can
-// have a promise of a log that is retired.
+// readLogs returns the logs that are asked: those of --log, and all logs of the list in any state, because a
+// certificate can have a promise of a retired log.
 func (s *auditSettings) readLogs(ctx context.Context, client logclient.Options) ([]watch.Log, error) {
 	logs := s.logs.only
 	if s.logs.list == "" {
@@ -86,9 +86,9 @@ func (s *auditSettings) readLogs(ctx context.Context, client logclient.Options) 
 	return logs, nil
 }
 
-// runAudit audits the timestamps in a certificate, or those that one holds for it. The status is that of the gravest
+// runAudit audits the timestamps in a certificate, or those in a file. The exit status is the one of the gravest
 // outcome.
-func runAudit(ctx context.Context, words []string, out io.Writer) error {
+func runAudit(ctx context.Context, arguments []string, out io.Writer) error {
 	s := &auditSettings{}
 	flags := flagsOf("audit", "", out)
 	s.defineLogs(flags)
@@ -97,11 +97,11 @@ func runAudit(ctx context.Context, words []string, out io.Writer) error {
 		"`file` with the certificate of the issuer, if it does not follow in the same file")
 	sctFile := flags.String("sct", "", "`file` with timestamps that you hold for the certificate, which are audited in "+
 		"place of those in it: the answer of a log to add-chain or add-pre-chain, or an SCT or a list of them as TLS has it")
-	words, err := parseFlags(flags, words, 1, out)
+	arguments, err := parseFlags(flags, arguments, 1, out)
 	if err != nil {
 		return err
 	}
-	certificate, issuer, err := readPair(words[0], *issuerFile)
+	certificate, issuer, err := readPair(arguments[0], *issuerFile)
 	if err != nil {
 		return err
 	}
@@ -131,12 +131,12 @@ func runAudit(ctx context.Context, words []string, out io.Writer) error {
 		results, err = auditor.Certificate(ctx, certificate, issuer)
 	}
 	if err != nil {
-		return fmt.Errorf("%s: %w", words[0], err)
+		return fmt.Errorf("%s: %w", arguments[0], err)
 	}
 	return s.printResults(results, out)
 }
 
-// readPair returns a certificate and that of its issuer, in DER. The issuer is nil if there is none.
+// readPair returns a certificate and the certificate of its issuer, in DER. The issuer is nil if no file has it.
 func readPair(certificateFile, issuerFile string) (certificate, issuer []byte, err error) {
 	content, err := readSmall(certificateFile)
 	if err != nil {
@@ -162,7 +162,7 @@ func readPair(certificateFile, issuerFile string) (certificate, issuer []byte, e
 	return chain[0], issuer, nil
 }
 
-// readSmall returns the bytes of a file that is not too long.
+// readSmall returns the bytes of a file, or an error if it is too long.
 func readSmall(name string) ([]byte, error) {
 	file, err := os.Open(name)
 	if err != nil {
@@ -176,7 +176,7 @@ func readSmall(name string) ([]byte, error) {
 	return content, err
 }
 
-// printResults prints a line for each timestamp, and writes the evidence. The error has the status of the gravest
+// printResults prints a line for each timestamp, and writes the evidence. Its error has the exit status of the gravest
 // outcome.
 func (s *auditSettings) printResults(results []audit.Result, out io.Writer) error {
 	gravest := audit.Included
@@ -209,7 +209,7 @@ func (s *auditSettings) printResults(results []audit.Result, out io.Writer) erro
 		len(results), gravest)}
 }
 
-// writeEvidence writes evidence into a folder of its own below the one that was named, if one was.
+// writeEvidence writes evidence to a new folder below the one of the settings, if there is one.
 func (s *auditSettings) writeEvidence(name string, evidence *watch.Evidence) error {
 	if s.evidence == "" {
 		return nil

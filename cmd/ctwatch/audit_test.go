@@ -26,8 +26,8 @@ import (
 	"wagtenib/internal/testlog"
 )
 
-// logWords returns the words that name a log of a server, as a tiled log.
-func logWords(t *testing.T, log *testlog.Log) []string {
+// logArguments serves a log, and returns the arguments that name it as a tiled log.
+func logArguments(t *testing.T, log *testlog.Log) []string {
 	t.Helper()
 	server := httptest.NewServer(log)
 	t.Cleanup(server.Close)
@@ -35,7 +35,7 @@ func logWords(t *testing.T, log *testlog.Log) []string {
 		log.Origin}
 }
 
-// newTestLog returns a log with made-up entries up to a size, and a head of this moment.
+// newTestLog returns a log with this number of made-up entries, and a head with the current time.
 func newTestLog(t *testing.T, size int) *testlog.Log {
 	t.Helper()
 	log, err := testlog.New("log.example/2027")
@@ -47,8 +47,8 @@ func newTestLog(t *testing.T, size int) *testlog.Log {
 	return log
 }
 
-// promised makes a certificate with crypto/x509 whose one timestamp a log signed for an index, and the entry that is
-// promised. It returns the file with the certificate and its issuer.
+// promised makes a certificate with crypto/x509. Its only timestamp promises an entry of a log at an index. promised
+// returns the file with the certificate and its issuer, and the promised entry.
 func promised(t *testing.T, log *testlog.Log, index uint64) (file string, entry testlog.Entry) {
 	t.Helper()
 	key, err := ecdsa.GenerateKey(elliptic.P256(), rand.Reader)
@@ -84,13 +84,14 @@ func promised(t *testing.T, log *testlog.Log, index uint64) (file string, entry 
 	return file, entry
 }
 
-// TestAudits: the status says the gravest outcome, and the evidence of a broken promise can be checked.
-func TestAudits(t *testing.T) {
+// TestAuditsACertificate: the status is that of the gravest outcome, and the evidence of a broken promise can be
+// checked.
+func TestAuditsACertificate(t *testing.T) {
 	log := newTestLog(t, 300)
 	file, entry := promised(t, log, 300)
-	words := append([]string{"audit", file}, logWords(t, log)...)
+	arguments := append([]string{"audit", file}, logArguments(t, log)...)
 	evidence := filepath.Join(t.TempDir(), "evidence")
-	status, out, faults := ctwatch(t, append(words, "--evidence", evidence)...)
+	status, out, faults := ctwatch(t, append(arguments, "--evidence", evidence)...)
 	if status != statusAccused || !strings.Contains(out, ": NEVER: the leaf is not among the 300") {
 		t.Errorf("without the entry: status %d: %s%s", status, out, faults)
 	}
@@ -99,11 +100,11 @@ func TestAudits(t *testing.T) {
 	}
 	log.Add(entry)
 	log.Publish(301, uint64(time.Now().UnixMilli()))
-	if status, out, faults = ctwatch(t, words...); status != 0 || !strings.Contains(out,
+	if status, out, faults = ctwatch(t, arguments...); status != 0 || !strings.Contains(out,
 		": INCLUDED: the leaf is at 300 of 301") {
 		t.Errorf("with the entry: status %d: %s%s", status, out, faults)
 	}
-	if status, out, _ = ctwatch(t, append([]string{"audit", file}, logWords(t, newTestLog(t,
+	if status, out, _ = ctwatch(t, append([]string{"audit", file}, logArguments(t, newTestLog(t,
 		1))...)...); status != statusUnknownLog {
 		t.Errorf("another log: status %d: %s", status, out)
 	}
@@ -111,30 +112,30 @@ func TestAudits(t *testing.T) {
 		http.Error(w, "no", http.StatusForbidden)
 		return true
 	})
-	if status, out, _ = ctwatch(t, words...); status != statusUnread || !strings.Contains(out, "NO ANSWER") {
+	if status, out, _ = ctwatch(t, arguments...); status != statusUnread || !strings.Contains(out, "NO ANSWER") {
 		t.Errorf("a log that refuses: status %d: %s", status, out)
 	}
 }
 
-// TestRefusesToAudit: what cannot be audited is refused by name.
+// TestRefusesToAudit: audit refuses files and log lists that it cannot use, and says why.
 func TestRefusesToAudit(t *testing.T) {
 	log := newTestLog(t, 1)
 	file, _ := promised(t, log, 0)
 	content, err := os.ReadFile(file)
 	must(t, err)
 	_, rest := pem.Decode(content)
-	// (the issuer's certificate has no timestamps)
+	// The issuer's certificate has no timestamps.
 	plain := filepath.Join(t.TempDir(), "plain.pem")
 	must(t, os.WriteFile(plain, rest, 0o600))
 	nonsense := filepath.Join(t.TempDir(), "nonsense")
 	must(t, os.WriteFile(nonsense, []byte("no certificate"), 0o600))
-	for file, due := range map[string]struct {
+	for file, expected := range map[string]struct {
 		status int
 		text   string
 	}{plain: {statusFault, "has no timestamps"}, nonsense: {statusFault, "cannot be read"}, "/absent": {statusUsage,
 		"no such file"}} {
-		status, _, faults := ctwatch(t, append([]string{"audit", file}, logWords(t, log)...)...)
-		if status != due.status || !strings.Contains(faults, due.text) {
+		status, _, faults := ctwatch(t, append([]string{"audit", file}, logArguments(t, log)...)...)
+		if status != expected.status || !strings.Contains(faults, expected.text) {
 			t.Errorf("%s: status %d: %s", file, status, faults)
 		}
 	}
@@ -144,23 +145,23 @@ func TestRefusesToAudit(t *testing.T) {
 	}
 }
 
-// TestCompares: heads that others saw are each compared with the log that signed them.
-func TestCompares(t *testing.T) {
+// TestComparesHeads: each head that others saw is compared with the log that signed it.
+func TestComparesHeads(t *testing.T) {
 	log := newTestLog(t, 300)
 	earlier, forked := log.Fork(100), log.Fork(300)
 	earlier.Publish(100, 5000)
 	forked.PublishRoot(300, 6000, [32]byte{1})
 	folder := t.TempDir()
 	must(t, os.WriteFile(filepath.Join(folder, "earlier"), earlier.Checkpoint(), 0o600))
-	words := append([]string{"compare", folder}, logWords(t, log)...)
-	if status, out, faults := ctwatch(t, words...); status != 0 || !strings.HasPrefix(out,
+	arguments := append([]string{"compare", folder}, logArguments(t, log)...)
+	if status, out, faults := ctwatch(t, arguments...); status != 0 || !strings.HasPrefix(out,
 		"1 heads are consistent with their logs, 0 are not, and 0 are signed by no log") {
 		t.Errorf("status %d: %s%s", status, out, faults)
 	}
 	must(t, os.WriteFile(filepath.Join(folder, "other"), newTestLog(t, 1).Checkpoint(), 0o600))
 	must(t, os.WriteFile(filepath.Join(folder, "forked"), forked.Checkpoint(), 0o600))
 	evidence := filepath.Join(t.TempDir(), "evidence")
-	status, out, _ := ctwatch(t, append(words, "--evidence", evidence)...)
+	status, out, _ := ctwatch(t, append(arguments, "--evidence", evidence)...)
 	if status != statusAccused || !strings.Contains(out, "two roots of 300 leaves") ||
 		!strings.Contains(out, "1 are not, and 1 are signed by no log") {
 		t.Errorf("status %d: %s", status, out)
@@ -170,8 +171,9 @@ func TestCompares(t *testing.T) {
 	}
 }
 
-// TestCosignsAndWantsCosignatures: a run accepts a head, a witness cosigns it, and a policy is met only with that line.
-func TestCosignsAndWantsCosignatures(t *testing.T) {
+// TestCosignsAndRequiresCosignatures: a run accepts a head, and a witness cosigns it. The head meets a policy only with
+// the witness's line.
+func TestCosignsAndRequiresCosignatures(t *testing.T) {
 	public, key, err := ed25519.GenerateKey(rand.Reader)
 	must(t, err)
 	full := append([]byte{4}, public...)
@@ -190,14 +192,16 @@ func TestCosignsAndWantsCosignatures(t *testing.T) {
 	}))
 	defer server.Close()
 	log := newTestLog(t, 300)
-	of, folder := logWords(t, log), filepath.Join(t.TempDir(), "store")
-	run := append([]string{"run", "--once", "--quiet", "--listen=", "--folder", folder, "--name", "a.example"}, of...)
+	logged, folder := logArguments(t, log), filepath.Join(t.TempDir(), "store")
+	run := append([]string{"run", "--once", "--quiet", "--listen=", "--folder", folder, "--name", "a.example"},
+		logged...)
 	if status, out, faults := ctwatch(t, run...); status != 0 {
 		t.Fatalf("run: status %d: %s%s", status, out, faults)
 	}
 	cosigned := filepath.Join(t.TempDir(), "cosigned")
-	words := append([]string{"cosign", server.URL + "," + verifier, "--folder", folder, "--into", cosigned}, of...)
-	if status, out, faults := ctwatch(t, words...); status != 0 || !strings.Contains(out,
+	arguments := append([]string{"cosign", server.URL + "," + verifier, "--folder", folder, "--into", cosigned},
+		logged...)
+	if status, out, faults := ctwatch(t, arguments...); status != 0 || !strings.Contains(out,
 		"300 leaves are cosigned by w.example") {
 		t.Fatalf("cosign: status %d: %s%s", status, out, faults)
 	}
@@ -208,7 +212,7 @@ func TestCosignsAndWantsCosignatures(t *testing.T) {
 		t.Errorf("without the line: status %d: %s%s", status, out, faults)
 	}
 	if status, out, _ := ctwatch(t, "health", "--folder", folder); status != statusAccused ||
-		!strings.Contains(out, "the policy wants 1 of 1") {
+		!strings.Contains(out, "the policy requires 1 of 1") {
 		t.Errorf("the health: status %d: %s", status, out)
 	}
 	content, err := os.ReadFile(cosigned)
@@ -220,6 +224,6 @@ func TestCosignsAndWantsCosignatures(t *testing.T) {
 	}
 	if status, _, faults := ctwatch(t, append(run, "--quorum", "1")...); status != statusUsage ||
 		!strings.Contains(faults, "needs --witnesses") {
-		t.Errorf("a quorum of nobody: status %d: %s", status, faults)
+		t.Errorf("a quorum without witnesses: status %d: %s", status, faults)
 	}
 }

@@ -26,16 +26,15 @@ import (
 	"wagtenib/internal/watch/watchstore"
 )
 
-// TestMain runs the tests, or the program itself.
+// TestMain runs the tests, or is the program itself.
 func TestMain(m *testing.M) { testutil.Main(m, main) }
 
-// TestRefusesSettings: a wrong setting is refused with status 2 before anything is made, and the message names the
-// remedy.
+// TestRefusesSettings: a wrong setting is refused with status 2 before a file is created. The message names the remedy.
 func TestRefusesSettings(t *testing.T) {
 	folder := filepath.Join(t.TempDir(), "store")
 	issued := testcert.NewAuthority(t).Issue("a.example").Certificate
 	key := base64.StdEncoding.EncodeToString(issued.RawSubjectPublicKeyInfo)
-	for words, remedy := range map[string]string{
+	for arguments, remedy := range map[string]string{
 		"":                               "write --name example.org",
 		"--name *.example.org":           "write example.org",
 		"--name https://a.example":       "write its host: a.example",
@@ -57,9 +56,9 @@ func TestRefusesSettings(t *testing.T) {
 		"--name a.example --expect-issuer= ":               "it is empty",
 		"--name a.example --certspotter-watchlist /absent": "no such file",
 	} {
-		status, out, faults := ctwatch(t, append([]string{"run", "--folder", folder}, strings.Fields(words)...)...)
+		status, out, faults := ctwatch(t, append([]string{"run", "--folder", folder}, strings.Fields(arguments)...)...)
 		if status != statusUsage || out != "" || !strings.Contains(faults, remedy) {
-			t.Errorf("%q: status %d, %q, and not %q", words, status, faults, remedy)
+			t.Errorf("%q: status %d, %q, and not %q", arguments, status, faults, remedy)
 		}
 	}
 	for log, remedy := range map[string]string{
@@ -73,12 +72,12 @@ func TestRefusesSettings(t *testing.T) {
 		}
 	}
 	if _, err := os.Stat(folder); !os.IsNotExist(err) {
-		t.Errorf("a run that is refused made its folder: %v", err)
+		t.Errorf("a run that is refused has created its folder: %v", err)
 	}
 }
 
-// TestReadsAFileOfSettings: one line is enough, and a wrong line is named by its number.
-func TestReadsAFileOfSettings(t *testing.T) {
+// TestReadsAConfigFile: one line is enough, and an error names the number of a wrong line.
+func TestReadsAConfigFile(t *testing.T) {
 	path := filepath.Join(t.TempDir(), "settings")
 	must(t, os.WriteFile(path, []byte("name example.org # mine\n"), 0o600))
 	s, err := parse([]string{"--config", path}, nil)
@@ -92,7 +91,8 @@ func TestReadsAFileOfSettings(t *testing.T) {
 	}
 }
 
-// TestSaysWhatToWriteInTheFile: a flag without its value, and a duration in words, are refused with what to write.
+// TestSaysWhatToWriteInTheFile: a setting without its value, and a duration in words, are refused. The message says
+// what to write.
 func TestSaysWhatToWriteInTheFile(t *testing.T) {
 	path := filepath.Join(t.TempDir(), "settings")
 	for line, remedy := range map[string]string{"from-start": "write from-start true", "quiet yes": "write quiet true",
@@ -105,33 +105,33 @@ func TestSaysWhatToWriteInTheFile(t *testing.T) {
 	}
 }
 
-// TestSaysWhatToWriteInTheCommandLine: a duration in words is refused with the flag, the value and what to write, by
-// `ctwatch run` and by the other commands.
+// TestSaysWhatToWriteInTheCommandLine: all commands refuse a duration in words. The message has the flag, the value and
+// what to write.
 func TestSaysWhatToWriteInTheCommandLine(t *testing.T) {
-	for _, words := range [][]string{{"run", "--name", "example.org", "--pause", "2 seconds"},
+	for _, arguments := range [][]string{{"run", "--name", "example.org", "--pause", "2 seconds"},
 		{"health", "--silent-after", "2 seconds"}} {
-		status, _, faults := ctwatch(t, words...)
-		due := words[len(words)-2] + `: "2 seconds" is not a duration (write a duration such as 2s, 5m or 24h)`
-		if status != statusUsage || !strings.Contains(faults, due) {
-			t.Errorf("%s: status %d: %s, and %s is due", words[0], status, faults, due)
+		status, _, faults := ctwatch(t, arguments...)
+		expected := arguments[len(arguments)-2] + `: "2 seconds" is not a duration (write a duration such as 2s, 5m or 24h)`
+		if status != statusUsage || !strings.Contains(faults, expected) {
+			t.Errorf("%s: status %d: %s, and %s is expected", arguments[0], status, faults, expected)
 		}
 	}
 }
 
-// TestChecksWatchLists: names prints what each name covers, also of a list of certspotter, where no dot is an exact
-// name.
+// TestChecksWatchLists: the command names prints what each name covers. In a list of certspotter, a name without a dot
+// in front is exact.
 func TestChecksWatchLists(t *testing.T) {
 	path := filepath.Join(t.TempDir(), "watchlist")
 	must(t, os.WriteFile(path, []byte("example.org\n.example.net\n"), 0o600))
 	below, exact := "this name, all names below it, and wildcards for them", "this name, and wildcards for it"
-	for words, want := range map[string]string{
+	for arguments, want := range map[string]string{
 		path:                    "example.org\t" + below + "\nexample.net\t" + below + "\n",
 		path + " --certspotter": "=example.org\t" + exact + "\nexample.net\t" + below + "\n",
 		"--certspotter " + path: "=example.org\t" + exact + "\nexample.net\t" + below + "\n",
 	} {
-		if status, out, faults := ctwatch(t, append([]string{"names"}, strings.Fields(words)...)...); status != 0 ||
+		if status, out, faults := ctwatch(t, append([]string{"names"}, strings.Fields(arguments)...)...); status != 0 ||
 			out != want {
-			t.Errorf("%s: status %d: %q %s", words, status, out, faults)
+			t.Errorf("%s: status %d: %q %s", arguments, status, out, faults)
 		}
 	}
 	must(t, os.WriteFile(path, []byte("example.org\n*.example.net\n"), 0o600))
@@ -140,30 +140,30 @@ func TestChecksWatchLists(t *testing.T) {
 	}
 }
 
-// TestCommandsWithoutAStore: each command that reads the store says how to get one.
-func TestCommandsWithoutAStore(t *testing.T) {
+// TestSaysHowToGetAStore: each command that reads the store says how to get one if there is none.
+func TestSaysHowToGetAStore(t *testing.T) {
 	folder := t.TempDir()
-	for _, words := range []string{"query example.org", "certificate " + strings.Repeat("0", 64), "evidence 1 " +
+	for _, arguments := range []string{"query example.org", "certificate " + strings.Repeat("0", 64), "evidence 1 " +
 		folder + "/x", "health"} {
-		status, _, faults := ctwatch(t, append(strings.Fields(words), "--folder", folder)...)
+		status, _, faults := ctwatch(t, append(strings.Fields(arguments), "--folder", folder)...)
 		if status != statusFault || !strings.Contains(faults, "start ctwatch run first") {
-			t.Errorf("%s: status %d: %s", words, status, faults)
+			t.Errorf("%s: status %d: %s", arguments, status, faults)
 		}
 	}
-	for _, words := range []string{"query", "query a.example b.example", "query *.example.org", "health more",
+	for _, arguments := range []string{"query", "query a.example b.example", "query *.example.org", "health more",
 		"no-such-command"} {
-		if status, _, faults := ctwatch(t, strings.Fields(words)...); status != statusUsage || faults == "" {
-			t.Errorf("%s: status %d: %s", words, status, faults)
+		if status, _, faults := ctwatch(t, strings.Fields(arguments)...); status != statusUsage || faults == "" {
+			t.Errorf("%s: status %d: %s", arguments, status, faults)
 		}
 	}
-	for _, words := range []string{"help", "run --help", "query --help", "--version"} {
-		if status, out, faults := ctwatch(t, strings.Fields(words)...); status != 0 || out == "" || faults != "" {
-			t.Errorf("%s: status %d: %q %s", words, status, out, faults)
+	for _, arguments := range []string{"help", "run --help", "query --help", "--version"} {
+		if status, out, faults := ctwatch(t, strings.Fields(arguments)...); status != 0 || out == "" || faults != "" {
+			t.Errorf("%s: status %d: %q %s", arguments, status, out, faults)
 		}
 	}
 }
 
-// stored returns a store with a certificate that has hostile texts, and the names that it was made with.
+// stored returns a store with a certificate that has these hosts and hostile texts.
 func stored(t *testing.T, hosts ...string) *watchstore.Store {
 	t.Helper()
 	name, err := namesearch.ParseName("example.org")
@@ -180,16 +180,16 @@ func stored(t *testing.T, hosts ...string) *watchstore.Store {
 	return store
 }
 
-// ask asks the page.
+// ask requests a path of the page.
 func ask(store *watchstore.Store, path string) *httptest.ResponseRecorder {
 	answer := httptest.NewRecorder()
 	pageHandler(store, &listStatus{}, nil).ServeHTTP(answer, httptest.NewRequest(http.MethodGet, path, nil))
 	return answer
 }
 
-// TestPageHasNothingOfOthers: whatever a certificate and a log are called, the page has no script, no handler, no
+// TestPageIsSafe: whatever the names of a certificate and a log are, the page has no script, no event handler, no
 // address of another host, and no element that the template does not have.
-func TestPageHasNothingOfOthers(t *testing.T) {
+func TestPageIsSafe(t *testing.T) {
 	store := stored(t, "<script>alert(1)</script>.example", `"><img src=x onerror=alert(1)>`,
 		"<svg/onload=alert(1)>", "{{.}}", "\x00\x1b[2J")
 	for _, path := range []string{"/", "/?name=example.org&valid=1", "/?name=%3Cscript%3E", "/?name=%22%3E%3Cb%3E",
@@ -209,7 +209,7 @@ func TestPageHasNothingOfOthers(t *testing.T) {
 	}
 	if body := ask(store, "/?name=absent.example").Body.String(); strings.Contains(body, "shop.example.org") ||
 		!strings.Contains(body, "No certificate was found") {
-		t.Errorf("the search finds a stranger: %s", body)
+		t.Errorf("the search finds another name: %s", body)
 	}
 	if answer := ask(store, "/?name=*.example.org"); answer.Code != http.StatusBadRequest ||
 		!strings.Contains(answer.Body.String(), "write example.org") {
@@ -236,8 +236,8 @@ func checkToken(t *testing.T, path string, token html.Token) {
 	}
 }
 
-// TestMetricsAndHealth: Prometheus gets the numbers, and /healthz one line.
-func TestMetricsAndHealth(t *testing.T) {
+// TestServesMetricsAndHealth: /metrics has the numbers of the store, and /healthz one line.
+func TestServesMetricsAndHealth(t *testing.T) {
 	store := stored(t)
 	metrics := ask(store, "/metrics")
 	for _, line := range []string{"ctwatch_certificates 1", "ctwatch_alerts 1", "ctwatch_unread_certificates 0",
@@ -257,7 +257,7 @@ func TestMetricsAndHealth(t *testing.T) {
 	}
 }
 
-// TestWritesEvidence: the files of evidence are written into a new folder, and never out of it.
+// TestWritesEvidence: the files of evidence are written to a new folder, and never outside it.
 func TestWritesEvidence(t *testing.T) {
 	folder := t.TempDir()
 	store, err := watchstore.Open(folder, watchstore.Options{})
@@ -280,10 +280,10 @@ func TestWritesEvidence(t *testing.T) {
 		t.Errorf("a second time: %d %s", status, faults)
 	}
 	if status, _, _ := ctwatch(t, "evidence", "2", to+"2", "--folder", folder); status == 0 {
-		t.Error("a file was written out of the folder")
+		t.Error("a file was written outside the folder")
 	}
 	if _, err := os.Stat(filepath.Join(filepath.Dir(to), "out")); err == nil {
-		t.Error("a file is out of the folder")
+		t.Error("a file is outside the folder")
 	}
 	status, out, _ = ctwatch(t, "health", "--folder", folder)
 	if status != statusAccused || !strings.Contains(out, "1 EVIDENCE against logs") || !strings.Contains(out,
@@ -292,9 +292,9 @@ func TestWritesEvidence(t *testing.T) {
 	}
 }
 
-// TestRunUntilSignal: run follows a log, sends an alert as JSON as soon as the certificate is in the log, and ends in
-// order.
-func TestRunUntilSignal(t *testing.T) {
+// TestRunsUntilASignal: run follows a log, sends an alert as JSON soon after the log has a new certificate, and ends
+// with status 0.
+func TestRunsUntilASignal(t *testing.T) {
 	authority := testcert.NewAuthority(t)
 	log := serveLog(t, "a.example")
 	log.add(authority, authority.Issue("other.net"))
@@ -303,9 +303,9 @@ func TestRunUntilSignal(t *testing.T) {
 	var faults bytes.Buffer
 	ended := make(chan int, 1)
 	alerts := filepath.Join(folder, "alerts")
-	words := []string{"run", "--name", "example.org", "--folder", folder, "--log", log.setting(true), "--pause",
+	arguments := []string{"run", "--name", "example.org", "--folder", folder, "--log", log.setting(true), "--pause",
 		"1s", "--listen", "127.0.0.1:0", "--json", alerts, "--quiet"}
-	go func() { ended <- run(ctx, words, &faults, &faults) }()
+	go func() { ended <- run(ctx, arguments, &faults, &faults) }()
 	testutil.Eventually(t, "the log is read to its end", func() bool {
 		status, out, _ := ctwatch(t, "health", "--folder", folder)
 		return status == 0 && strings.HasPrefix(out, "1 log;")
@@ -325,7 +325,7 @@ func TestRunUntilSignal(t *testing.T) {
 	}
 }
 
-// TestSendsAtTheEnd: a run ends while a webhook has not answered. The alert is then sent again, and says so.
+// TestSendsAtTheEnd: a run ends while a webhook has not answered. The alert is then sent again, with Again set.
 func TestSendsAtTheEnd(t *testing.T) {
 	authority, posted := testcert.NewAuthority(t), make(chan alert.Alert, 10)
 	var hung atomic.Bool
@@ -344,11 +344,11 @@ func TestSendsAtTheEnd(t *testing.T) {
 	log.add(authority, authority.Issue("shop.example.org"))
 	ctx, stop := context.WithCancel(context.Background())
 	ended := make(chan int, 1)
-	words := []string{"run", "--from-start", "--name", "example.org", "--folder", t.TempDir(), "--log", log.setting(true),
-		"--listen=", "--webhook", hook.URL, "--quiet"}
-	go func() { ended <- run(ctx, words, io.Discard, io.Discard) }()
+	arguments := []string{"run", "--from-start", "--name", "example.org", "--folder", t.TempDir(), "--log",
+		log.setting(true), "--listen=", "--webhook", hook.URL, "--quiet"}
+	go func() { ended <- run(ctx, arguments, io.Discard, io.Discard) }()
 	if first := <-posted; first.Again {
-		t.Errorf("the first one says again: %+v", first)
+		t.Errorf("Again is set in the first alert: %+v", first)
 	}
 	stop()
 	if status := <-ended; status != 0 {
@@ -358,12 +358,12 @@ func TestSendsAtTheEnd(t *testing.T) {
 		t.Fatalf("%d alerts were sent at the end", len(posted))
 	}
 	if second := <-posted; !second.Again || second.ID != 1 {
-		t.Errorf("at the end came %+v", second)
+		t.Errorf("the alert at the end is %+v", second)
 	}
 }
 
-// TestHealthOfAFailedOutput: the status of ctwatch health is 1 if alerts could not be sent, and 0 after they were.
-func TestHealthOfAFailedOutput(t *testing.T) {
+// TestHealthReportsAFailedOutput: the status of ctwatch health is 1 if alerts could not be sent, and 0 after they were.
+func TestHealthReportsAFailedOutput(t *testing.T) {
 	folder := t.TempDir()
 	store, err := watchstore.Open(folder, watchstore.Options{})
 	must(t, err)

@@ -17,12 +17,12 @@ var _ = addCommand("compare", "PLACE compares the heads of logs with those that 
 	"a URL", runCompare)
 
 // runCompare compares logs with the heads that others saw. Each head is compared with the log whose key signed it.
-func runCompare(ctx context.Context, words []string, out io.Writer) error {
+func runCompare(ctx context.Context, arguments []string, out io.Writer) error {
 	s := &auditSettings{}
 	flags := flagsOf("compare", "", out)
 	s.defineLogs(flags)
 	s.defineEvidence(flags)
-	words, err := parseFlags(flags, words, 1, out)
+	arguments, err := parseFlags(flags, arguments, 1, out)
 	if err != nil {
 		return err
 	}
@@ -34,7 +34,7 @@ func runCompare(ctx context.Context, words []string, out io.Writer) error {
 	if err != nil {
 		return err
 	}
-	seen, err := audit.ReadHeads(ctx, words[0], client)
+	seen, err := audit.ReadHeads(ctx, arguments[0], client)
 	if err != nil {
 		return err
 	}
@@ -47,18 +47,18 @@ func runCompare(ctx context.Context, words []string, out io.Writer) error {
 	return c.end()
 }
 
-// comparison is a run of ctwatch compare.
+// comparison holds the state of a run of ctwatch compare.
 type comparison struct {
-	s      *auditSettings
-	client logclient.Options
-	out    io.Writer
-	left   map[string][][]byte // the heads that no log has signed yet, by their places
-	alike  int                 // heads that are consistent
-	others int                 // heads that speak against a log
-	faults []error
+	s            *auditSettings
+	client       logclient.Options
+	out          io.Writer
+	left         map[string][][]byte // the heads for which no signing log was found yet, by their file or address
+	consistent   int                 // the number of heads that are consistent with their log
+	inconsistent int                 // the number of heads that show a fault of a log
+	faults       []error
 }
 
-// compare compares the heads that a log signed with what the log answers now.
+// compare compares the heads that a log signed with the log's newest head.
 func (c *comparison) compare(ctx context.Context, log watch.Log) error {
 	reader, err := watch.NewReader(log, c.client)
 	if err != nil {
@@ -84,7 +84,7 @@ func (c *comparison) compare(ctx context.Context, log watch.Log) error {
 	}
 	for _, view := range audit.CompareViews(ctx, reader, head, own, c.client) {
 		if view.Err == nil {
-			c.alike++
+			c.consistent++
 			continue
 		}
 		fmt.Fprintf(c.out, "%s: %s: %s\n", alert.Safe(log.Name), alert.Safe(view.Where), alert.Safe(view.Err.Error()))
@@ -93,29 +93,29 @@ func (c *comparison) compare(ctx context.Context, log watch.Log) error {
 				view.Head.TreeSize))
 			continue
 		}
-		c.others++
-		if err := c.s.writeEvidence(fmt.Sprint(c.others), view.Evidence); err != nil {
+		c.inconsistent++
+		if err := c.s.writeEvidence(fmt.Sprint(c.inconsistent), view.Evidence); err != nil {
 			return err
 		}
 	}
 	return nil
 }
 
-// end prints what came of it, and returns the error with the status.
+// end prints the outcome, and returns the error with the exit status.
 func (c *comparison) end() error {
-	strange := 0
+	unknown := 0
 	for _, heads := range c.left {
-		strange += len(heads)
+		unknown += len(heads)
 	}
 	fmt.Fprintf(c.out, "%d heads are consistent with their logs, %d are not, and %d are signed by no log that was "+
-		"given\n", c.alike, c.others, strange)
+		"given\n", c.consistent, c.inconsistent, unknown)
 	switch {
-	case c.others > 0:
+	case c.inconsistent > 0:
 		return &statusError{statusAccused, "ctwatch: a log showed others another history (--evidence FOLDER keeps the " +
 			"evidence)"}
 	case len(c.faults) > 0:
 		return &statusError{statusUnread, errors.Join(c.faults...).Error()}
-	case c.alike == 0:
+	case c.consistent == 0:
 		return &statusError{statusUnknownLog, "ctwatch: no log that was given signed any of these heads"}
 	}
 	return nil

@@ -17,25 +17,25 @@ import (
 	"wagtenib/internal/witness"
 )
 
-var _ = addCommand("cosign", "URL,KEY has a witness cosign the head of a tiled log that ctwatch run accepted last",
-	runCosign)
+var _ = addCommand("cosign", "URL,KEY asks a witness to cosign the newest head of a tiled log that ctwatch run "+
+	"accepted", runCosign)
 
-// witnessWithin is the time that a witness has for an answer.
-const witnessWithin = 30 * time.Second
+// witnessTimeout is the maximum time for the answer of a witness.
+const witnessTimeout = 30 * time.Second
 
-// runCosign has a witness cosign the head of a tiled log whose leaves were all read, and writes the checkpoint with the
+// runCosign asks a witness to cosign the newest accepted head of a tiled log, and writes the checkpoint with the
 // cosignature to a file, or prints it.
-func runCosign(ctx context.Context, words []string, out io.Writer) error {
+func runCosign(ctx context.Context, arguments []string, out io.Writer) error {
 	s := &auditSettings{}
 	flags := flagsOf("cosign", "", out)
 	s.defineLogs(flags)
 	folder := folderFlag(flags)
 	into := flags.String("into", "", "`file` that gets the cosigned checkpoint; standard output if it is empty")
-	words, err := parseFlags(flags, words, 1, out)
+	arguments, err := parseFlags(flags, arguments, 1, out)
 	if err != nil {
 		return err
 	}
-	one, err := witness.ReadOne(words[0])
+	one, err := witness.ReadOne(arguments[0])
 	if err != nil {
 		return fmt.Errorf("%w: a witness is its URL, a comma and its verifier key: %w", errUsage, err)
 	}
@@ -54,10 +54,10 @@ func runCosign(ctx context.Context, words []string, out io.Writer) error {
 	if err != nil {
 		return err
 	}
-	asks := witness.Client{One: one, HTTP: &http.Client{Timeout: witnessWithin,
+	asked := witness.Client{One: one, HTTP: &http.Client{Timeout: witnessTimeout,
 		Transport: &http.Transport{Proxy: http.ProxyFromEnvironment,
 			TLSClientConfig: &tls.Config{MinVersion: tls.VersionTLS12}}}}
-	cosigned, err := audit.Cosign(ctx, reader, head, asks)
+	cosigned, err := audit.Cosign(ctx, reader, head, asked)
 	switch {
 	case errors.Is(err, audit.ErrWitnessSaw):
 		return &statusError{statusAccused, err.Error()}
@@ -74,7 +74,7 @@ func runCosign(ctx context.Context, words []string, out io.Writer) error {
 	return err
 }
 
-// acceptedHead returns the head of a log that was accepted last, from the store.
+// acceptedHead returns the newest accepted head of a log from the store.
 func acceptedHead(folder string, log watch.Log) (head watch.Head, err error) {
 	store, err := watchstore.OpenToRead(folder)
 	if err != nil {

@@ -12,13 +12,14 @@ import (
 	"wagtenib/internal/testutil"
 )
 
-// TestFullDiskLosesNoAlert runs the program on a disk that gets full while it reads a log: it says so by the store's
-// name. With room again it goes on, and each certificate has its alert, and none twice without the word "again".
+// TestFullDiskLosesNoAlert runs the program on a disk that gets full while it reads a log. The program reports this
+// with the name of the store. With room again it continues, and each certificate gets its alert. An alert that is sent
+// twice has Again set.
 func TestFullDiskLosesNoAlert(t *testing.T) {
 	t.Run("a small disk", func(t *testing.T) {
 		folder := t.TempDir()
 		if err := syscall.Mount("tmpfs", folder, "tmpfs", 0, "size=2m"); err != nil {
-			t.Skipf("no disk can be mounted here, and the other test has to do: %v", err)
+			t.Skipf("no disk can be mounted here, so only the other test checks this: %v", err)
 		}
 		defer func() { must(t, syscall.Unmount(folder, 0)) }()
 		runFull(t, folder, "the disk is full", false, func() {
@@ -30,9 +31,10 @@ func TestFullDiskLosesNoAlert(t *testing.T) {
 	})
 }
 
-// runFull runs the program twice over a log with more certificates than the disk has room for, and makes room in
-// between. If it is limited, no file of the first run grows beyond 512 KiB.
-func runFull(t *testing.T, folder, says string, isLimited bool, makeRoom func()) {
+// runFull runs the program twice over a log with more certificates than the disk has room for, and makes room between
+// the runs. The first run must print the expected text. If isLimited is set, no file of the first run can grow beyond
+// 512 KiB.
+func runFull(t *testing.T, folder, expected string, isLimited bool, makeRoom func()) {
 	t.Helper()
 	const count = 2000
 	log, wanted := manyIssuances(t, count), map[string]bool{}
@@ -41,19 +43,19 @@ func runFull(t *testing.T, folder, says string, isLimited bool, makeRoom func())
 	}
 	log.add(testcert.NewAuthority(t), testcert.NewAuthority(t).Issue("other.net"))
 	alerts := filepath.Join(t.TempDir(), "alerts")
-	words := []string{"run", "--once", "--from-start", "--quiet", "--name", "example.org", "--folder",
+	arguments := []string{"run", "--once", "--from-start", "--quiet", "--name", "example.org", "--folder",
 		filepath.Join(folder, "store"), "--json", alerts, "--log", log.setting(true)}
 	var out bytes.Buffer
-	program := testutil.Program(t, words...)
+	program := testutil.Program(t, arguments...)
 	program.Stdout, program.Stderr = &out, &out
 	if isLimited {
-		// (the program inherits the bound)
+		// The program inherits the bound.
 		_ = testutil.ShortFiles(t, 512<<10, program.Run)
 	} else {
 		_ = program.Run()
 	}
 	if status := program.ProcessState.ExitCode(); status != statusUnread && status != statusFault ||
-		!strings.Contains(out.String(), says) {
+		!strings.Contains(out.String(), expected) {
 		t.Fatalf("on a full disk: status %d: %s", status, out.String())
 	}
 	content, err := os.ReadFile(alerts)
@@ -62,10 +64,10 @@ func runFull(t *testing.T, folder, says string, isLimited bool, makeRoom func())
 		t.Fatal("the disk was not full")
 	}
 	makeRoom()
-	status, said, faults := ctwatch(t, words...)
+	status, printed, faults := ctwatch(t, arguments...)
 	if status != statusFoundByOnce {
-		t.Fatalf("with room: status %d: %s%s", status, said, faults)
+		t.Fatalf("with room: status %d: %s%s", status, printed, faults)
 	}
 	again, cut := judgeAlerts(t, alerts, wanted, 0)
-	t.Logf("%d alerts came again, %d lines are cut off", again, cut)
+	t.Logf("%d alerts were sent again, %d lines are cut off", again, cut)
 }

@@ -16,8 +16,8 @@ import (
 	"wagtenib/internal/watch/namesearch"
 )
 
-// FuzzSettings: a file of settings is refused as a usage fault, or it has names that can be written again, times within
-// their bounds, and logs with the IDs of their keys.
+// FuzzSettings: a config file is refused with errUsage, or its settings have names that can be written and read again,
+// times within their bounds, and logs with the IDs of their keys.
 func FuzzSettings(f *testing.F) {
 	key := base64.StdEncoding.EncodeToString(testcert.NewAuthority(f).Issue("a.b").Certificate.RawSubjectPublicKeyInfo)
 	example, err := os.ReadFile("../../release/ctwatch.conf")
@@ -33,7 +33,7 @@ func FuzzSettings(f *testing.F) {
 		s, err := parse([]string{"--config", path}, io.Discard)
 		if err != nil {
 			if !errors.Is(err, errUsage) {
-				t.Fatalf("the fault is no usage fault: %v", err)
+				t.Fatalf("the error is not errUsage: %v", err)
 			}
 			return
 		}
@@ -50,7 +50,7 @@ func FuzzSettings(f *testing.F) {
 			if log.ID != sha256.Sum256(log.PublicKey) {
 				t.Fatalf("%+v", log)
 			}
-			// (a key that is none is refused here)
+			// NewFollower refuses a key that cannot be read. It must not panic.
 			_, _ = watch.NewFollower(log, nil, watch.Options{})
 		}
 	})

@@ -10,19 +10,19 @@ import (
 	"wagtenib/internal/watch/watchstore"
 )
 
-var _ = addCommand("health", "prints a line on how it goes, and ends with a status for cron", runHealth)
+var _ = addCommand("health", "prints the health as one line, and ends with a status for cron", runHealth)
 
-// maxAccusations is how many alerts about logs that did wrong are listed.
+// maxAccusations is the maximum number of alerts about evidence that are listed.
 const maxAccusations = 20
 
-// runHealth prints how it goes with all logs and outputs. The status is 0 if all is well, statusAccused if there is
+// runHealth prints the health of all logs and outputs. The exit status is 0 if all is well, statusAccused if there is
 // evidence against a log, statusUnread if a log was not read for too long or the log list cannot be read, and
 // statusFault if alerts could not be sent.
-func runHealth(_ context.Context, words []string, out io.Writer) (err error) {
+func runHealth(_ context.Context, arguments []string, out io.Writer) (err error) {
 	flags := flagsOf("health", "", out)
 	folder := folderFlag(flags)
 	silent := flags.Duration("silent-after", 24*time.Hour, "time after which a log that was not read is silent")
-	if _, err := parseFlags(flags, words, 0, out); err != nil {
+	if _, err := parseFlags(flags, arguments, 0, out); err != nil {
 		return err
 	}
 	store, err := watchstore.OpenToRead(*folder)
@@ -61,11 +61,11 @@ func healthStatus(health watchstore.Health, silent time.Duration) error {
 	case health.Logs == 0:
 		return &statusError{statusUnread, "ctwatch: no log is watched yet (the lines of ctwatch run say why)"}
 	case time.Since(health.Reported) > silent:
-		return &statusError{statusUnread, fmt.Sprintf("ctwatch: no log was read for %v (is ctwatch run at work?)",
+		return &statusError{statusUnread, fmt.Sprintf("ctwatch: no log was read for %v (check that ctwatch run runs)",
 			silent)}
 	case health.List != "":
 		return &statusError{statusUnread, "ctwatch: the log list cannot be used, so logs that joined it are not watched " +
-			"(look at its address and at the network; it is tried again)"}
+			"(check its address and the network; it is tried again)"}
 	case len(health.Silent) > 0:
 		return &statusError{statusUnread, "ctwatch: some logs cannot be read (the page of ctwatch run says why)"}
 	case len(health.Outputs) > 0:

@@ -10,8 +10,8 @@ import (
 	"wagtenib/internal/testutil"
 )
 
-// TestHintNamesTheProgramAsItWasCalled: an alert says how to get the certificate by the path of the program, unless the
-// path has characters that a shell reads otherwise.
+// TestHintNamesTheProgramAsItWasCalled: an alert says how to get the certificate, with the path by which the program
+// was called. A path with characters that are special in a shell is replaced with the program's name.
 func TestHintNamesTheProgramAsItWasCalled(t *testing.T) {
 	authority, log := testcert.NewAuthority(t), serveLog(t, "a.example")
 	log.add(authority, authority.Issue("shop.example.org"))

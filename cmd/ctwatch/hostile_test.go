@@ -11,15 +11,15 @@ import (
 	"wagtenib/internal/testutil"
 )
 
-// maxMemory bounds the memory of ctwatch while a log answers as badly as it can, in bytes. The systemd unit allows
+// maxMemory is the maximum memory of ctwatch, in bytes, while a log gives hostile answers. The systemd unit allows
 // twice as much for all logs.
 const maxMemory = 1 << 30
 
-// TestHostileAnswersTakeBoundedMemory: a log that answers with millions of tiny entries, as many as the bytes of an
-// answer may have, is refused, and ctwatch takes no more memory than its bound.
+// TestHostileAnswersTakeBoundedMemory: a log answers with millions of tiny entries, as many as fit into an answer. The
+// log is refused, and ctwatch uses at most maxMemory.
 func TestHostileAnswersTakeBoundedMemory(t *testing.T) {
 	authority := testcert.NewAuthority(t)
-	// (a TileLeaf of an x509_entry with a certificate of one byte; C2SP static-ct-api)
+	// This is a TileLeaf of an x509_entry with a certificate of one byte (C2SP static-ct-api).
 	tiny := []byte{0, 0, 0, 0, 0, 0, 0, 1, 0, 0, 0, 0, 1, 0x30, 0, 0, 0, 0}
 	for what, answer := range map[string][]byte{
 		"get-entries": []byte(`{"entries":[` + strings.Repeat("{},", 16<<20) + "{}]}"),
@@ -33,7 +33,7 @@ func TestHostileAnswersTakeBoundedMemory(t *testing.T) {
 			if !strings.Contains(r.URL.Path, what) {
 				return false
 			}
-			// (ctwatch may end the connection)
+			// The error is ignored, because ctwatch may close the connection.
 			_, _ = w.Write(answer)
 			return true
 		})
@@ -46,7 +46,7 @@ func TestHostileAnswersTakeBoundedMemory(t *testing.T) {
 		usage := program.ProcessState.SysUsage().(*syscall.Rusage)
 		t.Logf("%s: status %d, %d MiB", what, program.ProcessState.ExitCode(), usage.Maxrss>>10)
 		if usage.Maxrss<<10 > maxMemory {
-			t.Errorf("%s: ctwatch took %d MiB: %s", what, usage.Maxrss>>10, out)
+			t.Errorf("%s: ctwatch used %d MiB: %s", what, usage.Maxrss>>10, out)
 		}
 	}
 }

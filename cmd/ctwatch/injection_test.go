@@ -24,16 +24,16 @@ import (
 	"wagtenib/internal/watch/watchstore"
 )
 
-// hostileTexts are names that a CA might certify, or a log list might give a log. Each would do something on a
-// terminal, in a mail, in HTML or in a shell if it got there as it is.
+// hostileTexts holds names that a CA might certify, or that a log list might give a log. Each of them would have an
+// effect on a terminal, in a mail, in HTML or in a shell if it were not escaped.
 var hostileTexts = []string{
 	"\x1b]0;owned\x07\x1b[2J", "\u009b31m\u0085", "\u202egro.live\u2066", "a\r\nBcc: victim@evil.example\r\n\r\nbody",
 	"\n.\n", `"><script>alert(1)</script>`, `'><img src=x onerror=alert(1)>`, "$(touch owned)", "`touch owned`",
 	"; touch owned", "a\x00b", strings.Repeat("long", 25_000), "\xff\xfe", "-oQ/tmp", "%s%n{{.}}", "=?utf-8?q?owned?=",
 }
 
-// injected has the program find a certificate for each of these texts, in a log whose name is the last one that JSON
-// can have, and report them to every output. It returns the folder with what came, and what the program printed.
+// injected lets the program find a certificate for each of hostileTexts, in a log whose name has all of them, and
+// report them to every output. It returns the folder with the outputs, and what the program printed.
 func injected(t *testing.T) (folder, out string) {
 	t.Helper()
 	folder = t.TempDir()
@@ -49,16 +49,16 @@ func injected(t *testing.T) (folder, out string) {
 	must(t, err)
 	must(t, os.WriteFile(filepath.Join(folder, "list"), list, 0o600))
 	for name, script := range map[string]string{
-		"sendmail": `echo "$@" >>"` + folder + `/words"; cat >>"` + folder + `/mail"`,
-		// (a careless script: the shell splits what it does not quote)
-		"tell": `cd "` + folder + `"; echo $CTWATCH_SUMMARY $CTWATCH_NAMES >>told; env >"env.$CTWATCH_ID"`,
+		"sendmail": `echo "$@" >>"` + folder + `/arguments"; cat >>"` + folder + `/mail"`,
+		// This script is careless: the shell splits the values, because they are not quoted.
+		"notify": `cd "` + folder + `"; echo $CTWATCH_SUMMARY $CTWATCH_NAMES >>notified; env >"env.$CTWATCH_ID"`,
 	} {
 		must(t, os.WriteFile(filepath.Join(folder, name), []byte("#!/bin/sh\n"+script+"\n"), 0o700))
 	}
 	program := testutil.Program(t, "run", "--once", "--from-start", "--name", "example.org", "--folder",
 		filepath.Join(folder, "store"), "--log-list", filepath.Join(folder, "list"), "--json", filepath.Join(folder, "lines"),
 		"--mail", "owner@example.org", "--sendmail", filepath.Join(folder, "sendmail"), "--command",
-		filepath.Join(folder, "tell"))
+		filepath.Join(folder, "notify"))
 	var faults strings.Builder
 	program.Stderr = &faults
 	printed, err := program.Output()
@@ -73,20 +73,20 @@ func logID(key []byte) string {
 	return base64.StdEncoding.EncodeToString(id[:])
 }
 
-// isHarmless reports whether a text has only characters that can be printed.
+// isHarmless reports whether all characters of a text are printable.
 func isHarmless(text string) bool {
 	return utf8.ValidString(text) && !strings.ContainsFunc(text, func(one rune) bool { return !unicode.IsPrint(one) })
 }
 
-func readAll(t *testing.T, words ...string) string {
+func readAll(t *testing.T, elements ...string) string {
 	t.Helper()
-	content, err := os.ReadFile(filepath.Join(words...))
+	content, err := os.ReadFile(filepath.Join(elements...))
 	must(t, err)
 	return string(content)
 }
 
-// TestHostileNamesReachNoOutputAsTheyAre reports certificates with hostile names to each output of the program.
-func TestHostileNamesReachNoOutputAsTheyAre(t *testing.T) {
+// TestEscapesHostileNames checks that each output of the program is harmless for certificates with hostile names.
+func TestEscapesHostileNames(t *testing.T) {
 	folder, out := injected(t)
 	t.Run("terminal", func(t *testing.T) {
 		lines := strings.Split(strings.TrimSuffix(out, "\n"), "\n")
@@ -100,8 +100,8 @@ func TestHostileNamesReachNoOutputAsTheyAre(t *testing.T) {
 		}
 	})
 	t.Run("JSON", func(t *testing.T) { checkLines(t, readAll(t, folder, "lines")) })
-	t.Run("mail", func(t *testing.T) { checkSent(t, readAll(t, folder, "words"), readAll(t, folder, "mail")) })
-	t.Run("command", func(t *testing.T) { checkTold(t, folder) })
+	t.Run("mail", func(t *testing.T) { checkMail(t, readAll(t, folder, "arguments"), readAll(t, folder, "mail")) })
+	t.Run("command", func(t *testing.T) { checkCommand(t, folder) })
 	t.Run("page", func(t *testing.T) {
 		store, err := watchstore.OpenToRead(filepath.Join(folder, "store"))
 		must(t, err)
@@ -120,7 +120,7 @@ func TestHostileNamesReachNoOutputAsTheyAre(t *testing.T) {
 	})
 }
 
-// checkLines sees that there is a line for each alert, and that each text in it can be printed.
+// checkLines checks that there is a line for each alert, and that each text in it is printable.
 func checkLines(t *testing.T, content string) {
 	t.Helper()
 	lines := strings.Split(strings.TrimSuffix(content, "\n"), "\n")
@@ -146,12 +146,12 @@ func checkLines(t *testing.T, content string) {
 	}
 }
 
-// checkSent sees that there is one mail, to the owner, with the program's own headers and with no line that is a
-// certificate's.
-func checkSent(t *testing.T, words, content string) {
+// checkMail checks that there is one mail, to the owner, with only the program's headers, and without a line that a
+// certificate has put there.
+func checkMail(t *testing.T, arguments, content string) {
 	t.Helper()
-	if words != "-oi -f owner@example.org -- owner@example.org\n" {
-		t.Errorf("sendmail is called with %q", words)
+	if arguments != "-oi -f owner@example.org -- owner@example.org\n" {
+		t.Errorf("sendmail is called with %q", arguments)
 	}
 	message, err := mail.ReadMessage(strings.NewReader(content))
 	must(t, err)
@@ -160,8 +160,9 @@ func checkSent(t *testing.T, words, content string) {
 		names = append(names, name)
 	}
 	slices.Sort(names)
-	if due := []string{"Auto-Submitted", "Content-Transfer-Encoding", "Content-Type", "Date", "From", "Message-Id",
-		"Mime-Version", "Subject", "To"}; !slices.Equal(names, due) || message.Header.Get("To") != "owner@example.org" {
+	expected := []string{"Auto-Submitted", "Content-Transfer-Encoding", "Content-Type", "Date", "From", "Message-Id",
+		"Mime-Version", "Subject", "To"}
+	if !slices.Equal(names, expected) || message.Header.Get("To") != "owner@example.org" {
 		t.Errorf("the headers are %q", message.Header)
 	}
 	body, err := io.ReadAll(quotedprintable.NewReader(message.Body))
@@ -175,21 +176,22 @@ func checkSent(t *testing.T, words, content string) {
 	}
 }
 
-// checkTold sees that the command ran once for each alert, that each variable is one line, and that nothing else ran.
-func checkTold(t *testing.T, folder string) {
+// checkCommand checks that the command ran once for each alert, that each variable is one line, and that nothing else
+// was run.
+func checkCommand(t *testing.T, folder string) {
 	t.Helper()
-	if told := readAll(t, folder, "told"); strings.Count(told, "\n") != len(hostileTexts) {
-		t.Errorf("the command wrote %.3000q", told)
+	if notified := readAll(t, folder, "notified"); strings.Count(notified, "\n") != len(hostileTexts) {
+		t.Errorf("the command wrote %.3000q", notified)
 	}
 	files, err := os.ReadDir(folder)
 	must(t, err)
-	due := []string{"lines", "list", "mail", "sendmail", "store", "tell", "told", "words"}
+	expected := []string{"arguments", "lines", "list", "mail", "notified", "notify", "sendmail", "store"}
 	for _, file := range files {
-		if name := file.Name(); !strings.HasPrefix(name, "env.") && !slices.Contains(due, name) {
-			t.Errorf("there is a file %q: a certificate ran something", name)
+		if name := file.Name(); !strings.HasPrefix(name, "env.") && !slices.Contains(expected, name) {
+			t.Errorf("there is a file %q: a text of a certificate was run", name)
 		}
 	}
-	if len(files) != len(due)+len(hostileTexts) {
+	if len(files) != len(expected)+len(hostileTexts) {
 		t.Errorf("there are %d files", len(files))
 	}
 	for i := range hostileTexts {

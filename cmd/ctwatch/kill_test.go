@@ -25,14 +25,14 @@ var (
 	seed  = flag.Uint64("seed", 1, "seed of the moments")
 )
 
-// TestKilledProgram kills ctwatch by SIGKILL at random moments of reading two logs, one of which forks in the middle.
-// At the end each issuance had its alert, and no alert came twice without the word "again". The fork alerted once, and
-// its evidence convinces the judge of ctfsck.
-func TestKilledProgram(t *testing.T) {
-	authority, chance, folder := testcert.NewAuthority(t), rand.New(rand.NewPCG(*seed, 0)), t.TempDir()
+// TestKillsLoseNoAlert kills ctwatch by SIGKILL at random times while it reads two logs, one of which forks in the
+// middle. At the end, each issuance has its alert, and an alert that was sent twice has Again set. The fork has one
+// alert, and the judge of ctfsck confirms its evidence.
+func TestKillsLoseNoAlert(t *testing.T) {
+	authority, random, folder := testcert.NewAuthority(t), rand.New(rand.NewPCG(*seed, 0)), t.TempDir()
 	first, second := serveLog(t, "a.example"), serveLog(t, "b.example")
 	asked, wanted, isGrowing, forked := make(chan struct{}, 1<<16), map[string]bool{}, true, false
-	turn := make(chan struct{}, 1) // (whoever has it may look at what the logs have)
+	turn := make(chan struct{}, 1) // It is a mutex for `wanted`, isGrowing and forked.
 	turn <- struct{}{}
 	grow := func(log served) {
 		<-turn
@@ -61,25 +61,25 @@ func TestKilledProgram(t *testing.T) {
 		})
 	}
 	alerts := filepath.Join(folder, "alerts")
-	words := []string{"run", "--from-start", "--name", "example.org", "--folder", folder, "--pause", "1s", "--listen", "",
-		"--quiet", "--json", alerts, "--log", first.setting(true), "--log", second.setting(false)}
+	arguments := []string{"run", "--from-start", "--name", "example.org", "--folder", folder, "--pause", "1s", "--listen",
+		"", "--quiet", "--json", alerts, "--log", first.setting(true), "--log", second.setting(false)}
 	for round := range *kills {
 		if round == *kills/2 {
 			<-turn
 			forked = true
 			turn <- struct{}{}
-			// (the last head before the fork is accepted, so that the next one has another root of the same size)
-			if status, out, faults := ctwatch(t, append(words, "--once")...); status != statusFoundByOnce {
+			// The last head before the fork is accepted, so that the next one has another root of the same size.
+			if status, out, faults := ctwatch(t, append(arguments, "--once")...); status != statusFoundByOnce {
 				t.Fatalf("before the fork: status %d: %s%s", status, out, faults)
 			}
 			second.PublishRoot(second.Size(), uint64(time.Now().UnixMilli())+1, [32]byte{1})
 		}
-		killAt(t, words, asked, 1+chance.IntN(6), time.Duration(chance.IntN(60))*time.Millisecond)
+		killAt(t, arguments, asked, 1+random.IntN(6), time.Duration(random.IntN(60))*time.Millisecond)
 	}
 	<-turn
 	isGrowing = false
 	turn <- struct{}{}
-	if status, out, faults := ctwatch(t, append(words, "--once")...); status != statusAccused {
+	if status, out, faults := ctwatch(t, append(arguments, "--once")...); status != statusAccused {
 		t.Errorf("the last run: status %d: %s%s", status, out, faults)
 	}
 	again, cut := judgeAlerts(t, alerts, wanted, 1)
@@ -90,7 +90,7 @@ func TestKilledProgram(t *testing.T) {
 	judgeFork(t, folder, second.PublicKey())
 }
 
-// judgeFork has the judge of ctfsck look at the first evidence of a store.
+// judgeFork checks that the judge of ctfsck confirms the first evidence of a store.
 func judgeFork(t *testing.T, folder string, key []byte) {
 	t.Helper()
 	evidence := filepath.Join(folder, "evidence")
@@ -103,13 +103,14 @@ func judgeFork(t *testing.T, folder string, key []byte) {
 	}
 }
 
-// killAt starts the program, and kills it a while after it has made so many requests. While it runs it must not end.
-func killAt(t *testing.T, words []string, asked chan struct{}, requests int, later time.Duration) {
+// killAt starts the program, and kills it some time after it has made this number of requests. The program must not end
+// before.
+func killAt(t *testing.T, arguments []string, asked chan struct{}, requests int, later time.Duration) {
 	t.Helper()
 	for len(asked) > 0 {
 		<-asked
 	}
-	program := testutil.Program(t, words...)
+	program := testutil.Program(t, arguments...)
 	var faults bytes.Buffer
 	program.Stderr = &faults
 	must(t, program.Start())
@@ -122,13 +123,13 @@ func killAt(t *testing.T, words []string, asked chan struct{}, requests int, lat
 			t.Fatalf("the program ended by itself: %v: %s", err, faults.String())
 		}
 	}
-	time.Sleep(later) // (this is the moment of the kill, not what the test waits for)
+	time.Sleep(later) // The sleep only chooses the time of the kill. The test does not rely on it.
 	must(t, program.Process.Kill())
 	<-ended
 }
 
-// judgeAlerts looks at the lines of the alerts: each host must have one, and so many are about logs. It returns how
-// many say "again", and how many lines are cut off.
+// judgeAlerts checks the lines of the alerts. Each host must have one alert, and `accused` alerts must be about logs.
+// It returns the number of alerts with Again, and the number of lines that are cut off.
 func judgeAlerts(t *testing.T, path string, wanted map[string]bool, accused int) (again, cut int) {
 	t.Helper()
 	content, err := os.ReadFile(path)
@@ -141,7 +142,7 @@ func judgeAlerts(t *testing.T, path string, wanted map[string]bool, accused int)
 			continue
 		}
 		if sent[one.ID] && !one.Again {
-			t.Errorf("alert %d came twice, and does not say so", one.ID)
+			t.Errorf("alert %d was sent twice, and Again is not set", one.ID)
 		}
 		if one.Again {
 			again++

@@ -21,14 +21,14 @@ import (
 	"wagtenib/internal/testutil"
 )
 
-// refusingList serves a log list with a log. It refuses every request until it is opened.
+// refusingList serves a log list with one log. It refuses every request until isOpen is set.
 type refusingList struct {
 	address string
 	isOpen  atomic.Bool
 	asked   atomic.Int64
 }
 
-// listOfOneLog returns a log list with a log that is served.
+// listOfOneLog returns a log list with one log, which it serves.
 func listOfOneLog(t *testing.T) []byte {
 	t.Helper()
 	log, authority := serveLog(t, "a.example"), testcert.NewAuthority(t)
@@ -36,7 +36,7 @@ func listOfOneLog(t *testing.T) []byte {
 	return listOf(t, log)
 }
 
-// listOf returns a log list with a log.
+// listOf returns a log list with one log.
 func listOf(t *testing.T, log served) []byte {
 	t.Helper()
 	return listOfStates(t, map[string]served{"usable": log})
@@ -76,7 +76,7 @@ func serveRefusingList(t *testing.T) *refusingList {
 	return one
 }
 
-// event is a line of ctwatch run.
+// event is a line of the log of ctwatch run.
 type event struct {
 	Event, Page, Fault, Next, Address, List string
 	Logs                                    int
@@ -95,37 +95,37 @@ func nextEvent(t *testing.T, from *bufio.Scanner, name string) event {
 	return event{}
 }
 
-// started starts the program, and returns the lines of its standard error.
-func started(t *testing.T, words ...string) (*exec.Cmd, *bufio.Scanner) {
+// started starts the program, and returns a scanner of its standard error.
+func started(t *testing.T, arguments ...string) (*exec.Cmd, *bufio.Scanner) {
 	t.Helper()
-	program := testutil.Program(t, words...)
+	program := testutil.Program(t, arguments...)
 	lines, err := program.StderrPipe()
 	must(t, err)
 	must(t, program.Start())
 	return program, bufio.NewScanner(lines)
 }
 
-// TestReportsTheFirstFailureAtOnce: a command for people says at once that a server refuses, and that it is tried
-// again. It goes on trying, and the refusals of one server are one line.
+// TestReportsTheFirstFailureAtOnce: a command for people reports at once that a server refuses, and that it tries
+// again. It continues to try, and prints only one line about the refusals of one server.
 func TestReportsTheFirstFailureAtOnce(t *testing.T) {
 	folder := t.TempDir()
 	certificate := filepath.Join(folder, "certificate")
 	must(t, os.WriteFile(certificate, pem.EncodeToMemory(&pem.Block{Type: "CERTIFICATE",
 		Bytes: testcert.NewAuthority(t).Issue("a.example").Certificate.Raw}), 0o600))
-	for _, words := range [][]string{{"show", "https://a.example", "1"},
+	for _, arguments := range [][]string{{"show", "https://a.example", "1"},
 		{"audit", certificate, "--issuer", certificate},
 		{"run", "--once", "--name", "example.org", "--folder", folder}} {
 		list := serveRefusingList(t)
-		program, lines := started(t, append(words, "--log-list", list.address)...)
+		program, lines := started(t, append(arguments, "--log-list", list.address)...)
 		if !lines.Scan() || !strings.Contains(lines.Text(), list.address) ||
 			!strings.Contains(lines.Text(), "status 503") || !strings.Contains(lines.Text(), "it is tried again") {
-			t.Errorf("%s: the first line is %q", words[0], lines.Text())
+			t.Errorf("%s: the first line is %q", arguments[0], lines.Text())
 		}
 		testutil.Eventually(t, "the list is asked for three times", func() bool { return list.asked.Load() >= 3 })
 		list.isOpen.Store(true)
 		for lines.Scan() {
 			if strings.Contains(lines.Text(), "it is tried again") {
-				t.Errorf("%s: one more line: %s", words[0], lines.Text())
+				t.Errorf("%s: one more line: %s", arguments[0], lines.Text())
 			}
 		}
 		if err := program.Wait(); err != nil && !errors.As(err, new(*exec.ExitError)) {
@@ -134,7 +134,7 @@ func TestReportsTheFirstFailureAtOnce(t *testing.T) {
 	}
 }
 
-// healthOf asks /healthz.
+// healthOf requests /healthz.
 func healthOf(t *testing.T, page string) (status int, line string) {
 	t.Helper()
 	answer, err := http.Get(page + "healthz")
@@ -145,9 +145,9 @@ func healthOf(t *testing.T, page string) (status int, line string) {
 	return answer.StatusCode, string(content)
 }
 
-// TestReportsAListThatWasNeverRead: while the server of the log list refuses, the first refusal is logged at once,
-// /healthz answers 503, and ctwatch health ends with status 5. Both name the list. After the list was read, /healthz
-// answers 200.
+// TestReportsAListThatWasNeverRead: while the server of the log list refuses, ctwatch logs the first refusal at once,
+// /healthz answers with 503, and ctwatch health ends with status 5. Both name the list. After the list was read,
+// /healthz answers with 200.
 func TestReportsAListThatWasNeverRead(t *testing.T) {
 	list, folder := serveRefusingList(t), t.TempDir()
 	program, lines := started(t, "run", "--name", "example.org", "--folder", folder, "--log-list", list.address,
@@ -161,13 +161,13 @@ func TestReportsAListThatWasNeverRead(t *testing.T) {
 		!strings.Contains(one.Fault, "status 503") {
 		t.Errorf("the first line is %+v", one)
 	}
-	const due = "0 logs: the log list was not read yet"
+	const expected = "0 logs: the log list was not read yet"
 	if status, line := healthOf(t, page); status != http.StatusServiceUnavailable ||
-		!strings.HasPrefix(line, due+": ") || !strings.Contains(line, "status 503") {
+		!strings.HasPrefix(line, expected+": ") || !strings.Contains(line, "status 503") {
 		t.Errorf("/healthz: %d %s", status, line)
 	}
 	if status, out, faults := ctwatch(t, "health", "--folder", folder); status != statusUnread ||
-		!strings.HasPrefix(out, due+": ") || !strings.Contains(out, "status 503") ||
+		!strings.HasPrefix(out, expected+": ") || !strings.Contains(out, "status 503") ||
 		!strings.Contains(faults, "no log is watched yet") {
 		t.Errorf("ctwatch health: status %d: %s%s", status, out, faults)
 	}
@@ -186,9 +186,9 @@ func TestReportsAListThatWasNeverRead(t *testing.T) {
 	must(t, program.Wait())
 }
 
-// TestReadsAListThatComesAfterTheStart: a list that cannot be read at the start is read soon after it can be. The line
-// of the failure says when it is tried again.
-func TestReadsAListThatComesAfterTheStart(t *testing.T) {
+// TestReadsAListThatAppearsLater: a list that cannot be read at the start is read soon after it exists. The line of log
+// about the failure says when the next attempt is.
+func TestReadsAListThatAppearsLater(t *testing.T) {
 	folder := t.TempDir()
 	list := filepath.Join(folder, "list.json")
 	program, lines := started(t, "run", "--name", "example.org", "--folder", filepath.Join(folder, "store"),
@@ -213,7 +213,8 @@ func TestReadsAListThatComesAfterTheStart(t *testing.T) {
 	must(t, program.Wait())
 }
 
-// watchingList is a folder with a log list, settings that name it, and a log.
+// watchingList holds the paths of a log list, of a store, of settings that name both, and of the alerts. It also has
+// the log of the list.
 type watchingList struct {
 	list, store, config, alerts string
 	authority                   *testcert.Authority
@@ -241,47 +242,47 @@ func (w watchingList) write(t *testing.T, content []byte) {
 	must(t, os.Rename(w.list+".new", w.list))
 }
 
-// isUnwell checks that a line and a status of health name the list that cannot be read.
-func (w watchingList) isUnwell(t *testing.T, is, due int, line string) {
+// checkUnwell checks the status of a health report, and that its line names the list that cannot be read.
+func (w watchingList) checkUnwell(t *testing.T, status, expected int, line string) {
 	t.Helper()
-	if is != due || !strings.HasPrefix(line, "1 log; the log list CANNOT BE USED: "+w.list+": ") ||
+	if status != expected || !strings.HasPrefix(line, "1 log; the log list CANNOT BE USED: "+w.list+": ") ||
 		!strings.Contains(line, "it was read last at ") {
-		t.Errorf("the health has the status %d, and %d is due: %s", is, due, line)
+		t.Errorf("the health has the status %d, and %d is expected: %s", status, expected, line)
 	}
 }
 
-// TestOnceReadsTheLogsOfTheLastList: with a list that cannot be read, --once reads the logs of the list that was read
-// last, sends what it finds, and ends with status 5. ctwatch health ends with 5 too, until the list can be read again.
+// TestOnceReadsTheLogsOfTheLastList: if the list cannot be read, --once reads the logs of the list that was last read,
+// sends its alerts, and ends with status 5. ctwatch health also ends with 5 until the list can be read again.
 func TestOnceReadsTheLogsOfTheLastList(t *testing.T) {
 	w := newWatchingList(t)
-	words := []string{"run", "--once", "--name", "example.org", "--folder", w.store, "--log-list", w.list}
+	arguments := []string{"run", "--once", "--name", "example.org", "--folder", w.store, "--log-list", w.list}
 	w.write(t, listOf(t, w.log))
-	if status, out, faults := ctwatch(t, words...); status != 0 {
+	if status, out, faults := ctwatch(t, arguments...); status != 0 {
 		t.Fatalf("status %d: %s%s", status, out, faults)
 	}
 	w.write(t, []byte("<html>"))
 	w.add("shop.example.org")
-	status, out, faults := ctwatch(t, words...)
+	status, out, faults := ctwatch(t, arguments...)
 	if status != statusUnread || !strings.Contains(out, "FOUND example.org: shop.example.org") ||
 		!strings.Contains(faults, "the log list cannot be read: ") {
 		t.Errorf("status %d: %s%s", status, out, faults)
 	}
 	status, out, faults = ctwatch(t, "health", "--folder", w.store)
-	w.isUnwell(t, status, statusUnread, out)
+	w.checkUnwell(t, status, statusUnread, out)
 	if !strings.Contains(faults, "logs that joined it are not watched") {
 		t.Error(faults)
 	}
 	w.write(t, listOf(t, w.log))
-	if status, out, faults = ctwatch(t, words...); status != 0 {
-		t.Errorf("the list is mended: status %d: %s%s", status, out, faults)
+	if status, out, faults = ctwatch(t, arguments...); status != 0 {
+		t.Errorf("the list is correct again: status %d: %s%s", status, out, faults)
 	}
 	if status, out, _ = ctwatch(t, "health", "--folder", w.store); status != 0 {
-		t.Errorf("the list is mended: status %d: %s", status, out)
+		t.Errorf("the list is correct again: status %d: %s", status, out)
 	}
 }
 
-// TestWatchesTheLogsOfTheLastList: after a start and after a reload with a list that cannot be read, the logs of the
-// list that was read last are watched, and /healthz answers 503 until the list can be read again.
+// TestWatchesTheLogsOfTheLastList: if the list cannot be read at a start or at a reload, the logs of the list that was
+// last read are watched. /healthz answers with 503 until the list can be read again.
 func TestWatchesTheLogsOfTheLastList(t *testing.T) {
 	w := newWatchingList(t)
 	w.write(t, listOf(t, w.log))
@@ -299,9 +300,9 @@ func TestWatchesTheLogsOfTheLastList(t *testing.T) {
 			t.Errorf("the line of the list is %+v", one)
 		}
 		found = append(found, name)
-		wantsHosts(t, w.alerts, found...)
+		checkHosts(t, w.alerts, found...)
 		status, line := healthOf(t, page)
-		w.isUnwell(t, status, http.StatusServiceUnavailable, line)
+		w.checkUnwell(t, status, http.StatusServiceUnavailable, line)
 		if name == "start.example.org" {
 			w.add("reload.example.org")
 			must(t, program.Process.Signal(syscall.SIGHUP))
@@ -319,9 +320,9 @@ func TestWatchesTheLogsOfTheLastList(t *testing.T) {
 	must(t, program.Wait())
 }
 
-// TestForgetsAnotherList: if the settings name another list, which cannot be read, no log of the list before is
+// TestForgetsThePreviousList: if the settings name another list, which cannot be read, no log of the previous list is
 // watched.
-func TestForgetsAnotherList(t *testing.T) {
+func TestForgetsThePreviousList(t *testing.T) {
 	w := newWatchingList(t)
 	w.write(t, listOf(t, w.log))
 	if status, out, faults := ctwatch(t, "run", "--once", "--config", w.config); status != 0 {
@@ -334,30 +335,30 @@ func TestForgetsAnotherList(t *testing.T) {
 	}
 }
 
-// TestReadsWhatABreakMisses: while ctwatch is off, a log retires and another one joins the list, and both have a new
-// certificate. The next run reads neither. A run that names the retired log, and one with --from-start at the first
-// reading of the other log, find them, as docs/WATCH.md says.
-func TestReadsWhatABreakMisses(t *testing.T) {
+// TestFindsWhatABreakMissed: while ctwatch does not run, a log retires and another one joins the list, and both have a
+// new certificate. The next run finds neither. A run that names the retired log, and a run that reads the other log for
+// the first time with --from-start, find them, as docs/WATCH.md says.
+func TestFindsWhatABreakMissed(t *testing.T) {
 	w := newWatchingList(t)
 	joined := serveLog(t, "b.example")
 	joined.add(w.authority, w.authority.Issue("joined.example.org"))
 	w.write(t, listOf(t, w.log))
-	words := []string{"run", "--once", "--name", "example.org", "--log-list", w.list, "--folder"}
+	arguments := []string{"run", "--once", "--name", "example.org", "--log-list", w.list, "--folder"}
 	for _, store := range []string{w.store, w.store + "-2"} {
-		if status, out, faults := ctwatch(t, append(words, store)...); status != 0 {
+		if status, out, faults := ctwatch(t, append(arguments, store)...); status != 0 {
 			t.Fatalf("status %d: %s%s", status, out, faults)
 		}
 	}
 	w.add("retired.example.org")
 	w.write(t, listOfStates(t, map[string]served{"retired": w.log, "usable": joined}))
-	if status, out, faults := ctwatch(t, append(words, w.store)...); status != 0 || out != "" {
+	if status, out, faults := ctwatch(t, append(arguments, w.store)...); status != 0 || out != "" {
 		t.Errorf("after the break: status %d: %s%s", status, out, faults)
 	}
-	status, out, faults := ctwatch(t, append(words, w.store, "--from-start", "--log", w.log.setting(false))...)
+	status, out, faults := ctwatch(t, append(arguments, w.store, "--from-start", "--log", w.log.setting(false))...)
 	if status != statusFoundByOnce || strings.Count(out, "\n") != 1 || !strings.Contains(out, "retired.example.org") {
 		t.Errorf("the retired log is named: status %d: %s%s", status, out, faults)
 	}
-	status, out, faults = ctwatch(t, append(words, w.store+"-2", "--from-start")...)
+	status, out, faults = ctwatch(t, append(arguments, w.store+"-2", "--from-start")...)
 	if status != statusFoundByOnce || strings.Count(out, "\n") != 1 || !strings.Contains(out, "joined.example.org") {
 		t.Errorf("the first run after the break is from the start: status %d: %s%s", status, out, faults)
 	}

@@ -22,37 +22,36 @@ import (
 	"wagtenib/internal/watch/watchstore"
 )
 
-// The bounds of what settings name.
 const (
-	maxKeyFile     = 64 << 10
-	usualMergeTime = 24 * time.Hour // the maximum merge delay of a log that is in no list (RFC 6962, section 3)
-	listPause      = time.Hour      // between two readings of the log list
+	maxKeyFile        = 64 << 10       // bytes
+	defaultMergeDelay = 24 * time.Hour // the maximum merge delay of a log of the settings (RFC 6962, section 3)
+	listPause         = time.Hour      // the time between two readings of the log list
 )
 
-// addLog reads a log: its address, its key, and perhaps its origin.
+// addLog adds a log from its setting: an address, a key, and possibly an origin.
 func (s *settings) addLog(text string) error {
-	words := strings.Fields(text)
-	if len(words) < 2 || len(words) > 3 {
+	fields := strings.Fields(text)
+	if len(fields) < 2 || len(fields) > 3 {
 		return errors.New("log needs an address and a public key, separated by a space (write " +
 			"[tiled+]https://HOST/PATH KEY-FILE)")
 	}
-	address, isTiled := strings.CutPrefix(words[0], "tiled+")
+	address, isTiled := strings.CutPrefix(fields[0], "tiled+")
 	if _, err := logclient.New(address, logclient.Options{}); err != nil {
 		return err
 	}
-	key, err := readKey(words[1])
+	key, err := readKey(fields[1])
 	if err != nil {
 		return err
 	}
 	address = strings.TrimSuffix(address, "/")
 	_, host, _ := strings.Cut(address, "://")
-	log := watch.Log{ID: sha256.Sum256(key), Name: host, URL: address, PublicKey: key, MaxMergeDelay: usualMergeTime}
+	log := watch.Log{ID: sha256.Sum256(key), Name: host, URL: address, PublicKey: key, MaxMergeDelay: defaultMergeDelay}
 	if isTiled {
 		log.Origin = host
-		if len(words) == 3 {
-			log.Origin = words[2]
+		if len(fields) == 3 {
+			log.Origin = fields[2]
 		}
-	} else if len(words) == 3 {
+	} else if len(fields) == 3 {
 		return errors.New("only a tiled log has an origin (write tiled+ before its address)")
 	}
 	for _, other := range s.logs.only {
@@ -64,12 +63,12 @@ func (s *settings) addLog(text string) error {
 	return nil
 }
 
-// readKey returns a public key in DER: of a PEM file, or of base64.
-func readKey(word string) ([]byte, error) {
-	if der, err := base64.StdEncoding.DecodeString(word); err == nil && len(der) > 32 {
+// readKey returns a public key in DER. The text is the key in base64, or the path of a PEM file.
+func readKey(text string) ([]byte, error) {
+	if der, err := base64.StdEncoding.DecodeString(text); err == nil && len(der) > 32 {
 		return der, nil
 	}
-	file, err := os.Open(word)
+	file, err := os.Open(text)
 	if err != nil {
 		return nil, fmt.Errorf("the log's key: %w (write a PEM file, or the key in base64)", err)
 	}
@@ -80,31 +79,31 @@ func readKey(word string) ([]byte, error) {
 	}
 	block, _ := pem.Decode(content)
 	if block == nil || block.Type != "PUBLIC KEY" {
-		return nil, fmt.Errorf("%s has no PUBLIC KEY in PEM (openssl pkey -pubin -in FILE shows one)", word)
+		return nil, fmt.Errorf("%s has no PUBLIC KEY in PEM (openssl pkey -pubin -in FILE shows one)", text)
 	}
 	return block.Bytes, nil
 }
 
 // follower follows the logs of the settings.
 type follower struct {
-	of     logSettings
-	list   *loglist.Source // nil if no list is followed
-	group  *watch.Group
-	lines  *httpserver.Lines
-	lists  *watchstore.Store // has the list that was read last; it must be set before logs are read
-	listed listStatus
+	settings logSettings
+	list     *loglist.Source // nil if no list is followed
+	group    *watch.Group
+	lines    *httpserver.Lines
+	lists    *watchstore.Store // stores the list that was last read; must be set before logs are read
+	listed   listStatus
 }
 
-// listStatus is how it goes with the log list.
+// listStatus holds the outcome of the readings of the log list.
 type listStatus struct {
 	mutex   sync.Mutex
-	since   time.Time // when it was read last, or when ctwatch began
-	alerted time.Time // when an alert was stored last
-	fault   error     // why it cannot be read; nil if it can
+	since   time.Time // when the list was last read, or when ctwatch started
+	alerted time.Time // when an alert was last stored
+	fault   error     // why the list cannot be read; nil if it can
 	needed  bool      // a list is followed, and it was never read
 }
 
-// report takes what came of a reading of the list.
+// report records the outcome of a reading of the list.
 func (l *listStatus) report(now time.Time, fault error) {
 	l.mutex.Lock()
 	defer l.mutex.Unlock()
@@ -114,7 +113,7 @@ func (l *listStatus) report(now time.Time, fault error) {
 	}
 }
 
-// unread returns why there is no log yet, if there is none.
+// unread returns a text that says why there is no log. It is only meant for the time before the first log was read.
 func (l *listStatus) unread() string {
 	l.mutex.Lock()
 	defer l.mutex.Unlock()
@@ -127,8 +126,8 @@ func (l *listStatus) unread() string {
 	return "the log list was not read yet: " + alert.Safe(l.fault.Error())
 }
 
-// silence returns the reason for an alert if the list could not be read for so long, and there was no alert for as
-// long.
+// silence returns the reason for an alert if the list could not be read for the time `after`, and there was no alert
+// within the same time. Otherwise it returns "".
 func (l *listStatus) silence(now time.Time, after time.Duration) string {
 	l.mutex.Lock()
 	defer l.mutex.Unlock()
@@ -139,36 +138,37 @@ func (l *listStatus) silence(now time.Time, after time.Duration) string {
 	return fmt.Sprintf("it could not be read for %v: %v", now.Sub(l.since).Round(time.Minute), l.fault)
 }
 
-func newFollower(of logSettings, keeper watch.Keeper, lines *httpserver.Lines) (*follower, error) {
-	agent, err := logclient.UserAgent("ctwatch", version.Number(), of.contact)
+func newFollower(settings logSettings, keeper watch.Keeper, lines *httpserver.Lines) (*follower, error) {
+	agent, err := logclient.UserAgent("ctwatch", version.Number(), settings.contact)
 	if err != nil {
 		return nil, fmt.Errorf("%w: %w", errUsage, err)
 	}
 	client := logclient.Options{UserAgent: agent}
-	policy, err := of.policy.policy()
+	policy, err := settings.policy.policy()
 	if err != nil {
 		return nil, err
 	}
-	if of.once {
+	if settings.once {
 		client.Retrying = firstOfEach(func(address string, fault error) {
 			lines.Warn("retry", "address", address, "fault", fault, "next", triedAgain)
 		})
 	}
-	f := &follower{of: of, lines: lines, listed: listStatus{since: time.Now()}}
-	f.group = watch.NewGroup(keeper, watch.Options{FromStart: of.fromStart, Pause: of.pause, Client: client,
-		Policy: policy, Mirror: mirrors(of.mirror, client)})
-	if of.list == "" {
+	f := &follower{settings: settings, lines: lines, listed: listStatus{since: time.Now()}}
+	f.group = watch.NewGroup(keeper, watch.Options{FromStart: settings.fromStart, Pause: settings.pause, Client: client,
+		Policy: policy, Mirror: mirrors(settings.mirror, client)})
+	if settings.list == "" {
 		return f, nil
 	}
 	f.listed.needed = true
-	if !of.once {
+	if !settings.once {
 		client.Retrying = f.retryList
 	}
-	f.list = &loglist.Source{Place: of.list, Key: of.listKey, Client: client}
+	f.list = &loglist.Source{Place: settings.list, Key: settings.listKey, Client: client}
 	return f, nil
 }
 
-// firstOfEach returns what calls report for the first failed attempt at each host. Several goroutines may call it.
+// firstOfEach returns a function that calls report only for the first failed attempt at each host. Several goroutines
+// may call it.
 func firstOfEach(report func(address string, fault error)) func(string, error) {
 	var mutex sync.Mutex
 	seen := map[string]bool{}
@@ -184,16 +184,16 @@ func firstOfEach(report func(address string, fault error)) func(string, error) {
 	}
 }
 
-// triedAgain is what a line says of a request that failed.
+// triedAgain is the text of a line of log about a failed request.
 const triedAgain = "it is tried again"
 
-// retryList reports that an attempt to read the log list failed, and that there will be another one.
+// retryList stores and logs that an attempt to read the log list failed, and that there will be another one.
 func (f *follower) retryList(address string, fault error) {
 	f.reportList(fault)
 	f.lines.Error("log-list", "address", address, "fault", fault, "next", triedAgain)
 }
 
-// reportList stores why the log list cannot be read.
+// reportList records and stores why the log list cannot be read.
 func (f *follower) reportList(fault error) {
 	f.listed.report(time.Now(), fault)
 	if err := f.lists.ReportList(fault); err != nil {
@@ -201,7 +201,7 @@ func (f *follower) reportList(fault error) {
 	}
 }
 
-// keepList stores a list that was read, for a start at which it cannot be read.
+// keepList records that the list was read, and stores it for a later start at which it cannot be read.
 func (f *follower) keepList(list loglist.List) {
 	f.listed.report(time.Now(), nil)
 	if err := f.lists.KeepList(list.Content); err != nil {
@@ -210,32 +210,32 @@ func (f *follower) keepList(list loglist.List) {
 }
 
 // keptLogs returns the logs that are watched while the log list cannot be read: those of the settings, and those of the
-// list that was read last.
+// list that was last read.
 func (f *follower) keptLogs() []watch.Log {
 	kept, err := f.lists.List()
 	if err != nil {
 		f.lines.Error("store", "fault", err)
 	}
 	if err != nil || kept.Content == nil {
-		return f.of.only
+		return f.settings.only
 	}
 	list, err := loglist.Parse(kept.Content)
-	logs := f.of.only
+	logs := f.settings.only
 	if err == nil {
 		logs, err = f.logsOf(list)
 	}
 	if err != nil {
 		f.lines.Error("log-list-kept", "fault", err)
-		return f.of.only
+		return f.settings.only
 	}
-	f.lines.Warn("log-list-kept", "logs", len(logs), "list", f.of.list, "read", kept.Read.Format(time.RFC3339))
+	f.lines.Warn("log-list-kept", "logs", len(logs), "list", f.settings.list, "read", kept.Read.Format(time.RFC3339))
 	return logs
 }
 
 // run follows the logs until the context ends.
 func (f *follower) run(ctx context.Context) {
-	// Logs that the settings name must not wait for the list.
-	f.group.Follow(ctx, f.of.only)
+	// The logs that the settings name must not wait for the list.
+	f.group.Follow(ctx, f.settings.only)
 	if f.list == nil {
 		<-ctx.Done()
 	} else {
@@ -244,8 +244,8 @@ func (f *follower) run(ctx context.Context) {
 	f.group.Wait()
 }
 
-// followList follows the logs of the list until the context ends. If the list cannot be read at first, it follows those
-// of the list that an earlier run read last.
+// followList follows the logs of the list until the context ends. If the first reading fails, it follows the logs of
+// the stored list until a reading succeeds.
 func (f *follower) followList(ctx context.Context) {
 	isFirst := true
 	failed := func(err error) {
@@ -255,7 +255,7 @@ func (f *follower) followList(ctx context.Context) {
 			f.group.Follow(ctx, f.keptLogs())
 		}
 	}
-	// Follow returns only after the context has ended, and its error says nothing else.
+	// Follow returns only after the context has ended, and its error only says this.
 	_ = f.list.Follow(ctx, listPause, func(list loglist.List) {
 		for _, passed := range list.Passed {
 			f.lines.Warn("log-passed-over", "reason", passed)
@@ -267,23 +267,23 @@ func (f *follower) followList(ctx context.Context) {
 			return
 		}
 		isFirst = false
-		f.lines.Info("log-list", "logs", len(logs), "list", f.of.list, "of", list.Time.Format(time.RFC3339))
+		f.lines.Info("log-list", "logs", len(logs), "list", f.settings.list, "of", list.Time.Format(time.RFC3339))
 		f.group.Follow(ctx, logs)
 		f.keepList(list)
 	}, func(err error, next time.Duration) {
 		failed(err)
-		f.lines.Error("log-list", "address", f.of.list, "fault", err, "next", fmt.Sprintf("%s in %v", triedAgain, next))
+		f.lines.Error("log-list", "address", f.settings.list, "fault", err, "next", fmt.Sprintf("%s in %v", triedAgain, next))
 	})
 }
 
-// errNoLogs means that a log list has logs, and that none of them is watched.
+// errNoLogs means that no log of a log list is in a watched state.
 var errNoLogs = fmt.Errorf("the log list has no log in a state that is watched (%s)",
 	strings.Join(loglist.WatchedStates, ", "))
 
-// logsOf returns the logs of a list that are watched, and those of the settings. If there are none, nothing would be
-// watched, and the error is errNoLogs.
+// logsOf returns the logs of the settings, and the logs of a list that are in a watched state. If there are none, it
+// returns errNoLogs.
 func (f *follower) logsOf(list loglist.List) ([]watch.Log, error) {
-	logs := append([]watch.Log{}, f.of.only...)
+	logs := append([]watch.Log{}, f.settings.only...)
 	known := map[watch.LogID]bool{}
 	for _, log := range logs {
 		known[log.ID] = true
@@ -299,13 +299,13 @@ func (f *follower) logsOf(list loglist.List) ([]watch.Log, error) {
 	return logs, nil
 }
 
-// readOnce reads the log list, and returns the logs that are watched. If it cannot be read, the error says why, and the
-// logs are those of the list that was read last.
+// readOnce reads the log list, and returns the watched logs. If the list cannot be read, it returns the error and the
+// logs of keptLogs.
 func (f *follower) readOnce(ctx context.Context) ([]watch.Log, error) {
 	list, err := f.list.Read(ctx)
 	switch {
 	case ctx.Err() != nil:
-		return f.of.only, ctx.Err()
+		return f.settings.only, ctx.Err()
 	case err != nil:
 		f.reportList(err)
 		return f.keptLogs(), fmt.Errorf("the log list cannot be read: %w", err)
@@ -319,9 +319,10 @@ func (f *follower) readOnce(ctx context.Context) ([]watch.Log, error) {
 	return logs, nil
 }
 
-// once reads each log up to its newest head. It returns the faults of logs, by their names.
+// once reads each log up to its newest head. It returns the errors of logs, by their names, and the error of the log
+// list.
 func (f *follower) once(ctx context.Context) (map[string]error, error) {
-	logs := f.of.only
+	logs := f.settings.only
 	var listFault error
 	if f.list != nil {
 		logs, listFault = f.readOnce(ctx)

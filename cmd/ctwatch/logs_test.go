@@ -9,9 +9,9 @@ import (
 	"wagtenib/internal/watch/loglist"
 )
 
-// TestListSilence: a list that cannot be read for a day causes an alert, another one a day later, and none after it was
-// read.
-func TestListSilence(t *testing.T) {
+// TestAlertsAboutASilentList: a list that cannot be read for a day causes an alert, and another one a day later. After
+// the list was read, the time begins again.
+func TestAlertsAboutASilentList(t *testing.T) {
 	began := time.UnixMilli(1_770_000_000_000)
 	list := &listStatus{since: began}
 	fault := errors.New("it answers 503")
@@ -32,14 +32,14 @@ func TestListSilence(t *testing.T) {
 	}
 }
 
-// TestLogsOfSettingsComeFirst: a log that the settings name and that is in the list is watched once, as the settings
-// have it.
-func TestLogsOfSettingsComeFirst(t *testing.T) {
+// TestSettingsOverrideTheList: a log that is in the settings and in the list is watched once, with the values of the
+// settings.
+func TestSettingsOverrideTheList(t *testing.T) {
 	named := watch.Log{ID: watch.LogID{1}, URL: "https://mine.example"}
 	listed := func(id byte, state string) loglist.Log {
 		return loglist.Log{Log: watch.Log{ID: watch.LogID{id}, URL: "https://listed.example", State: state}}
 	}
-	f := &follower{of: logSettings{only: []watch.Log{named}}}
+	f := &follower{settings: logSettings{only: []watch.Log{named}}}
 	logs, err := f.logsOf(loglist.List{Logs: []loglist.Log{
 		listed(1, "usable"), listed(2, "usable"), listed(3, "rejected")}})
 	if err != nil || len(logs) != 2 || logs[0].URL != named.URL || logs[1].ID != (watch.LogID{2}) {
@@ -47,13 +47,15 @@ func TestLogsOfSettingsComeFirst(t *testing.T) {
 	}
 }
 
-func TestListWithoutWatchedLogs(t *testing.T) {
+// TestRefusesAListWithoutWatchedLogs: a list without a log in a watched state is an error, unless the settings have a
+// log.
+func TestRefusesAListWithoutWatchedLogs(t *testing.T) {
 	retired := loglist.List{Logs: []loglist.Log{{Log: watch.Log{ID: watch.LogID{1}, State: "retired"}}, {}}}
 	f := &follower{}
 	if logs, err := f.logsOf(retired); !errors.Is(err, errNoLogs) || len(logs) != 0 {
 		t.Errorf("%+v, %v", logs, err)
 	}
-	f.of.only = []watch.Log{{ID: watch.LogID{2}}}
+	f.settings.only = []watch.Log{{ID: watch.LogID{2}}}
 	if logs, err := f.logsOf(retired); err != nil || len(logs) != 1 {
 		t.Errorf("with a log of the settings: %+v, %v", logs, err)
 	}

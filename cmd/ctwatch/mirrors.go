@@ -9,8 +9,8 @@ import (
 	"wagtenib/internal/watch/mirror"
 )
 
-// mirrors returns what keeps a copy of each tiled log below a folder, or nil if the folder is empty. The folder of a
-// log is called by the log's ID, which no other log has.
+// mirrors returns a function that opens the mirror of a tiled log below a folder. It returns nil if there is no such
+// folder. The mirror's folder is named after the log's ID, which no other log has.
 func mirrors(folder string, client logclient.Options) func(watch.Log) (watch.Mirror, error) {
 	if folder == "" {
 		return nil

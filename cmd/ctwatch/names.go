@@ -11,10 +11,10 @@ import (
 var _ = addCommand("names", "FILE checks a watch list, and prints what it covers", runNames)
 
 // runNames checks a watch list.
-func runNames(_ context.Context, words []string, out io.Writer) error {
+func runNames(_ context.Context, arguments []string, out io.Writer) error {
 	flags := flagsOf("names", "", out)
 	ofCertspotter := flags.Bool("certspotter", false, "the file is a watch list of certspotter")
-	words, err := parseFlags(flags, words, 1, out)
+	arguments, err := parseFlags(flags, arguments, 1, out)
 	if err != nil {
 		return err
 	}
@@ -22,7 +22,7 @@ func runNames(_ context.Context, words []string, out io.Writer) error {
 	if *ofCertspotter {
 		parse = namesearch.ParseCertspotterList
 	}
-	names, err := readNames(words[0], parse)
+	names, err := readNames(arguments[0], parse)
 	if err != nil {
 		return fmt.Errorf("%w: %w", errUsage, err)
 	}

@@ -11,7 +11,7 @@ import (
 	"wagtenib/internal/watch/alert"
 )
 
-// outputSettings say where alerts go.
+// outputSettings holds the settings that say where alerts are sent.
 type outputSettings struct {
 	mail               []string
 	mailFrom           string
@@ -29,7 +29,7 @@ func (o *outputSettings) define(flags *flag.FlagSet) {
 		"`program` with the interface of sendmail, smtp://HOST:PORT (with TLS if the server offers STARTTLS), or "+
 			"smtps://HOST:PORT")
 	flags.StringVar(&o.carrier.User, "mail-user", "",
-		"`user` of the mail server. The password is only sent by TLS")
+		"`user` of the mail server. The password is only sent over TLS")
 	flags.StringVar(&o.carrier.PasswordFile, "mail-password-file", "",
 		"`file` with the password of the mail server, which only its owner may read")
 	flags.StringVar(&o.carrier.RootsFile, "mail-roots", "",
@@ -43,7 +43,7 @@ func (o *outputSettings) define(flags *flag.FlagSet) {
 	flags.BoolVar(&o.quiet, "quiet", false, "write no alert to standard output")
 }
 
-// open opens where alerts go. The caller must call close.
+// open opens the outputs. The caller must call close.
 func (o outputSettings) open(out io.Writer, contact string) (outputs []alert.Output, close func() error, err error) {
 	close = func() error { return nil }
 	if o.json == "-" {
@@ -84,8 +84,8 @@ func (o outputSettings) open(out io.Writer, contact string) (outputs []alert.Out
 			return nil, close, err
 		}
 	}
-	for _, words := range o.commands {
-		if err := add(alert.NewCommand(strings.Fields(words))); err != nil {
+	for _, command := range o.commands {
+		if err := add(alert.NewCommand(strings.Fields(command))); err != nil {
 			return nil, close, err
 		}
 	}

@@ -41,11 +41,11 @@ func orDash(at time.Time, layout string) string {
 
 // The bounds of the page.
 const (
-	maxRows    = 100
-	maxDays    = 60
-	maxHeader  = 16 << 10
-	pageTime   = 30 * time.Second
-	endingTime = 5 * time.Second
+	maxRows         = 100
+	maxDays         = 60
+	maxHeader       = 16 << 10 // bytes
+	pageTimeout     = 30 * time.Second
+	shutdownTimeout = 5 * time.Second
 )
 
 // pageServer serves the local page, metrics and health.
@@ -55,23 +55,24 @@ type pageServer struct {
 	failed   chan error
 }
 
-// listen serves the page at the address of the settings. If there is none, nothing is served.
-func listen(of serveSettings, store *watchstore.Store, listed *listStatus, lines *httpserver.Lines) (*pageServer, error) {
-	if of.listen == "" {
+// listen serves the page at the address of the settings. If the address is empty, it serves nothing.
+func listen(settings serveSettings, store *watchstore.Store, listed *listStatus,
+	lines *httpserver.Lines) (*pageServer, error) {
+	if settings.listen == "" {
 		return &pageServer{}, nil
 	}
-	listener, err := net.Listen("tcp", of.listen)
+	listener, err := net.Listen("tcp", settings.listen)
 	if err != nil {
 		return nil, fmt.Errorf("%w (write another --listen, or --listen '' for no page)", err)
 	}
 	p := &pageServer{listener: listener, failed: make(chan error, 1)}
-	p.server = &http.Server{Handler: pageHandler(store, listed, lines), ReadTimeout: pageTime, WriteTimeout: pageTime,
-		IdleTimeout: pageTime, MaxHeaderBytes: maxHeader}
+	p.server = &http.Server{Handler: pageHandler(store, listed, lines), ReadTimeout: pageTimeout,
+		WriteTimeout: pageTimeout, IdleTimeout: pageTimeout, MaxHeaderBytes: maxHeader}
 	go func() { p.failed <- p.server.Serve(listener) }()
 	return p, nil
 }
 
-// address returns where the page is, or "".
+// address returns the URL of the page, or "" if it is not served.
 func (p *pageServer) address() string {
 	if p.listener == nil {
 		return ""
@@ -79,12 +80,12 @@ func (p *pageServer) address() string {
 	return "http://" + p.listener.Addr().String() + "/"
 }
 
-// close ends the page.
+// close ends the server of the page.
 func (p *pageServer) close() error {
 	if p.server == nil {
 		return nil
 	}
-	ctx, cancel := context.WithTimeout(context.Background(), endingTime)
+	ctx, cancel := context.WithTimeout(context.Background(), shutdownTimeout)
 	defer cancel()
 	err := p.server.Shutdown(ctx)
 	if failed := <-p.failed; !errors.Is(failed, http.ErrServerClosed) {
@@ -93,7 +94,7 @@ func (p *pageServer) close() error {
 	return err
 }
 
-// pageHandler returns the handler of the page, of metrics and of health.
+// pageHandler returns the handler of the page, of /metrics and of /healthz.
 func pageHandler(store *watchstore.Store, listed *listStatus, lines *httpserver.Lines) http.Handler {
 	h := &pages{store, listed, lines}
 	mux := http.NewServeMux()
@@ -110,7 +111,7 @@ func pageHandler(store *watchstore.Store, listed *listStatus, lines *httpserver.
 	registry.MustRegister(newCollector(store))
 	mux.Handle("GET /metrics", promhttp.HandlerFor(registry, promhttp.HandlerOpts{}))
 	return http.HandlerFunc(func(w http.ResponseWriter, r *http.Request) {
-		// The page has no script, and nothing of another host. A certificate's text cannot add either.
+		// The page has no script, and loads nothing from another host. The text of a certificate cannot change this.
 		w.Header().Set("Content-Security-Policy",
 			"default-src 'none'; style-src 'self'; form-action 'self'; frame-ancestors 'none'; base-uri 'none'")
 		w.Header().Set("X-Content-Type-Options", "nosniff")
@@ -119,25 +120,25 @@ func pageHandler(store *watchstore.Store, listed *listStatus, lines *httpserver.
 	})
 }
 
-// pages are the handlers of the page.
+// pages holds the handlers of the page.
 type pages struct {
 	store  *watchstore.Store
 	listed *listStatus
 	lines  *httpserver.Lines
 }
 
-// content is what the template shows.
+// content holds the values that the template shows.
 type content struct {
-	Title     string
-	Query     string
-	Valid     bool
-	Fault     string
-	Found     []watchstore.Issuance
-	Older     int64
-	Days      []watchstore.Day
-	MostOfDay int64
-	Logs      []watchstore.LogStatus
-	Alerts    []string
+	Title    string
+	Query    string
+	Valid    bool
+	Fault    string
+	Found    []watchstore.Issuance
+	Older    int64
+	Days     []watchstore.Day
+	MaxOfDay int64 // the largest count of Days
+	Logs     []watchstore.LogStatus
+	Alerts   []string
 }
 
 func (h *pages) show(w http.ResponseWriter, c content, err error) {
@@ -152,14 +153,14 @@ func (h *pages) show(w http.ResponseWriter, c content, err error) {
 	}
 }
 
-// write answers bytes. A client that went away is no fault.
+// write answers with bytes. A failure is only a warning, because it means that the client has closed the connection.
 func (h *pages) write(w http.ResponseWriter, body []byte) {
 	if _, err := w.Write(body); err != nil {
 		h.lines.Warn("page", "fault", err)
 	}
 }
 
-// search shows the newest certificates, of a name if one is sought, and the timeline.
+// search shows the newest certificates, or those of a name if the request has one, and the timeline.
 func (h *pages) search(w http.ResponseWriter, r *http.Request) {
 	c := content{Title: "Certificates", Query: r.FormValue("name"), Valid: r.FormValue("valid") != ""}
 	query := watchstore.Query{Limit: maxRows}
@@ -187,12 +188,12 @@ func (h *pages) search(w http.ResponseWriter, r *http.Request) {
 		c.Older = c.Found[maxRows-1].ID
 	}
 	for _, day := range c.Days {
-		c.MostOfDay = max(c.MostOfDay, day.Count)
+		c.MaxOfDay = max(c.MaxOfDay, day.Count)
 	}
 	h.show(w, c, err)
 }
 
-// logs shows how it goes with each log.
+// logs shows the status of each log.
 func (h *pages) logs(w http.ResponseWriter, _ *http.Request) {
 	c := content{Title: "Logs"}
 	var err error
@@ -210,7 +211,7 @@ func (h *pages) alerts(w http.ResponseWriter, _ *http.Request) {
 	h.show(w, c, err)
 }
 
-// certificate answers a certificate in PEM.
+// certificate answers with a certificate in PEM.
 func (h *pages) certificate(w http.ResponseWriter, r *http.Request) {
 	der, err := h.store.Certificate(r.PathValue("hash"))
 	if err != nil {
@@ -222,8 +223,8 @@ func (h *pages) certificate(w http.ResponseWriter, r *http.Request) {
 	h.write(w, pem.EncodeToMemory(&pem.Block{Type: "CERTIFICATE", Bytes: der}))
 }
 
-// health answers a line, and 503 if no log is known yet, the log list cannot be read, a log is silent for a day or
-// alerts cannot be sent.
+// health answers with the health as one line. The status is 503 if no log is known yet, the log list cannot be read, a
+// log has been silent for a day, or alerts cannot be sent.
 func (h *pages) health(w http.ResponseWriter, _ *http.Request) {
 	health, err := h.store.Health(24 * time.Hour)
 	health.Unread = h.listed.unread()

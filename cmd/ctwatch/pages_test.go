@@ -12,16 +12,16 @@ import (
 	"wagtenib/internal/testcert"
 )
 
-// The pages of the program, what they have in code, and the flags of a help text.
+// The pages about the program, the pattern of code in them, and the pattern of flags in a help text.
 var (
 	pagesOfProgram = []string{"../../docs/WATCH.md", "../../docs/AUDIT.md"}
 	code           = regexp.MustCompile("`([^`\n]+)`")
 	flagName       = regexp.MustCompile(`(?m)^  -([a-z-]+)`)
 )
 
-// TestPagesNameRealFlags: each flag that a page names is one of a command.
+// TestPagesNameRealFlags: each flag that a page names is a flag of a command.
 func TestPagesNameRealFlags(t *testing.T) {
-	known := map[string]bool{"--help": true, "--now": true} // (systemctl has the last one)
+	known := map[string]bool{"--help": true, "--now": true} // The last one is a flag of systemctl.
 	for name := range commands {
 		_, out, _ := ctwatch(t, name, "--help")
 		for _, found := range flagName.FindAllStringSubmatch(out, -1) {
@@ -47,8 +47,8 @@ func TestPagesNameRealFlags(t *testing.T) {
 	}
 }
 
-// TestRunsTheCommandsOfItsPage runs each command of docs/WATCH.md that begins with ctwatch, with this scene's log,
-// folder and files in the place of the page's. The one that begins with cmd/out is run by tests/readme.py.
+// TestRunsTheCommandsOfItsPage runs each command of docs/WATCH.md that begins with ctwatch, with the log, folder and
+// files of this test instead of those of the page. tests/readme.py runs the command that begins with cmd/out.
 func TestRunsTheCommandsOfItsPage(t *testing.T) {
 	folder := t.TempDir()
 	t.Setenv("HOME", folder)
@@ -60,17 +60,18 @@ func TestRunsTheCommandsOfItsPage(t *testing.T) {
 		"log.pem": string(pem.EncodeToMemory(&pem.Block{Type: "PUBLIC KEY", Bytes: log.PublicKey()}))} {
 		must(t, os.WriteFile(filepath.Join(folder, name), []byte(content), 0o600))
 	}
-	store, of := []string{"--folder", filepath.Join(folder, "ct-watch")}, log.address+" "+filepath.Join(folder, "log.pem")
-	run := append([]string{"--once", "--from-start", "--log", of}, store...)
-	// The head of a fork makes the evidence that the page's command writes.
+	store := []string{"--folder", filepath.Join(folder, "ct-watch")}
+	setting := log.address + " " + filepath.Join(folder, "log.pem")
+	run := append([]string{"--once", "--from-start", "--log", setting}, store...)
+	// The head of a fork causes the evidence that a command of the page writes.
 	fork := func() { log.PublishRoot(log.Size(), uint64(time.Now().UnixMilli())+2, [32]byte{1}) }
 	ran := map[string]bool{}
 	for _, command := range []struct {
-		typed  string
-		more   []string
-		status int
-		says   string
-		after  func()
+		typed    string   // the command of the page
+		more     []string // further arguments
+		status   int
+		expected string // a part of the output
+		after    func() // called after the command, unless it is nil
 	}{
 		{"ctwatch run --help", nil, 0, "-from-start", nil},
 		{"ctwatch names FILE", nil, 0, "this name, all names below it", nil},
@@ -79,7 +80,7 @@ func TestRunsTheCommandsOfItsPage(t *testing.T) {
 		{"ctwatch run --certspotter-watchlist ~/.certspotter/watchlist", run, 0, "", nil},
 		{"ctwatch query example.org --valid", store, 0, "shop.example.org", nil},
 		{"ctwatch certificate HASH", store, 0, "BEGIN CERTIFICATE", nil},
-		{"ctwatch show LOG INDEX", []string{"--log", of}, 0, "shop.example.org", nil},
+		{"ctwatch show LOG INDEX", []string{"--log", setting}, 0, "shop.example.org", nil},
 		{"ctwatch health", store, 0, "1 log; all are read", fork},
 		{"ctwatch run", append(run, "--name", "example.org"), statusAccused, "fork", nil},
 		{"ctwatch evidence NUMBER FOLDER", store, 0, "fork", nil},
@@ -91,7 +92,7 @@ func TestRunsTheCommandsOfItsPage(t *testing.T) {
 		typed := strings.NewReplacer("FILE", filepath.Join(folder, "names"), "~", folder, "NUMBER", "1", "FOLDER",
 			filepath.Join(folder, "evidence"), "LOG", log.address, "INDEX", "1", "HASH", hashIn(t, store)).Replace(command.typed)
 		status, out, faults := ctwatch(t, append(strings.Fields(typed)[1:], command.more...)...)
-		if status != command.status || !strings.Contains(out, command.says) {
+		if status != command.status || !strings.Contains(out, command.expected) {
 			t.Errorf("%s: status %d: %s%s", typed, status, out, faults)
 		}
 		if command.after != nil {

@@ -9,7 +9,7 @@ import (
 	"wagtenib/internal/watch/audit"
 )
 
-// policyFlags are the flags of a policy of witnesses.
+// policyFlags holds the values of the flags for a policy of witnesses.
 type policyFlags struct {
 	file   string
 	quorum int
@@ -22,7 +22,7 @@ func (p *policyFlags) define(flags *flag.FlagSet) {
 	flags.IntVar(&p.quorum, "quorum", 0, "`number` of the witnesses that must have cosigned a head")
 }
 
-// policy returns the check of heads, or nil if no witnesses are named.
+// policy returns the function that checks heads, or nil if there is no policy.
 func (p *policyFlags) policy() (func(watch.Head) error, error) {
 	if p.file == "" && p.quorum == 0 {
 		return nil, nil

@@ -24,21 +24,21 @@ var (
 	_ = addCommand("evidence", "NUMBER FOLDER writes the files of evidence against a log", runEvidence)
 )
 
-// batchOfQuery is how many certificates are read from the store at a time.
-const batchOfQuery = 500
+// maxQueryBatch is the maximum number of certificates that are read from the store at a time.
+const maxQueryBatch = 500
 
 // runQuery prints the certificates in the store for a name, the newest first.
-func runQuery(_ context.Context, words []string, out io.Writer) error {
+func runQuery(_ context.Context, arguments []string, out io.Writer) error {
 	flags := flagsOf("query", "", out)
 	folder := folderFlag(flags)
 	isValid := flags.Bool("valid", false, "only certificates that are valid now")
 	asJSON := flags.Bool("json", false, "a line of JSON for each certificate")
-	limit := flags.Int("limit", 0, "at most so many; 0 for all")
-	words, err := parseFlags(flags, words, 1, out)
+	limit := flags.Int("limit", 0, "maximum `number` of certificates; 0 for all")
+	arguments, err := parseFlags(flags, arguments, 1, out)
 	if err != nil {
 		return err
 	}
-	name, err := namesearch.ParseName(words[0])
+	name, err := namesearch.ParseName(arguments[0])
 	if err != nil {
 		return fmt.Errorf("%w: %w", errUsage, err)
 	}
@@ -56,9 +56,9 @@ func runQuery(_ context.Context, words []string, out io.Writer) error {
 func printFound(store *watchstore.Store, query watchstore.Query, limit int, asJSON bool, out io.Writer) error {
 	printed := 0
 	for {
-		query.Limit = batchOfQuery
+		query.Limit = maxQueryBatch
 		if limit > 0 {
-			query.Limit = min(batchOfQuery, limit-printed)
+			query.Limit = min(maxQueryBatch, limit-printed)
 		}
 		found, err := store.Find(query)
 		if err != nil || len(found) == 0 {
@@ -86,10 +86,10 @@ func printOne(line alert.Alert, asJSON bool, out io.Writer) error {
 }
 
 // runCertificate prints a certificate in PEM.
-func runCertificate(_ context.Context, words []string, out io.Writer) error {
+func runCertificate(_ context.Context, arguments []string, out io.Writer) error {
 	flags := flagsOf("certificate", "", out)
 	folder := folderFlag(flags)
-	words, err := parseFlags(flags, words, 1, out)
+	arguments, err := parseFlags(flags, arguments, 1, out)
 	if err != nil {
 		return err
 	}
@@ -97,7 +97,7 @@ func runCertificate(_ context.Context, words []string, out io.Writer) error {
 	if err != nil {
 		return err
 	}
-	der, err := store.Certificate(strings.ToLower(words[0]))
+	der, err := store.Certificate(strings.ToLower(arguments[0]))
 	if err == nil {
 		err = pem.Encode(out, &pem.Block{Type: "CERTIFICATE", Bytes: der})
 	}
@@ -105,16 +105,16 @@ func runCertificate(_ context.Context, words []string, out io.Writer) error {
 }
 
 // runEvidence writes the files of evidence into a folder, and prints what happened.
-func runEvidence(_ context.Context, words []string, out io.Writer) error {
+func runEvidence(_ context.Context, arguments []string, out io.Writer) error {
 	flags := flagsOf("evidence", "", out)
 	folder := folderFlag(flags)
-	words, err := parseFlags(flags, words, 2, out)
+	arguments, err := parseFlags(flags, arguments, 2, out)
 	if err != nil {
 		return err
 	}
-	number, err := strconv.ParseInt(words[0], 10, 64)
+	number, err := strconv.ParseInt(arguments[0], 10, 64)
 	if err != nil {
-		return fmt.Errorf("%w: %q is no number of evidence (ctwatch health lists what there is)", errUsage, words[0])
+		return fmt.Errorf("%w: %q is not the number of evidence (ctwatch health lists the evidence)", errUsage, arguments[0])
 	}
 	store, err := watchstore.OpenToRead(*folder)
 	if err != nil {
@@ -122,10 +122,10 @@ func runEvidence(_ context.Context, words []string, out io.Writer) error {
 	}
 	evidence, log, err := store.Evidence(number)
 	if err == nil {
-		err = writeFiles(words[1], evidence.Files)
+		err = writeFiles(arguments[1], evidence.Files)
 	}
 	if err == nil {
-		// The files are written, so somebody can look at them.
+		// Now that the files are written, the evidence counts as seen.
 		err = store.MarkSeen(number)
 	}
 	if err == nil {
@@ -145,7 +145,7 @@ func writeFiles(folder string, files map[string][]byte) error {
 		return err
 	}
 	for name, content := range files {
-		// A name of evidence may have folders in it, but it must not lead out of this one.
+		// The name of a file of evidence may contain folders, but must not lead out of this one.
 		if err := os.MkdirAll(filepath.Join(folder, filepath.Dir(filepath.Clean("/"+name))), 0o750); err != nil {
 			return errors.Join(err, root.Close())
 		}

@@ -15,9 +15,9 @@ import (
 	"wagtenib/internal/watch/alert"
 )
 
-// TestReadsSettingsAgain: after a SIGHUP, ctwatch goes on with the settings that the file then has. If they are
-// refused, it says why and goes on with the old ones. No alert is sent to an output twice.
-func TestReadsSettingsAgain(t *testing.T) {
+// TestReloadsSettings: after a SIGHUP, ctwatch continues with the new settings of the config file. If they are wrong,
+// it says why and continues with the old ones. It sends no alert to an output twice.
+func TestReloadsSettings(t *testing.T) {
 	authority, folder := testcert.NewAuthority(t), t.TempDir()
 	log := serveLog(t, "a.example")
 	log.add(authority, authority.Issue("other.net"))
@@ -28,15 +28,15 @@ func TestReadsSettingsAgain(t *testing.T) {
 	}
 	write(first, "example.org")
 	program := testutil.Program(t, "run", "--config", config)
-	said, err := os.Create(filepath.Join(folder, "said"))
+	stderr, err := os.Create(filepath.Join(folder, "stderr"))
 	must(t, err)
-	defer said.Close()
-	program.Stderr = said
+	defer stderr.Close()
+	program.Stderr = stderr
 	must(t, program.Start())
-	says := func(text string) {
+	awaitText := func(text string) {
 		t.Helper()
 		testutil.Eventually(t, text, func() bool {
-			content, err := os.ReadFile(said.Name())
+			content, err := os.ReadFile(stderr.Name())
 			return err == nil && bytes.Contains(content, []byte(text))
 		})
 	}
@@ -46,29 +46,29 @@ func TestReadsSettingsAgain(t *testing.T) {
 	})
 	write(first, "*.example.net")
 	must(t, program.Process.Signal(syscall.SIGHUP))
-	says("write example.net")
+	awaitText("write example.net")
 	log.add(authority, authority.Issue("a.example.org"))
-	wantsHosts(t, first, "a.example.org")
+	checkHosts(t, first, "a.example.org")
 	write(second, "example.org", "example.net")
 	must(t, program.Process.Signal(syscall.SIGHUP))
-	says(`"event":"reloading"`)
-	says(`"names":2`)
+	awaitText(`"event":"reloading"`)
+	awaitText(`"names":2`)
 	log.add(authority, authority.Issue("b.example.net"))
-	wantsHosts(t, second, "b.example.net")
+	checkHosts(t, second, "b.example.net")
 	must(t, program.Process.Signal(syscall.SIGTERM))
 	if err := program.Wait(); err != nil {
 		t.Error(err)
 	}
-	if content := readAll(t, said.Name()); strings.Count(content, `"event":"ending"`) != 1 ||
+	if content := readAll(t, stderr.Name()); strings.Count(content, `"event":"ending"`) != 1 ||
 		strings.Count(content, `"event":"reloading"`) != 1 {
-		t.Errorf("one reload and one end are due: %s", content)
+		t.Errorf("one reload and one end are expected: %s", content)
 	}
-	wantsHosts(t, first, "a.example.org")
-	wantsHosts(t, second, "b.example.net")
+	checkHosts(t, first, "a.example.org")
+	checkHosts(t, second, "b.example.net")
 }
 
-// wantsHosts waits until a file has an alert for each host, and for no other.
-func wantsHosts(t *testing.T, path string, hosts ...string) {
+// checkHosts waits until a file has as many alerts as there are hosts, and checks that they are for these hosts.
+func checkHosts(t *testing.T, path string, hosts ...string) {
 	t.Helper()
 	testutil.Eventually(t, "the alert is sent", func() bool {
 		content, err := os.ReadFile(path)
@@ -83,6 +83,6 @@ func wantsHosts(t *testing.T, path string, hosts ...string) {
 		found = append(found, one.Certificate.Matches[0].Hosts...)
 	}
 	if strings.Join(found, " ") != strings.Join(hosts, " ") {
-		t.Errorf("%s has alerts for %q, and %q are due", filepath.Base(path), found, hosts)
+		t.Errorf("%s has alerts for %q, and %q are expected", filepath.Base(path), found, hosts)
 	}
 }

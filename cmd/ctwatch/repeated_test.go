@@ -15,33 +15,36 @@ import (
 )
 
 // TestShowsRepeatedNamesOnce: the common name of a certificate repeats a name of its subjectAltName. Each output, the
-// query, show and the page list that name once, and count two names. The query finds the certificate by either name.
+// commands query and show, and the page show that name once, and count two names. query finds the certificate by both
+// names.
 func TestShowsRepeatedNamesOnce(t *testing.T) {
 	authority, log, folder := testcert.NewAuthority(t), serveLog(t, "a.example"), t.TempDir()
 	log.add(authority, authority.IssueNames(testcert.CommonName(12, []byte("shop.example.org")),
 		testcert.Name{Tag: testcert.DNS, Bytes: []byte("shop.example.org")},
 		testcert.Name{Tag: testcert.DNS, Bytes: []byte("www.example.org")}))
-	script, told, lines := filepath.Join(folder, "tell"), filepath.Join(folder, "told"), filepath.Join(folder, "lines")
+	script, notified := filepath.Join(folder, "notify"), filepath.Join(folder, "notified")
+	lines := filepath.Join(folder, "lines")
 	must(t, os.WriteFile(script, []byte("#!/bin/sh\necho \"$CTWATCH_NAME_COUNT: $CTWATCH_NAMES: $CTWATCH_HOSTS\" >"+
-		told+"\n"), 0o700))
+		notified+"\n"), 0o700))
 	status, out, faults := ctwatch(t, "run", "--once", "--from-start", "--name", "example.org", "--folder", folder,
 		"--command", script, "--json", lines, "--log", log.setting(true))
 	if status != statusFoundByOnce || !strings.Contains(out, "shop.example.org, www.example.org (2 names)") {
 		t.Errorf("status %d: %s%s", status, out, faults)
 	}
 	const names = "shop.example.org www.example.org"
-	if content, err := os.ReadFile(told); err != nil || string(content) != "2: "+names+": "+names+"\n" {
+	if content, err := os.ReadFile(notified); err != nil || string(content) != "2: "+names+": "+names+"\n" {
 		t.Errorf("the command got %q, %v", content, err)
 	}
 	content, err := os.ReadFile(lines)
 	must(t, err)
 	var one alert.Alert
 	must(t, json.Unmarshal(content, &one))
-	due := strings.Fields(names)
-	if c := one.Certificate; c.NameCount != 2 || !slices.Equal(c.Names, due) || !slices.Equal(c.Matches[0].Hosts, due) {
+	expected := strings.Fields(names)
+	if c := one.Certificate; c.NameCount != 2 || !slices.Equal(c.Names, expected) ||
+		!slices.Equal(c.Matches[0].Hosts, expected) {
 		t.Errorf("the JSON has %+v", c)
 	}
-	for _, name := range due {
+	for _, name := range expected {
 		if status, out, _ := ctwatch(t, "query", name, "--folder", folder); status != 0 ||
 			!strings.Contains(out, "(2 names)") {
 			t.Errorf("query %s: status %d: %s", name, status, out)

@@ -22,12 +22,12 @@ import (
 	"wagtenib/internal/watch/watchstore"
 )
 
-var _ = addCommand("run", "follows logs, and alerts to certificates for the watched names", runWatch)
+var _ = addCommand("run", "follows logs, and sends alerts about certificates for the watched names", runWatch)
 
-// looksEvery is how often silent logs are looked for.
-const looksEvery = time.Minute
+// checkInterval is the time between two checks for silent logs.
+const checkInterval = time.Minute
 
-// watching is a run of ctwatch.
+// watching holds the state of one run with the same settings.
 type watching struct {
 	settings *settings
 	store    *watchstore.Store
@@ -37,13 +37,13 @@ type watching struct {
 	wakes    []chan struct{}
 }
 
-// errReload is the cause for which a run ends if other settings take its place.
-var errReload = errors.New("ctwatch: the settings are read again")
+// errReload is the cause with which a run is canceled if a run with new settings follows.
+var errReload = errors.New("ctwatch: the settings are reloaded")
 
-// runWatch follows logs until the context ends, or with --once up to their newest heads. After a SIGHUP it goes on with
-// the settings that the file then has.
-func runWatch(ctx context.Context, words []string, out io.Writer) error {
-	s, err := parse(words, out)
+// runWatch follows logs until the context ends, or with --once up to their newest heads. After a SIGHUP it continues
+// with the new settings of the config file.
+func runWatch(ctx context.Context, arguments []string, out io.Writer) error {
+	s, err := parse(arguments, out)
 	if err != nil {
 		return err
 	}
@@ -58,7 +58,7 @@ func runWatch(ctx context.Context, words []string, out io.Writer) error {
 		running, stop := context.WithCancelCause(ctx)
 		next := make(chan *settings, 1)
 		go func() {
-			next <- readAgain(running, words, hangups, lines)
+			next <- reload(running, arguments, hangups, lines)
 			stop(errReload)
 		}()
 		err = s.watch(running, out, lines)
@@ -68,27 +68,29 @@ func runWatch(ctx context.Context, words []string, out io.Writer) error {
 	return err
 }
 
-// readAgain reads the settings again at each SIGHUP, and returns those that are right. It returns nil after the context
+// reload reads the settings again at each SIGHUP, and returns the first correct ones. It returns nil after the context
 // has ended.
-func readAgain(ctx context.Context, words []string, hangups <-chan os.Signal, lines *httpserver.Lines) *settings {
+func reload(ctx context.Context, arguments []string, hangups <-chan os.Signal, lines *httpserver.Lines) *settings {
 	for {
 		select {
 		case <-ctx.Done():
 			return nil
 		case <-hangups:
 		}
-		s, err := parse(words, io.Discard)
+		s, err := parse(arguments, io.Discard)
 		if err == nil {
 			err = s.check(lines)
 		}
 		if err == nil {
 			return s
 		}
-		lines.Error("settings", "fault", err, "remedy", "the old ones hold until a SIGHUP after the file is right")
+		lines.Error("settings", "fault", err, "remedy",
+			"correct the config file and send SIGHUP; until then, the old settings apply")
 	}
 }
 
-// check opens what the settings name, as far as another run can have it open too.
+// check opens the outputs and the log list that the settings name, as a new run would. It does not open the store,
+// which the current run has open.
 func (s *settings) check(lines *httpserver.Lines) error {
 	_, closeOutputs, err := s.outputs.open(io.Discard, s.logs.contact)
 	if err == nil {
@@ -113,7 +115,7 @@ func (s *settings) watch(ctx context.Context, out io.Writer, lines *httpserver.L
 		return err
 	}
 	defer func() { err = errors.Join(err, w.store.Close()) }()
-	if err := errors.Join(w.lock(), w.store.UseList(s.logs.list, s.logs.listKey)); err != nil {
+	if err := errors.Join(w.useOutputs(), w.store.UseList(s.logs.list, s.logs.listKey)); err != nil {
 		return err
 	}
 	var keeper watch.Keeper = w.store
@@ -142,7 +144,7 @@ func (s *settings) storeOptions(wake func()) watchstore.Options {
 		KeepAll: s.keepAll, Wake: wake}
 }
 
-// wake has each output look for alerts.
+// wake wakes each output, so that it looks for new alerts.
 func (w *watching) wake() {
 	for _, wake := range w.wakes {
 		select {
@@ -152,8 +154,8 @@ func (w *watching) wake() {
 	}
 }
 
-// lock makes the outputs known to the store.
-func (w *watching) lock() error {
+// useOutputs stores the names of the outputs. It returns an error if two outputs have the same name.
+func (w *watching) useOutputs() error {
 	var names []string
 	for _, output := range w.outputs {
 		if slices.Contains(names, output.Name()) {
@@ -170,7 +172,7 @@ func (w *watching) serve(ctx context.Context) error {
 	if err != nil {
 		return err
 	}
-	// The outputs go on until the logs have ended, so that what was found last is sent too.
+	// The outputs run until the followers of the logs have ended, so that the last findings are sent too.
 	sending, stop := context.WithCancel(context.WithoutCancel(ctx))
 	var running sync.WaitGroup
 	for i, output := range w.outputs {
@@ -183,11 +185,11 @@ func (w *watching) serve(ctx context.Context) error {
 	running.Add(1)
 	go func() {
 		defer running.Done()
-		w.look(sending)
+		w.checkSilence(sending)
 	}()
 	w.lines.Info("watching", "names", len(w.settings.names), "logs", len(w.settings.logs.only), "list",
 		w.settings.logs.list, "folder", w.settings.folder, "page", page.address())
-	// Without systemd there is no socket, and nothing is sent.
+	// Without systemd there is no socket, and SdNotify does nothing.
 	_, _ = daemon.SdNotify(false, daemon.SdNotifyReady)
 	w.follower.run(ctx)
 	if errors.Is(context.Cause(ctx), errReload) {
@@ -201,12 +203,12 @@ func (w *watching) serve(ctx context.Context) error {
 	return page.close()
 }
 
-// lastTime is how long alerts are sent after the logs have ended.
-const lastTime = 10 * time.Second
+// lastDeliveryTimeout is the maximum time for sending alerts after the followers of the logs have ended.
+const lastDeliveryTimeout = 10 * time.Second
 
 // deliverLast sends the last alerts. An alert that cannot be sent in time stays in the queue for the next run.
 func (w *watching) deliverLast() {
-	ctx, cancel := context.WithTimeout(context.Background(), lastTime)
+	ctx, cancel := context.WithTimeout(context.Background(), lastDeliveryTimeout)
 	defer cancel()
 	for _, output := range w.outputs {
 		if err := alert.Deliver(ctx, w.store, output); err != nil {
@@ -215,7 +217,7 @@ func (w *watching) deliverLast() {
 	}
 }
 
-// report returns what reports how it goes with an output.
+// report returns a function that logs the errors of an output.
 func (w *watching) report(output alert.Output) func(error) {
 	return func(err error) {
 		if err != nil {
@@ -224,9 +226,10 @@ func (w *watching) report(output alert.Output) func(error) {
 	}
 }
 
-// look looks for logs of which nothing can be read, until the context ends. It reports the health to systemd.
-func (w *watching) look(ctx context.Context) {
-	ticker := time.NewTicker(looksEvery)
+// checkSilence checks at intervals, until the context ends, whether a log or the log list cannot be read. It also
+// reports the health to systemd.
+func (w *watching) checkSilence(ctx context.Context) {
+	ticker := time.NewTicker(checkInterval)
 	defer ticker.Stop()
 	for {
 		select {
@@ -244,14 +247,14 @@ func (w *watching) look(ctx context.Context) {
 		}
 		if health, err := w.store.Health(w.settings.silent); err == nil {
 			health.Unread = w.follower.listed.unread()
-			// Without systemd there is no socket, and nothing is sent.
+			// Without systemd there is no socket, and SdNotify does nothing.
 			_, _ = daemon.SdNotify(false, "STATUS="+health.String())
 		}
 	}
 }
 
-// sendWhile sends alerts while logs are read: a slow log must not delay the alerts to what others have. An output that
-// fails is left to the last delivery.
+// sendWhile sends alerts while `read` reads logs, so that a slow log does not delay the alerts about other logs. After
+// a failure, an output sends nothing more: the caller delivers the rest.
 func (w *watching) sendWhile(ctx context.Context, read func()) {
 	done := make(chan struct{})
 	var sending sync.WaitGroup
@@ -276,7 +279,7 @@ func (w *watching) sendWhile(ctx context.Context, read func()) {
 	sending.Wait()
 }
 
-// once reads each log up to its newest head, sends what was found, and returns an error with the gravest status.
+// once reads each log up to its newest head, and sends the alerts. Its error has the gravest exit status.
 func (w *watching) once(ctx context.Context) error {
 	before, err := w.store.Counts()
 	if err != nil {
@@ -305,7 +308,7 @@ func (w *watching) once(ctx context.Context) error {
 	}
 	switch {
 	case isAccused:
-		return &statusError{statusAccused, "ctwatch: a log did wrong (ctwatch health lists the evidence)"}
+		return &statusError{statusAccused, "ctwatch: a log did something wrong (ctwatch health lists the evidence)"}
 	case len(failed) > 0:
 		return &statusError{statusFault, "ctwatch: " + strings.Join(failed, "; ")}
 	case listFault != nil:

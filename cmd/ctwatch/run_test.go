@@ -19,7 +19,7 @@ import (
 	"wagtenib/internal/watch/alert"
 )
 
-// served is a log of a test, which answers by both interfaces.
+// served is a log of a test that is served as a tiled log and by the calls of RFC 6962.
 type served struct {
 	*testlog.Log
 	address string
@@ -44,7 +44,7 @@ func (s served) add(a *testcert.Authority, one testcert.Issued) {
 	s.Publish(s.Size(), now+1)
 }
 
-// words returns the setting of the log.
+// setting returns the value of --log for the log.
 func (s served) setting(isTiled bool) string {
 	key := base64.StdEncoding.EncodeToString(s.PublicKey())
 	if isTiled {
@@ -60,34 +60,33 @@ func must(t testing.TB, err error) {
 	}
 }
 
-// ctwatch runs a command, and returns its status and what it wrote.
-func ctwatch(t *testing.T, words ...string) (status int, out, faults string) {
+// ctwatch runs a command, and returns its exit status, its output and its standard error.
+func ctwatch(t *testing.T, arguments ...string) (status int, out, faults string) {
 	t.Helper()
-	var written, complained bytes.Buffer
-	status = run(context.Background(), words, &written, &complained)
-	return status, written.String(), complained.String()
+	var stdout, stderr bytes.Buffer
+	status = run(context.Background(), arguments, &stdout, &stderr)
+	return status, stdout.String(), stderr.String()
 }
 
-// TestAlertsOnceOverLogs has a precertificate and its certificate in a tiled log and in two of RFC 6962: one alert
-// comes, with the host name, and no second one comes from a second run. The store then has the certificate, byte for
-// byte.
+// TestAlertsOnceOverLogs: a precertificate and its certificate are in a tiled log and in two logs of RFC 6962. There is
+// one alert, with the host name, and no second one in a second run. The store then has the certificate, byte for byte.
 func TestAlertsOnceOverLogs(t *testing.T) {
 	authority := testcert.NewAuthority(t)
 	one, other := authority.Issue("shop.example.org"), authority.Issue("other.net")
 	folder := filepath.Join(t.TempDir(), "store")
-	words := []string{"run", "--once", "--from-start", "--name", "example.org", "--folder", folder}
+	arguments := []string{"run", "--once", "--from-start", "--name", "example.org", "--folder", folder}
 	for i, origin := range []string{"a.example", "b.example", "c.example"} {
 		log := serveLog(t, origin)
 		log.add(authority, other)
 		log.add(authority, one)
-		words = append(words, "--log", log.setting(i == 0))
+		arguments = append(arguments, "--log", log.setting(i == 0))
 	}
-	status, out, faults := ctwatch(t, words...)
+	status, out, faults := ctwatch(t, arguments...)
 	if status != statusFoundByOnce || strings.Count(out, "\n") != 1 || !strings.Contains(out,
 		"FOUND example.org: shop.example.org") {
 		t.Fatalf("status %d: %s%s", status, out, faults)
 	}
-	if status, out, faults = ctwatch(t, words...); status != 0 || out != "" {
+	if status, out, faults = ctwatch(t, arguments...); status != 0 || out != "" {
 		t.Errorf("the second run: status %d: %s%s", status, out, faults)
 	}
 	status, out, faults = ctwatch(t, "query", "example.org", "--valid", "--json", "--folder", folder)
@@ -107,17 +106,17 @@ func TestAlertsOnceOverLogs(t *testing.T) {
 	}
 }
 
-// TestOnceSendsWhileALogIsSlow: a log answers for its entries only after the alert to a certificate in another log has
-// come. So the alert does not wait for the slow log, and both certificates have one in the end.
+// TestOnceSendsWhileALogIsSlow: a log returns its entries only after the alert about a certificate in another log was
+// sent. So that alert does not wait for the slow log. In the end, both certificates have an alert.
 func TestOnceSendsWhileALogIsSlow(t *testing.T) {
-	authority, told := testcert.NewAuthority(t), make(chan string, 2)
+	authority, received := testcert.NewAuthority(t), make(chan string, 2)
 	hook := httptest.NewServer(http.HandlerFunc(func(_ http.ResponseWriter, r *http.Request) {
 		var one alert.Alert
 		if err := json.NewDecoder(r.Body).Decode(&one); err != nil {
 			t.Error(err)
 			return
 		}
-		told <- one.Certificate.Names[0]
+		received <- one.Certificate.Names[0]
 	}))
 	defer hook.Close()
 	quick, slow := serveLog(t, "a.example"), serveLog(t, "b.example")
@@ -129,21 +128,21 @@ func TestOnceSendsWhileALogIsSlow(t *testing.T) {
 			return false
 		}
 		select {
-		case first = <-told:
+		case first = <-received:
 		case <-r.Context().Done():
 		}
 		return false
 	})
 	status, out, faults := ctwatch(t, "run", "--once", "--from-start", "--name", "example.org", "--quiet", "--webhook",
 		hook.URL, "--folder", t.TempDir(), "--log", quick.setting(true), "--log", slow.setting(false))
-	if status != statusFoundByOnce || first != "quick.example.org" || <-told != "slow.example.org" {
+	if status != statusFoundByOnce || first != "quick.example.org" || <-received != "slow.example.org" {
 		t.Errorf("status %d, first %q: %s%s", status, first, out, faults)
 	}
 }
 
-// TestOnceSendsWhatWaits: an alert that could not be sent is sent by the next run, in which nothing is found, and says
-// "again".
-func TestOnceSendsWhatWaits(t *testing.T) {
+// TestOnceSendsWaitingAlerts: the next run sends an alert that could not be sent, even if that run finds nothing. Again
+// is set in it.
+func TestOnceSendsWaitingAlerts(t *testing.T) {
 	authority := testcert.NewAuthority(t)
 	var posted []alert.Alert
 	hook := httptest.NewServer(http.HandlerFunc(func(w http.ResponseWriter, r *http.Request) {
@@ -158,14 +157,14 @@ func TestOnceSendsWhatWaits(t *testing.T) {
 	defer hook.Close()
 	log := serveLog(t, "a.example")
 	log.add(authority, authority.Issue("shop.example.org"))
-	words := []string{"run", "--once", "--from-start", "--name", "example.org", "--quiet", "--webhook", hook.URL,
+	arguments := []string{"run", "--once", "--from-start", "--name", "example.org", "--quiet", "--webhook", hook.URL,
 		"--folder", t.TempDir(), "--log", log.setting(true)}
 	for len(posted) < 2 {
-		if status, out, faults := ctwatch(t, words...); status != statusFault {
+		if status, out, faults := ctwatch(t, arguments...); status != statusFault {
 			t.Fatalf("while the webhook fails: status %d: %s%s", status, out, faults)
 		}
 	}
-	if status, out, faults := ctwatch(t, words...); status != 0 || len(posted) != 3 || !posted[2].Again {
+	if status, out, faults := ctwatch(t, arguments...); status != 0 || len(posted) != 3 || !posted[2].Again {
 		t.Errorf("status %d, %d were posted: %s%s", status, len(posted), out, faults)
 	}
 }

@@ -17,7 +17,7 @@ import (
 	"wagtenib/internal/watch/watchstore"
 )
 
-// fileRules are those of the file of settings.
+// fileRules holds the rules for the config file.
 var fileRules = settingsfile.Rules{
 	Only: []string{"config", "once"},
 	Several: []string{"name", "names", "certspotter-watchlist", "log", "mail", "webhook", "command", "expect-key",
@@ -27,7 +27,7 @@ var fileRules = settingsfile.Rules{
 // defaultList is the log list of browsers.
 const defaultList = "https://www.gstatic.com/ct/log_list/v3/log_list.json"
 
-// settings are the values of the command line and of the file of settings.
+// settings holds the values of the command line and of the config file.
 type settings struct {
 	names    []namesearch.Name
 	folder   string
@@ -41,7 +41,7 @@ type settings struct {
 	serve    serveSettings
 }
 
-// logSettings say which logs are watched, and how.
+// logSettings holds the settings that say which logs are watched, and how.
 type logSettings struct {
 	list      string
 	listKey   []byte // PEM
@@ -55,21 +55,21 @@ type logSettings struct {
 	policy    policyFlags
 }
 
-// serveSettings say where the page is, and in which file the settings are.
+// serveSettings holds the address of the local page, and the path of the config file.
 type serveSettings struct {
 	listen string
 	config string // empty if all settings are flags
 }
 
-// parse reads the command line, and the file that it names. If both have a setting, the command line counts; of
-// settings that may be given several times, those of both count.
-func parse(words []string, out io.Writer) (*settings, error) {
+// parse reads the command line, and the config file that it names. If both have a setting, the command line counts. If
+// a setting may be given several times, the values of both count.
+func parse(arguments []string, out io.Writer) (*settings, error) {
 	s := &settings{}
 	flags := flagsOf("run", "", out)
 	s.define(flags)
-	err := fileRules.ParseAndValidate(flags, words, s.validate, errUsage)
+	err := fileRules.ParseAndValidate(flags, arguments, s.validate, errUsage)
 	if errors.Is(err, flag.ErrHelp) {
-		fmt.Fprint(out, "ctwatch run follows logs, and alerts to each certificate for the watched names.\n"+
+		fmt.Fprint(out, "ctwatch run follows logs, and sends an alert for each certificate for the watched names.\n"+
 			"Each setting except --config and --once is a flag, or a line 'name value' in the file that --config "+
 			"names.\n\n")
 		flags.SetOutput(out)
@@ -126,7 +126,7 @@ func (s *settings) define(flags *flag.FlagSet) {
 		"`address` of the local page, /metrics and /healthz. If it is empty, they are not served")
 }
 
-// appendTo returns what adds a value of a flag to a list.
+// appendTo returns a function that appends the value of a flag to a list.
 func appendTo(list *[]string) func(string) error {
 	return func(value string) error {
 		value = strings.TrimSpace(value)
@@ -138,7 +138,7 @@ func appendTo(list *[]string) func(string) error {
 	}
 }
 
-// validate checks which settings are missing or do not fit.
+// validate returns an error if a setting is missing or wrong. It also sets the default log list.
 func (s *settings) validate() error {
 	switch {
 	case len(s.names) == 0:
@@ -172,7 +172,7 @@ func (s *settings) addName(text string) error {
 	return nil
 }
 
-// add adds names, each once.
+// add adds names that are not there yet.
 func (s *settings) add(names []namesearch.Name) {
 	for _, name := range names {
 		if !slices.Contains(s.names, name) {
@@ -192,7 +192,7 @@ func (s *settings) addNames(parse func(io.Reader) ([]namesearch.Name, error)) fu
 	}
 }
 
-// readNames reads a watch list.
+// readNames reads a watch list from a file.
 func readNames(path string, parse func(io.Reader) ([]namesearch.Name, error)) ([]namesearch.Name, error) {
 	file, err := os.Open(path)
 	if err != nil {

@@ -25,21 +25,21 @@ import (
 
 var _ = addCommand("show", "LOG INDEX prints an entry of a log, and checks that the log's tree has it", runShow)
 
-// runShow prints an entry, and checks its inclusion proof at the log's newest head. The status is statusAccused if the
-// proof does not lead to the head, and statusUnread if the log does not answer.
-func runShow(ctx context.Context, words []string, out io.Writer) error {
+// runShow prints an entry, and checks its inclusion proof with the log's newest head. The exit status is statusAccused
+// if the proof does not lead to the head, and statusUnread if the log does not answer.
+func runShow(ctx context.Context, arguments []string, out io.Writer) error {
 	s := &auditSettings{}
 	flags := flagsOf("show", "", out)
 	s.defineLogs(flags)
 	flags.StringVar(&s.evidence, "evidence", "", "new `folder` that gets the entry, its audit path and the tree head "+
 		"that the log signed, for ctfsck evidence")
-	words, err := parseFlags(flags, words, 2, out)
+	arguments, err := parseFlags(flags, arguments, 2, out)
 	if err != nil {
 		return err
 	}
-	index, err := strconv.ParseUint(words[1], 10, 64)
+	index, err := strconv.ParseUint(arguments[1], 10, 64)
 	if err != nil {
-		return fmt.Errorf("%w: %q is no index of an entry (write a number, as an alert has it)", errUsage, words[1])
+		return fmt.Errorf("%w: %q is not the index of an entry (write a number, as in an alert)", errUsage, arguments[1])
 	}
 	client, err := s.client()
 	if err != nil {
@@ -49,7 +49,7 @@ func runShow(ctx context.Context, words []string, out io.Writer) error {
 	if err != nil {
 		return err
 	}
-	log, err := logOf(logs, words[0])
+	log, err := logOf(logs, arguments[0])
 	if err != nil {
 		return err
 	}
@@ -99,7 +99,7 @@ func (s *auditSettings) writeEntry(log watch.Log, head watch.Head, entry watch.E
 	return err
 }
 
-// unread reports that a log does not answer, or not with what it was asked for.
+// unread returns the error for a log that gives no answer, or a wrong one.
 func unread(log watch.Log, err error) error {
 	return &statusError{statusUnread, fmt.Sprintf("ctwatch: %s: %v", alert.Safe(log.Name), err)}
 }
@@ -107,17 +107,17 @@ func unread(log watch.Log, err error) error {
 // logOf returns the log with a name or an address.
 func logOf(logs []watch.Log, text string) (watch.Log, error) {
 	address := strings.TrimSuffix(strings.TrimPrefix(text, "tiled+"), "/")
-	at := slices.IndexFunc(logs, func(log watch.Log) bool {
+	position := slices.IndexFunc(logs, func(log watch.Log) bool {
 		return log.Name == text || strings.TrimSuffix(log.URL, "/") == address
 	})
-	if at < 0 {
+	if position < 0 {
 		return watch.Log{}, fmt.Errorf("%w: none of %s is called %.200q or has this address (write a log's name as an "+
 			"alert has it, or give the log by --log)", errUsage, alert.Count(int64(len(logs)), "log"), text)
 	}
-	return logs[at], nil
+	return logs[position], nil
 }
 
-// printEntry prints an entry as an alert has it, and its certificate in PEM.
+// printEntry prints an entry in the form of an alert, and its certificate in PEM.
 func printEntry(log watch.Log, entry watch.Entry, out io.Writer) error {
 	shown := &alert.Certificate{}
 	if entry.Fault != nil {
@@ -163,24 +163,23 @@ func printEntry(log watch.Log, entry watch.Entry, out io.Writer) error {
 	return pem.Encode(out, &pem.Block{Type: "CERTIFICATE", Bytes: der})
 }
 
-// isOfLeaf reports whether a precertificate has the TBSCertificate of its leaf, if the poison is left out.
+// isOfLeaf reports whether a precertificate without the poison has the TBSCertificate of its leaf.
 func isOfLeaf(precertificate, tbs []byte) bool {
-	from := cryptobyte.String(precertificate)
+	content := cryptobyte.String(precertificate)
 	var own cryptobyte.String
-	if !from.ReadASN1(&from, asn1.SEQUENCE) || !from.ReadASN1Element(&own, asn1.SEQUENCE) {
+	if !content.ReadASN1(&content, asn1.SEQUENCE) || !content.ReadASN1Element(&own, asn1.SEQUENCE) {
 		return false
 	}
-	cut, err := wagtenib.PrecertificateEntry(own)
-	return err == nil && slices.Equal(cut, tbs)
+	withoutPoison, err := wagtenib.PrecertificateEntry(own)
+	return err == nil && slices.Equal(withoutPoison, tbs)
 }
 
-// prove checks with the library that the tree of a head has the entry at its index, and prints the outcome. It returns
-// the proof.
+// prove checks with the library that the tree of a head has the entry, prints the outcome, and returns the proof.
 func prove(ctx context.Context, reader *watch.Reader, head watch.Head, entry watch.Entry,
 	out io.Writer) (watch.Inclusion, error) {
 	var none watch.Inclusion
 	leafHash := wagtenib.LeafHash(entry.Leaf)
-	index, path, err := reader.Place(ctx, head, leafHash, entry.Index)
+	index, path, err := reader.FindLeaf(ctx, head, leafHash, entry.Index)
 	switch {
 	case errors.Is(err, watch.ErrAbsent):
 		return none, &statusError{statusAccused, fmt.Sprintf("ctwatch: %s: the log gives entry %d, and its tree does not "+
@@ -192,12 +191,12 @@ func prove(ctx context.Context, reader *watch.Reader, head watch.Head, entry wat
 		return none, &statusError{statusAccused, fmt.Sprintf("ctwatch: %s: the log's proof does not lead from entry %d to "+
 			"the root of its head of %d leaves: %v", alert.Safe(reader.Log.Name), entry.Index, head.TreeSize, err)}
 	}
-	also := ""
+	otherIndex := ""
 	if index != entry.Index {
-		also = fmt.Sprintf(" (the log proves the same leaf at index %d)", index)
+		otherIndex = fmt.Sprintf(" (the log proves the same leaf at index %d)", index)
 	}
 	_, err = fmt.Fprintf(out, "The log's tree has this entry: the proof leads to the tree head of size %d that the log "+
-		"signed at %s%s.\n", head.TreeSize, time.UnixMilli(int64(head.Timestamp)).UTC().Format(time.RFC3339), also)
+		"signed at %s%s.\n", head.TreeSize, time.UnixMilli(int64(head.Timestamp)).UTC().Format(time.RFC3339), otherIndex)
 	proof := watch.Inclusion{LeafIndex: index, TreeSize: head.TreeSize, LeafHash: leafHash[:]}
 	for _, hash := range path {
 		proof.AuditPath = append(proof.AuditPath, hash[:])

@@ -18,8 +18,8 @@ import (
 	"wagtenib/internal/watch"
 )
 
-// TestShowsAnEntry: an entry of either kind of log is printed with its names and its certificate, byte for byte, and
-// with the head whose tree has it.
+// TestShowsAnEntry: show prints an entry of either kind of log with its names, its certificate, byte for byte, and the
+// head whose tree contains it.
 func TestShowsAnEntry(t *testing.T) {
 	authority := testcert.NewAuthority(t)
 	one := authority.Issue("shop.example.org")
@@ -27,13 +27,13 @@ func TestShowsAnEntry(t *testing.T) {
 	for range 200 {
 		log.add(authority, authority.Issue("other.net"))
 	}
-	log.add(authority, one) // (entries 400 and 401, in the tile behind the first one)
+	log.add(authority, one) // It adds the entries 400 and 401, which are in the second tile.
 	log.add(authority, authority.Issue("other.net"))
 	for _, isTiled := range []bool{false, true} {
-		for index, due := range map[string][]byte{"400": one.Precertificate.Raw, "401": one.Certificate.Raw} {
+		for index, expected := range map[string][]byte{"400": one.Precertificate.Raw, "401": one.Certificate.Raw} {
 			status, out, faults := ctwatch(t, "show", log.address, index, "--log", log.setting(isTiled))
 			block, _ := pem.Decode([]byte(out))
-			if status != 0 || block == nil || !slices.Equal(block.Bytes, due) ||
+			if status != 0 || block == nil || !slices.Equal(block.Bytes, expected) ||
 				!strings.Contains(out, "Name:                  shop.example.org\n") ||
 				!strings.Contains(out, "the tree head of size 404") || strings.Contains(out, "does not cover") {
 				t.Errorf("tiled %v, entry %s: status %d: %s%s", isTiled, index, status, out, faults)
@@ -44,27 +44,27 @@ func TestShowsAnEntry(t *testing.T) {
 			t.Errorf("tiled %v, entry 404: status %d: %s%s", isTiled, status, out, faults)
 		}
 	}
-	for words, due := range map[string]string{"nowhere 1": "give the log by --log", log.address + " x": "write a number",
-		log.address: "needs 2 words"} {
-		status, _, faults := ctwatch(t, append(append([]string{"show"}, strings.Fields(words)...), "--log",
+	for arguments, expected := range map[string]string{"nowhere 1": "give the log by --log",
+		log.address + " x": "write a number", log.address: "needs 2 arguments"} {
+		status, _, faults := ctwatch(t, append(append([]string{"show"}, strings.Fields(arguments)...), "--log",
 			log.setting(true))...)
-		if status != statusUsage || !strings.Contains(faults, due) {
-			t.Errorf("%s: status %d: %s", words, status, faults)
+		if status != statusUsage || !strings.Contains(faults, expected) {
+			t.Errorf("%s: status %d: %s", arguments, status, faults)
 		}
 	}
 }
 
-// TestKeepsTheProofOfAnEntry: show writes files that convince the independent judge later, without the log. A changed
-// leaf or another tree head does not convince it.
-func TestKeepsTheProofOfAnEntry(t *testing.T) {
+// TestWritesTheProofOfAnEntry: show writes files that the independent judge confirms later, without the log. The judge
+// refuses a changed leaf, tree head or proof.
+func TestWritesTheProofOfAnEntry(t *testing.T) {
 	authority, log := testcert.NewAuthority(t), serveLog(t, "a.example")
 	for range 5 {
 		log.add(authority, authority.Issue("shop.example.org"))
 	}
 	for _, isTiled := range []bool{false, true} {
 		folder := filepath.Join(t.TempDir(), "kept")
-		words := []string{"show", log.address, "6", "--evidence", folder, "--log", log.setting(isTiled)}
-		status, out, faults := ctwatch(t, words...)
+		arguments := []string{"show", log.address, "6", "--evidence", folder, "--log", log.setting(isTiled)}
+		status, out, faults := ctwatch(t, arguments...)
 		if status != 0 || !strings.Contains(out, folder+" has the files") {
 			t.Fatalf("tiled %v: status %d: %s%s", isTiled, status, out, faults)
 		}
@@ -72,7 +72,7 @@ func TestKeepsTheProofOfAnEntry(t *testing.T) {
 		if err != nil || !strings.Contains(shown, "its leaf 6 is the file leaf") {
 			t.Errorf("tiled %v: %v: %s", isTiled, err, shown)
 		}
-		if status, _, faults = ctwatch(t, words...); status != statusFault || !strings.Contains(faults, "new folder") {
+		if status, _, faults = ctwatch(t, arguments...); status != statusFault || !strings.Contains(faults, "new folder") {
 			t.Errorf("tiled %v: the folder is not new: status %d: %s", isTiled, status, faults)
 		}
 		for _, name := range []string{watch.FileLeaf, watch.FileHead, watch.FileProof} {
@@ -90,8 +90,8 @@ func TestKeepsTheProofOfAnEntry(t *testing.T) {
 	}
 }
 
-// TestShowsWhatIsNotProved: an entry that the tree does not have, and a precertificate that is not the leaf's, are
-// reported as such.
+// TestShowsWhatIsNotProved: show reports an entry that the tree does not contain, and a precertificate that does not
+// belong to the leaf.
 func TestShowsWhatIsNotProved(t *testing.T) {
 	authority := testcert.NewAuthority(t)
 	one, other := authority.Issue("shop.example.org"), authority.Issue("b.example.org")

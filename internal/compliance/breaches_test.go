@@ -14,7 +14,7 @@ import (
 	"wagtenib/internal/testlog"
 )
 
-// atMinute reports true once, half a minute after so many have passed: the probe asks for the head alone then.
+// atMinute returns true once, half a minute after this number of minutes. At that time, the probe requests only heads.
 func atMinute(s *server, minute time.Duration, done *bool) bool {
 	if *done || s.clock.Now().Sub(s.began) < minute*time.Minute+30*time.Second {
 		return false
@@ -23,21 +23,21 @@ func atMinute(s *server, minute time.Duration, done *bool) bool {
 	return true
 }
 
-// damaged returns bytes with one bit of one of them changed.
-func damaged(content []byte, at int) []byte {
+// damaged returns a copy of bytes in which one bit of the byte at an offset is changed.
+func damaged(content []byte, offset int) []byte {
 	content = bytes.Clone(content)
-	content[at] ^= 1
+	content[offset] ^= 1
 	return content
 }
 
-// breaches are what the probe must find, by the checks that must fail, and no other ones.
+// breaches holds the faults that the probe must find, with the checks that must fail. All other checks must pass.
 var breaches = map[string]struct {
 	fails []string
 	plant func(p *probed)
 }{
 	"heads that are older than the merge delay": {[]string{compliance.CheckCheckpointFresh, compliance.CheckSTHFresh},
 		func(p *probed) {
-			p.options.Schedule.Submit = time.Hour // (one chain at the begin)
+			p.options.Schedule.Submit = time.Hour // This submits only one chain, at the beginning.
 			p.planted.publishes = func(s *server) bool { return s.clock.Now().Sub(s.began) < 2*time.Minute }
 		}},
 	"a checkpoint of the future": {[]string{compliance.CheckSTHFresh}, func(p *probed) {
@@ -192,7 +192,7 @@ var breaches = map[string]struct {
 		func(p *probed) {
 			p.planted.before = forked(9, 0)
 		}},
-	// (the log then goes back to its own history, and has no paths in the other one)
+	// The log then returns to its own history, and has no paths in the other one.
 	"a larger tree of another history": {[]string{compliance.CheckConsistencyByTiles, compliance.CheckConsistencyByCalls,
 		compliance.CheckSTHForward,
 		compliance.CheckInclusionByHash}, func(p *probed) { p.planted.before = forked(7, 1) }},
@@ -201,8 +201,8 @@ var breaches = map[string]struct {
 		p.planted.after = func(s *server, r *http.Request, answer *httptest.ResponseRecorder) {
 			if r.URL.Path == "/checkpoint" && atMinute(s, 5, &done) {
 				text := answer.Body.String()
-				at := strings.LastIndex(text, " ") + 40
-				replace(answer, []byte(text[:at]+flipped(text[at])+text[at+1:]))
+				offset := strings.LastIndex(text, " ") + 40
+				replace(answer, []byte(text[:offset]+flipped(text[offset])+text[offset+1:]))
 			}
 		}
 	}},
@@ -224,7 +224,7 @@ var breaches = map[string]struct {
 	"a data tile that differs": {[]string{compliance.CheckDataTile}, func(p *probed) {
 		p.planted.after = func(s *server, r *http.Request, answer *httptest.ResponseRecorder) {
 			if strings.HasPrefix(r.URL.Path, "/tile/data/") && answer.Code == http.StatusOK {
-				replace(answer, damaged(answer.Body.Bytes(), 7)) // (the first entry's timestamp)
+				replace(answer, damaged(answer.Body.Bytes(), 7)) // This byte is in the first entry's timestamp.
 			}
 		}
 	}},
@@ -294,7 +294,7 @@ var breaches = map[string]struct {
 	}},
 }
 
-// TestFindsBreaches: each breach is found by its name, and nothing else is.
+// TestFindsBreaches: each breach makes exactly the expected checks fail.
 func TestFindsBreaches(t *testing.T) {
 	for name, breach := range breaches {
 		t.Run(name, func(t *testing.T) {
@@ -328,7 +328,8 @@ func headersOf(w http.ResponseWriter, media string) {
 	w.Header().Set("Content-Type", media)
 }
 
-// forked has get-sth answer once with the head of another history, whose tree is larger by some entries.
+// forked returns a function that lets get-sth answer once with the head of another history, whose tree is larger by
+// some entries.
 func forked(minute time.Duration, larger int) func(s *server, w http.ResponseWriter, r *http.Request) bool {
 	done := false
 	return func(s *server, w http.ResponseWriter, r *http.Request) bool {
@@ -346,7 +347,7 @@ func forked(minute time.Duration, larger int) func(s *server, w http.ResponseWri
 	}
 }
 
-// flipped returns another character of base64.
+// flipped returns a different character of base64.
 func flipped(character byte) string {
 	if character == 'A' {
 		return "B"
@@ -354,14 +355,15 @@ func flipped(character byte) string {
 	return "A"
 }
 
-// without takes a header out of the answers to paths that begin so.
+// without removes a header from the answers to paths with a prefix.
 func without(header, path string) func(p *probed) { return with(header, "", path) }
 
+// with sets a header in the answers to paths with a prefix, or removes it if the value is empty.
 func with(header, value, path string) func(p *probed) {
 	return func(p *probed) {
 		p.planted.after = func(_ *server, r *http.Request, answer *httptest.ResponseRecorder) {
 			if strings.HasPrefix(r.URL.Path, path) {
-				headers := answer.Result().Header // (of the answer that the server sends)
+				headers := answer.Result().Header // These are the headers of the answer that the server sends.
 				headers.Del(header)
 				if value != "" {
 					headers.Set(header, value)

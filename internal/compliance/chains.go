@@ -32,7 +32,7 @@ var signsPrecertificates = asn1.ObjectIdentifier{1, 3, 6, 1, 4, 1, 11129, 2, 4, 
 // ErrChain means that certificates or a key cannot be used for a probe.
 var ErrChain = errors.New("probe: not what a chain can be made of")
 
-// newSubmission returns what a chain is submitted as. The error wraps ErrChain.
+// newSubmission returns the submission of a chain. The error wraps ErrChain.
 func newSubmission(chain []*x509.Certificate) (Submission, error) {
 	first := chain[0]
 	made := Submission{Call: "add-chain", Header: []byte{0, 0}, Entry: first.Raw}
@@ -43,7 +43,7 @@ func newSubmission(chain []*x509.Certificate) (Submission, error) {
 		return made, nil
 	}
 	if len(chain) < 2 || slices.ContainsFunc(chain[1].UnknownExtKeyUsage, signsPrecertificates.Equal) {
-		return Submission{}, fmt.Errorf("%w: a precertificate needs its issuer after it, which is no "+
+		return Submission{}, fmt.Errorf("%w: a precertificate needs its issuer after it, which must not be a "+
 			"precertificate signing certificate", ErrChain)
 	}
 	tbs, err := wagtenib.PrecertificateEntry(first.RawTBSCertificate)
@@ -55,8 +55,8 @@ func newSubmission(chain []*x509.Certificate) (Submission, error) {
 	return made, nil
 }
 
-// Authority is a test CA. It issues certificates and precertificates in turn, each with a name of its own below the
-// domain "invalid", which nobody can have.
+// Authority is a test CA. It issues certificates and precertificates in turn, each with its own name below the domain
+// "invalid", which nobody can register.
 type Authority struct {
 	chain  []*x509.Certificate // the CA's own certificate, and its issuers up to a root
 	key    crypto.Signer
@@ -64,15 +64,15 @@ type Authority struct {
 	issued int
 }
 
-// NewAuthority returns a CA whose certificate, and its issuers after it, are in one text in PEM, and whose private key
-// is in the other one. The error wraps ErrChain.
+// NewAuthority returns a test CA. certificates has the CA's certificate and then its issuers, and key its private key,
+// both in PEM. The error wraps ErrChain.
 func NewAuthority(certificates, key []byte) (*Authority, error) {
 	chain, err := parsePEM(certificates)
 	if err != nil {
 		return nil, err
 	}
 	block, _ := pem.Decode(key)
-	for block != nil && block.Type == "EC PARAMETERS" { // (openssl ecparam -genkey writes them before the key)
+	for block != nil && block.Type == "EC PARAMETERS" { // openssl ecparam -genkey writes them before the key.
 		block, _ = pem.Decode(key[len(pem.EncodeToMemory(block)):])
 	}
 	if block == nil {
@@ -102,7 +102,7 @@ func parseKey(der []byte) (crypto.Signer, error) {
 	if key, err := x509.ParsePKCS1PrivateKey(der); err == nil {
 		return key, nil
 	}
-	return nil, fmt.Errorf("%w: the key is no private key of PKCS #8, SEC 1 or PKCS #1 without a passphrase", ErrChain)
+	return nil, fmt.Errorf("%w: the key is not a private key of PKCS #8, SEC 1 or PKCS #1 without a passphrase", ErrChain)
 }
 
 func parsePEM(text []byte) (chain []*x509.Certificate, err error) {
@@ -122,10 +122,10 @@ func parsePEM(text []byte) (chain []*x509.Certificate, err error) {
 	return chain, nil
 }
 
-// validity is how long a certificate is valid if the log has no interval.
+// validity is the time for which a certificate is valid if the log has no interval.
 const validity = 47 * 24 * time.Hour
 
-// Next issues a certificate or a precertificate. It ends in the interval.
+// Next issues a certificate or a precertificate that expires in the interval.
 func (a *Authority) Next(now, start, end time.Time) (Submission, error) {
 	notAfter := now.Add(validity)
 	if !start.IsZero() && notAfter.Before(start) {
@@ -161,14 +161,14 @@ func (a *Authority) Next(now, start, end time.Time) (Submission, error) {
 	return newSubmission(append([]*x509.Certificate{first}, a.chain...))
 }
 
-// Folder submits the chains of a folder, one after the other, and after the last one again the first.
+// Folder submits the chains of a folder, one after the other. After the last one it begins again with the first.
 type Folder struct {
 	chains []Submission
 	next   int
 }
 
-// NewFolder reads the chains of a folder: each file .pem has one, with the certificate or precertificate first and each
-// issuer after it. The error wraps ErrChain.
+// NewFolder reads the chains of a folder. Each file .pem has one chain: first the certificate or precertificate, and
+// then each issuer. The error wraps ErrChain.
 func NewFolder(path string) (*Folder, error) {
 	names, err := filepath.Glob(filepath.Join(path, "*.pem"))
 	if err != nil {
@@ -197,7 +197,7 @@ func NewFolder(path string) (*Folder, error) {
 	return f, nil
 }
 
-// Next returns the next chain of the folder, whatever the interval is.
+// Next returns the next chain of the folder. It ignores the interval.
 func (f *Folder) Next(_, _, _ time.Time) (Submission, error) {
 	one := f.chains[f.next%len(f.chains)]
 	f.next++

@@ -1,9 +1,9 @@
-// Package compliance looks at a Certificate Transparency log from outside, as the compliance monitor of a browser's
-// programme does.
+// Package compliance probes a Certificate Transparency log from outside, as the compliance monitor of a browser vendor
+// does.
 //
-// It submits chains, follows each SCT into the log, and reads the log by its tiles and by the calls of RFC 6962. It
-// compares all heads that it sees with each other, and counts and times each answer. Each verdict on a proof, a head or
-// an entry is the proved library's. That a signature is the key's is decided by package signature.
+// It submits chains, checks that the log adds the entry of each SCT, and reads the log by its tiles and by the calls of
+// RFC 6962. It compares all heads that it sees with each other, and counts and times each answer. The proved library
+// gives each verdict on a proof, a head or an entry. Package signature verifies signatures.
 package compliance
 
 import (
@@ -20,35 +20,35 @@ import (
 	"wagtenib/internal/watch/loglist"
 )
 
-// Bounds are what the answers of a log must keep.
+// Bounds holds the required availability and latency of a log.
 type Bounds struct {
-	Availability float64       // the share of the requests of each call that must be answered, from 0 to 1
-	Latency      time.Duration // within which 99 of 100 answers to each call must come
+	Availability float64       // the minimum share of the requests of each call that are answered, from 0 to 1
+	Latency      time.Duration // the maximum time for 99 of 100 answers to each call
 }
 
-// Schedule says how long a log is looked at, and how often.
+// Schedule says for how long a log is probed, and how often.
 type Schedule struct {
-	For    time.Duration // for how long chains are submitted. The last SCT is followed for its merge delay after that
-	Poll   time.Duration // between two looks at the heads
-	Submit time.Duration // between two chains
-	Slow   time.Duration // between two looks at the roots and at /log.v3.json
+	For    time.Duration // the time for which chains are submitted; then the last SCT is followed for its merge delay
+	Poll   time.Duration // the time between two requests for the heads
+	Submit time.Duration // the time between two submissions
+	Slow   time.Duration // the time between two requests for the roots and /log.v3.json
 }
 
-// Options say what is looked at, and what is expected.
+// Options hold the log to probe, and what is expected of it.
 type Options struct {
 	SubmissionURL string       // the submission prefix
 	MonitoringURL string       // the monitoring prefix; if it is empty, the submission prefix
-	Expected      *loglist.Log // the entry of the log in a log list; nil if the log's own word is taken
-	Source        string       // where Expected is from, for the report
-	Submitter     Submitter    // makes what is submitted; nil submits nothing
-	Roots         [][]byte     // the roots that are wanted, in DER; nil compares none
+	Expected      *loglist.Log // the entry of the log in a log list; nil to use the one that the log itself serves
+	Source        string       // says where Expected is from, for the report
+	Submitter     Submitter    // makes the chains that are submitted; nil to submit none
+	Roots         [][]byte     // the expected roots, in DER; nil to compare none
 	Bounds        Bounds
 	Schedule      Schedule
 	Client        logclient.Options // the transport, the clock and the user agent
 	Notify        func(check string, fault Fault)
 }
 
-// run is a probe that runs.
+// run holds the state of a running probe.
 type run struct {
 	options   Options
 	clock     logclient.Clock
@@ -58,15 +58,15 @@ type run struct {
 	heads     *history
 	endpoints []*endpoint // the checkpoint and get-sth
 	submits   *http.Client
-	reads     *logclient.Client // by the monitoring prefix
+	reads     *logclient.Client // the client for the monitoring prefix
 	promises  []*promise
 }
 
-// firstAttempts is the number of requests by which the probe asks a log for its entry before it begins.
+// firstAttempts is the maximum number of requests for the log's entry before the probe begins.
 const firstAttempts = 10
 
-// Run looks at a log for as long as the options say, and returns what it saw. The error says why it cannot begin; after
-// it has begun, whatever it sees is in the report.
+// Run probes a log for the time of the schedule, and returns a report. It returns an error only if it cannot begin. All
+// later faults are in the report.
 func Run(ctx context.Context, options Options) (Report, error) {
 	r, err := begin(ctx, options)
 	if err != nil {
@@ -85,7 +85,7 @@ func Run(ctx context.Context, options Options) (Report, error) {
 			r.submitNext(ctx)
 		}
 		r.look(ctx)
-		_ = r.clock.Wait(ctx, options.Schedule.Poll) // (the loop looks at the context itself)
+		_ = r.clock.Wait(ctx, options.Schedule.Poll) // The error is ignored: the loop checks the context.
 	}
 	if ctx.Err() == nil {
 		r.recorder.pass(CheckWholeTime, "%v", r.clock.Now().Sub(from).Round(time.Second))
@@ -95,16 +95,16 @@ func Run(ctx context.Context, options Options) (Report, error) {
 	}
 	for r.isWaiting() && ctx.Err() == nil {
 		r.look(ctx)
-		_ = r.clock.Wait(ctx, options.Schedule.Poll) // (the loop looks at the context itself)
+		_ = r.clock.Wait(ctx, options.Schedule.Poll) // The error is ignored: the loop checks the context.
 	}
 	r.end()
 	return r.report(from), nil
 }
 
-// look asks for both heads, compares them with those before, and follows the SCTs into them.
+// look requests both heads, compares them with earlier ones, and checks whether they have the promised entries.
 func (r *run) look(ctx context.Context) {
-	for _, at := range r.endpoints {
-		if head, ok := r.lookAt(ctx, at); ok {
+	for _, e := range r.endpoints {
+		if head, ok := r.lookAt(ctx, e); ok {
 			r.heads.add(head)
 		}
 	}
@@ -112,7 +112,7 @@ func (r *run) look(ctx context.Context) {
 	r.follow(ctx)
 }
 
-// begin makes a probe, and finds out what is expected of the log.
+// begin returns a new probe. If the options do not say what is expected of the log, it asks the log.
 func begin(ctx context.Context, options Options) (*run, error) {
 	options.SubmissionURL = strings.TrimRight(options.SubmissionURL, "/")
 	options.MonitoringURL = strings.TrimRight(cmp.Or(options.MonitoringURL, options.SubmissionURL), "/")
@@ -151,21 +151,21 @@ func begin(ctx context.Context, options Options) (*run, error) {
 	return r, r.connect(ctx)
 }
 
-// checksOfSCTs are those under which nothing comes if nothing is submitted.
+// checksOfSCTs holds the checks that need submissions.
 var checksOfSCTs = []string{CheckSubmission, CheckSCTSignature, CheckSCTTimestamp, CheckSCTIndex, CheckSCTRepeat,
 	CheckMergeDelay,
 	CheckInclusionByTiles, CheckInclusionByHash, CheckDataTile, CheckGetEntries, CheckIssuers}
 
-// connect makes the readers of both prefixes. Each request is made once: what fails is counted, and asked for again
-// with the next look.
+// connect makes the clients of both prefixes. They make only one attempt for each request: a failure is counted, and
+// the probe asks again later.
 func (r *run) connect(ctx context.Context) (err error) {
 	r.meter = &meter{ctx: ctx, next: r.options.Client.Transport, clock: r.clock, maxMergeDelay: r.log.MaxMergeDelay,
-		calls: map[string]*times{}, recorder: r.recorder}
+		calls: map[string]*measurements{}, recorder: r.recorder}
 	client := r.options.Client
 	client.Transport = r.meter
 	client.Limits.Attempts = 1
-	client.Limits.Request = cmp.Or(client.Limits.Request, requestTime)
-	// (an answer of another place is not the log's)
+	client.Limits.Request = cmp.Or(client.Limits.Request, requestTimeout)
+	// Redirects are not followed: an answer from another address is not the log's.
 	stay := func(*http.Request, []*http.Request) error { return http.ErrUseLastResponse }
 	r.submits = &http.Client{Transport: r.meter, Timeout: client.Limits.Request, CheckRedirect: stay}
 	if r.reads, err = logclient.New(r.options.MonitoringURL, client); err != nil {
@@ -189,10 +189,10 @@ func (r *run) connect(ctx context.Context) (err error) {
 	return nil
 }
 
-// requestTime is the time within which a request must have its whole answer.
-const requestTime = 30 * time.Second
+// requestTimeout is the default of the maximum time for a request with its whole answer.
+const requestTimeout = 30 * time.Second
 
-// end records what was asked for until the end and never came.
+// end records the entries and proofs that the log never gave.
 func (r *run) end() {
 	for _, p := range r.promises {
 		r.giveUp(p)
@@ -204,7 +204,7 @@ func (r *run) end() {
 	}
 }
 
-// report returns what was seen.
+// report returns the report of the probe that began at the time `from`.
 func (r *run) report(from time.Time) Report {
 	report := Report{Program: r.options.Client.UserAgent, SubmissionURL: r.options.SubmissionURL,
 		MonitoringURL: r.options.MonitoringURL,

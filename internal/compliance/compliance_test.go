@@ -24,7 +24,7 @@ import (
 	"wagtenib/internal/logclient"
 )
 
-// testRoot makes a root of a test CA, and returns it in DER, and its certificate and key in PEM.
+// testRoot makes a root certificate of a test CA. It returns the certificate in DER and in PEM, and the key in PEM.
 func testRoot(t *testing.T, name string) (der, certificate, key []byte) {
 	t.Helper()
 	private, err := ecdsa.GenerateKey(elliptic.P256(), rand.Reader)
@@ -45,13 +45,13 @@ func testRoot(t *testing.T, name string) (der, certificate, key []byte) {
 		pem.EncodeToMemory(&pem.Block{Type: "PRIVATE KEY", Bytes: encoded})
 }
 
-// probed is a probe of a server, before it runs.
+// probed holds a server, and the options of a probe of it.
 type probed struct {
 	*server
 	options compliance.Options
 }
 
-// newProbed returns a server as it should be, and a probe of ten minutes of it, whose schedule submits a chain each two
+// newProbed returns a correct server, and the options of a probe that lasts ten minutes and submits a chain every two
 // minutes.
 func newProbed(t *testing.T) probed {
 	t.Helper()
@@ -83,8 +83,8 @@ func (p probed) run() compliance.Report {
 	return report
 }
 
-// TestPassesRightLog: a log as it should be passes each check, and each is tried.
-func TestPassesRightLog(t *testing.T) {
+// TestPassesCorrectLog: a correct log passes each check, and each check is tried.
+func TestPassesCorrectLog(t *testing.T) {
 	t.Parallel()
 	p := newProbed(t)
 	report := p.run()
@@ -104,7 +104,7 @@ func TestPassesRightLog(t *testing.T) {
 			t.Errorf("%s: %+v, and each answer takes 5 ms", call.Name, call)
 		}
 	}
-	// (three certificates and two precertificates, each twice)
+	// Three certificates and two precertificates are submitted, each of them twice.
 	for name, want := range map[string]int{"add-chain": 6, "add-pre-chain": 4, "get-roots": p.count["/ct/v1/get-roots"],
 		"checkpoint": p.count["/checkpoint"], "get-sth": p.count["/ct/v1/get-sth"], "get-proof-by-hash": 5,
 		"get-entries": 5} {
@@ -114,9 +114,9 @@ func TestPassesRightLog(t *testing.T) {
 	}
 }
 
-// TestNothingIsAskedFor: without a submitter, roots and an entry of a list, the checks of these are not asked for, and
-// the log passes.
-func TestNothingIsAskedFor(t *testing.T) {
+// TestSkipsChecksWithoutOptions: without a submitter, roots and the entry of a list, the checks that need them are not
+// asked for, and the log passes.
+func TestSkipsChecksWithoutOptions(t *testing.T) {
 	t.Parallel()
 	p := newProbed(t)
 	p.options.Submitter, p.options.Roots, p.options.Expected = nil, nil, nil
@@ -140,8 +140,8 @@ func TestNothingIsAskedFor(t *testing.T) {
 	}
 }
 
-// TestSilentLogFails: a log that answers nothing fails, because nothing came under the checks.
-func TestSilentLogFails(t *testing.T) {
+// TestFailsSilentLog: a log that answers nothing fails, because its checks are missing.
+func TestFailsSilentLog(t *testing.T) {
 	t.Parallel()
 	p := newProbed(t)
 	p.planted.before = func(_ *server, w http.ResponseWriter, _ *http.Request) bool {
@@ -166,8 +166,8 @@ func TestSilentLogFails(t *testing.T) {
 	}
 }
 
-// TestEndedEarly: a probe that is ended before its time does not pass.
-func TestEndedEarly(t *testing.T) {
+// TestFailsIfEndedEarly: a probe that is ended before its time does not pass.
+func TestFailsIfEndedEarly(t *testing.T) {
 	t.Parallel()
 	p := newProbed(t)
 	ctx, cancel := context.WithCancel(context.Background())
@@ -183,7 +183,7 @@ func TestEndedEarly(t *testing.T) {
 	}
 }
 
-// TestReportInJSON: the JSON has what a reader of a report needs, with the evidence in base64.
+// TestReportInJSON: the JSON of a report has the verdicts and the numbers, with the evidence in base64.
 func TestReportInJSON(t *testing.T) {
 	t.Parallel()
 	p := newProbed(t)
@@ -232,8 +232,9 @@ func TestReportInJSON(t *testing.T) {
 	}
 }
 
-// TestFolderOfChains: the chains of a folder are submitted in turn, and one that the log has already gets its old SCT.
-func TestFolderOfChains(t *testing.T) {
+// TestSubmitsFolderOfChains: the chains of a folder are submitted in turn. A chain that the log already has gets its
+// old SCT.
+func TestSubmitsFolderOfChains(t *testing.T) {
 	t.Parallel()
 	p := newProbed(t)
 	folder := t.TempDir()

@@ -14,72 +14,73 @@ import (
 	"wagtenib/internal/watch"
 )
 
-// maxSkew is how far the clock of the log may be ahead of the probe's, and a timestamp before the probe's request.
+// maxSkew is the maximum difference between the clocks of the log and the probe. A timestamp may be later than the
+// probe's clock, or earlier than the probe's request, by this time.
 const maxSkew = 10 * time.Second
 
-// endpoint is one of the two places at which a log gives its head, with the names of the checks of it.
+// endpoint is one of the two addresses at which a log serves its head, with the names of its checks.
 type endpoint struct {
 	reader                                       *watch.Reader
 	name, signature, fresh, forward, consistency string
-	last                                         watch.Head // the newest one that was signed
-	at                                           time.Time  // when it came; zero if none has
+	last                                         watch.Head // the newest signed head
+	received                                     time.Time  // when last was received; zero if there is none
 }
 
-// lookAt asks an endpoint for its head, and judges it by itself. It returns the head if the log signed it.
-func (r *run) lookAt(ctx context.Context, at *endpoint) (watch.Head, bool) {
+// lookAt requests the head of an endpoint, and judges it. It returns true if the log signed the head.
+func (r *run) lookAt(ctx context.Context, e *endpoint) (watch.Head, bool) {
 	asked := r.clock.Now()
-	head, err := at.reader.Head(ctx)
+	head, err := e.reader.Head(ctx)
 	evidence := map[string][]byte{"head": head.Signed}
 	switch {
 	case errors.Is(err, signature.ErrForm), errors.Is(err, signature.ErrSigner), errors.Is(err, logclient.ErrNonsense),
 		errors.Is(err, logclient.ErrTooLarge):
-		r.recorder.fail(at.signature, evidence, "%v", err)
+		r.recorder.fail(e.signature, evidence, "%v", err)
 		return head, false
 	case errors.Is(err, logclient.ErrNotFound), errors.Is(err, logclient.ErrBadRequest):
-		r.recorder.fail(at.signature, nil, "%v", err)
+		r.recorder.fail(e.signature, nil, "%v", err)
 		return head, false
 	case err != nil:
-		return head, false // (the meter has counted it)
+		return head, false // The meter has counted the failure.
 	}
-	r.recorder.pass(at.signature, "%d leaves, timestamp %s", head.TreeSize, timeOf(head.Timestamp))
-	r.judgeAge(at, head, asked)
-	before := at.last
+	r.recorder.pass(e.signature, "%d leaves, timestamp %s", head.TreeSize, timeOf(head.Timestamp))
+	r.judgeAge(e, head, asked)
+	before := e.last
 	switch {
-	case at.at.IsZero():
-		r.recorder.pass(at.forward, "%s of %d leaves is the first one", at.name, head.TreeSize)
+	case e.received.IsZero():
+		r.recorder.pass(e.forward, "%s of %d leaves is the first one", e.name, head.TreeSize)
 	case head.TreeSize < before.TreeSize || head.Timestamp < before.Timestamp:
 		evidence["head-before"] = before.Signed
-		r.recorder.fail(at.forward, evidence, "%s went back from %d leaves at %s to %d at %s", at.name, before.TreeSize,
+		r.recorder.fail(e.forward, evidence, "%s went back from %d leaves at %s to %d at %s", e.name, before.TreeSize,
 			timeOf(before.Timestamp), head.TreeSize, timeOf(head.Timestamp))
-		return head, true // (the newest one stays the one to compare with)
+		return head, true // Later heads are still compared with the newest one.
 	default:
-		r.recorder.pass(at.forward, "%s of %d leaves at %s", at.name, head.TreeSize, timeOf(head.Timestamp))
+		r.recorder.pass(e.forward, "%s of %d leaves at %s", e.name, head.TreeSize, timeOf(head.Timestamp))
 	}
-	at.last, at.at = head, r.clock.Now()
+	e.last, e.received = head, r.clock.Now()
 	return head, true
 }
 
-// judgeAge compares a head's timestamp with the time at which the probe asked for it (RFC 6962, section 3.5).
-func (r *run) judgeAge(at *endpoint, head watch.Head, asked time.Time) {
+// judgeAge compares a head's timestamp with the time at which the probe requested it (RFC 6962, section 3.5).
+func (r *run) judgeAge(e *endpoint, head watch.Head, asked time.Time) {
 	age := asked.Sub(timeOf(head.Timestamp))
 	switch {
 	case age > r.log.MaxMergeDelay:
-		r.recorder.fail(at.fresh, map[string][]byte{"head": head.Signed},
-			"%s is %v old, and the maximum merge delay is %v", at.name,
+		r.recorder.fail(e.fresh, map[string][]byte{"head": head.Signed},
+			"%s is %v old, and the maximum merge delay is %v", e.name,
 			age.Round(time.Millisecond), r.log.MaxMergeDelay)
 	case r.clock.Now().Sub(timeOf(head.Timestamp)) < -maxSkew:
-		r.recorder.fail(at.fresh, map[string][]byte{"head": head.Signed},
+		r.recorder.fail(e.fresh, map[string][]byte{"head": head.Signed},
 			"%s is of %s, which is in the future (set the clocks by NTP)",
-			at.name, timeOf(head.Timestamp))
+			e.name, timeOf(head.Timestamp))
 	default:
-		r.recorder.pass(at.fresh, "%s is %v old", at.name, age.Round(time.Millisecond))
+		r.recorder.pass(e.fresh, "%s is %v old", e.name, age.Round(time.Millisecond))
 	}
 }
 
-// timeOf returns the time of a log's timestamp, milliseconds since 1970.
+// timeOf returns the time of a log's timestamp, which is in milliseconds since 1970.
 func timeOf(timestamp uint64) time.Time { return time.UnixMilli(int64(timestamp)).UTC() }
 
-// pair is two heads of which one endpoint has to prove that they are of one history.
+// pair holds two heads. One endpoint must prove that they belong to one history.
 type pair struct {
 	first, second watch.Head
 	by            *endpoint
@@ -90,14 +91,14 @@ func (p pair) evidence() map[string][]byte {
 	return map[string][]byte{"head-1": p.first.Signed, "head-2": p.second.Signed}
 }
 
-// history has each tree of which the log signed a head. Neighbours are compared, so all of them are.
+// history holds each tree of which the log signed a head. Neighbours are compared, which compares all of them.
 type history struct {
-	seen     []watch.Head // by size; two of one size only if their roots differ
-	added    []watch.Head // those that were not yet compared
+	seen     []watch.Head // in the order of their sizes, one of each size
+	added    []watch.Head // heads that were not compared yet
 	unproved []pair
 }
 
-// add takes a head that the log signed.
+// add adds a head that the log signed, unless it is known.
 func (h *history) add(head watch.Head) {
 	for _, one := range append(slices.Clone(h.added), h.sameSize(head)...) {
 		if one.TreeSize == head.TreeSize && one.Root == head.Root {
@@ -107,19 +108,19 @@ func (h *history) add(head watch.Head) {
 	h.added = append(h.added, head)
 }
 
-// sameSize returns the heads that were seen of this size.
+// sameSize returns the seen heads with the size of a head.
 func (h *history) sameSize(head watch.Head) []watch.Head {
-	at, _ := slices.BinarySearchFunc(h.seen, head, bySize)
-	end := at
+	start, _ := slices.BinarySearchFunc(h.seen, head, bySize)
+	end := start
 	for end < len(h.seen) && h.seen[end].TreeSize == head.TreeSize {
 		end++
 	}
-	return h.seen[at:end]
+	return h.seen[start:end]
 }
 
 func bySize(a, b watch.Head) int { return cmp.Compare(a.TreeSize, b.TreeSize) }
 
-// prove compares the heads that are new with their neighbours, and asks again for the proofs that did not come.
+// prove compares the new heads with their neighbours, and requests the proofs that the log has not given yet.
 func (r *run) prove(ctx context.Context) {
 	h := r.heads
 	pairs := h.unproved
@@ -145,39 +146,39 @@ func (r *run) prove(ctx context.Context) {
 	}
 }
 
-// insert takes a new head into the history, and returns the pairs whose proofs are wanted. Two roots of one size, and a
-// root of no leaves that is not SHA-256 of nothing, need none.
+// insert inserts a new head into the history, and returns the pairs for which a proof is needed. A second root of one
+// size, and a wrong root of the empty tree, are faults without a proof.
 func (r *run) insert(head watch.Head) (pairs []pair) {
 	h := r.heads
 	if same := h.sameSize(head); len(same) > 0 {
-		for _, at := range r.endpoints {
-			r.recorder.fail(at.consistency, pair{first: same[0], second: head}.evidence(),
+		for _, e := range r.endpoints {
+			r.recorder.fail(e.consistency, pair{first: same[0], second: head}.evidence(),
 				"the log signed two roots of %d leaves: %x and %x",
 				head.TreeSize, same[0].Root, head.Root)
 		}
 		return nil
 	}
 	if empty, err := wagtenib.Root(nil); head.TreeSize == 0 && err == nil && !bytes.Equal(empty[:], head.Root[:]) {
-		for _, at := range r.endpoints {
-			r.recorder.fail(at.consistency, map[string][]byte{"head": head.Signed},
-				"the root of no leaves is %x, and not SHA-256 of nothing",
+		for _, e := range r.endpoints {
+			r.recorder.fail(e.consistency, map[string][]byte{"head": head.Signed},
+				"the root of the empty tree is %x, and not the SHA-256 hash of the empty string",
 				head.Root)
 		}
 		return nil
 	}
-	at, _ := slices.BinarySearchFunc(h.seen, head, bySize)
-	h.seen = slices.Insert(h.seen, at, head)
+	position, _ := slices.BinarySearchFunc(h.seen, head, bySize)
+	h.seen = slices.Insert(h.seen, position, head)
 	for _, one := range r.endpoints {
 		switch {
-		case at == 0:
+		case position == 0:
 			r.recorder.pass(one.consistency, "the smallest tree has %d leaves", head.TreeSize)
-		case h.seen[at-1].TreeSize == 0:
+		case h.seen[position-1].TreeSize == 0:
 			r.recorder.pass(one.consistency, "each tree continues the empty one")
 		default:
-			pairs = append(pairs, pair{first: h.seen[at-1], second: head, by: one})
+			pairs = append(pairs, pair{first: h.seen[position-1], second: head, by: one})
 		}
-		if at+1 < len(h.seen) && head.TreeSize > 0 {
-			pairs = append(pairs, pair{first: head, second: h.seen[at+1], by: one})
+		if position+1 < len(h.seen) && head.TreeSize > 0 {
+			pairs = append(pairs, pair{first: head, second: h.seen[position+1], by: one})
 		}
 	}
 	return pairs

@@ -15,10 +15,10 @@ import (
 	"wagtenib/internal/watch/loglist"
 )
 
-// maxListed is the number of bytes of /log.v3.json at most.
+// maxListed is the maximum number of bytes of /log.v3.json.
 const maxListed = 1 << 20
 
-// readListed reads the entry of one tiled log (log list schema v3), as /log.v3.json has it.
+// readListed reads the entry of one tiled log (log list schema v3), in the form of /log.v3.json.
 func readListed(content []byte) (loglist.Log, error) {
 	tiled := map[string]any{"tiled_logs": []json.RawMessage{content}}
 	list, err := json.Marshal(map[string]any{"operators": []any{tiled}})
@@ -32,8 +32,8 @@ func readListed(content []byte) (loglist.Log, error) {
 	return found.Logs[0], nil
 }
 
-// ReadExpected reads what is expected of a log: a log list with one log (as `ctserve list-entry` writes it), or the
-// entry of one log. The error says which it is not.
+// ReadExpected reads the expected entry of a log: a log list with one log (as `ctserve list-entry` writes it), or only
+// the entry of one log.
 func ReadExpected(content []byte) (loglist.Log, error) {
 	list, err := loglist.Parse(content)
 	if err != nil {
@@ -45,7 +45,7 @@ func ReadExpected(content []byte) (loglist.Log, error) {
 	return list.Logs[0], nil
 }
 
-// lookSlowly looks at what a log changes seldom: its roots, and what it says of itself.
+// lookSlowly checks the answers of a log that seldom change: its roots and its entry in /log.v3.json.
 func (r *run) lookSlowly(ctx context.Context) {
 	r.lookAtListed(ctx)
 	if r.options.Roots != nil {
@@ -53,7 +53,7 @@ func (r *run) lookSlowly(ctx context.Context) {
 	}
 }
 
-// lookAtListed compares /log.v3.json with what is expected, and with the checkpoint.
+// lookAtListed compares /log.v3.json with the expected entry, and with the checkpoint.
 func (r *run) lookAtListed(ctx context.Context) {
 	content, ok := r.read(ctx, r.options.SubmissionURL+"/log.v3.json", maxListed)
 	if !ok {
@@ -82,16 +82,16 @@ func (r *run) lookAtListed(ctx context.Context) {
 	}
 	compare(CheckListedMergeDelay, listed.MaxMergeDelay, r.log.MaxMergeDelay)
 	compare(CheckListedURL, listed.URL, r.log.URL)
-	interval := func(of loglist.Log) string {
-		if of.Start.IsZero() && of.End.IsZero() {
+	interval := func(log loglist.Log) string {
+		if log.Start.IsZero() && log.End.IsZero() {
 			return "no interval"
 		}
-		return of.Start.UTC().Format(time.RFC3339) + " to " + of.End.UTC().Format(time.RFC3339)
+		return log.Start.UTC().Format(time.RFC3339) + " to " + log.End.UTC().Format(time.RFC3339)
 	}
 	compare(CheckListedInterval, interval(listed), interval(r.log))
 }
 
-// lookAtRoots compares get-roots with the roots that are wanted.
+// lookAtRoots checks that get-roots has the expected roots.
 func (r *run) lookAtRoots(ctx context.Context) {
 	content, ok := r.read(ctx, r.options.SubmissionURL+"/ct/v1/get-roots", maxBody)
 	if !ok {
@@ -108,21 +108,21 @@ func (r *run) lookAtRoots(ctx context.Context) {
 	for _, root := range answer.Certificates {
 		has[sha256.Sum256(root)] = true
 	}
-	lacking := 0
+	missing := 0
 	for _, root := range r.options.Roots {
 		if fingerprint := sha256.Sum256(root); !has[fingerprint] {
-			lacking++
+			missing++
 			r.recorder.fail(CheckRoots, map[string][]byte{"root": root},
 				"get-roots lacks the root with SHA-256 %x (%s)", fingerprint, subjectOf(root))
 		}
 	}
-	if lacking == 0 {
-		r.recorder.pass(CheckRoots, "%d roots, among them the %d that are wanted", len(answer.Certificates),
+	if missing == 0 {
+		r.recorder.pass(CheckRoots, "%d roots, among them the %d that are expected", len(answer.Certificates),
 			len(r.options.Roots))
 	}
 }
 
-// subjectOf returns the subject of a certificate in DER, for people.
+// subjectOf returns the subject of a certificate in DER, as text.
 func subjectOf(der []byte) string {
 	certificate, err := x509.ParseCertificate(der)
 	if err != nil {
@@ -131,8 +131,8 @@ func subjectOf(der []byte) string {
 	return certificate.Subject.String()
 }
 
-// read returns what is at an address, if the answer has status 200. Whatever else comes is counted by the meter, or
-// recorded as a fault of the log's entry.
+// read returns the content at an address, if the answer has status 200. The meter counts failed requests. Other answers
+// are not recorded here.
 func (r *run) read(ctx context.Context, address string, maxBytes int64) ([]byte, bool) {
 	request, err := http.NewRequestWithContext(ctx, http.MethodGet, address, nil)
 	if err != nil {

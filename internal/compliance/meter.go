@@ -19,7 +19,7 @@ import (
 	"wagtenib/internal/logclient"
 )
 
-// The kinds of requests whose answers have rules of their own. Each other kind has the name of its call.
+// The kinds of requests for which there are special rules. Each other kind has the name of its call.
 const (
 	kindCheckpoint = "checkpoint"
 	kindHashTile   = "hash tile"
@@ -29,24 +29,25 @@ const (
 )
 
 const (
-	// maxBody is the number of bytes of an answer that are read. No answer of a log that package logclient takes has
-	// more.
+	// maxBody is the maximum number of bytes of an answer that are read. Package logclient accepts no longer answer.
 	maxBody = 64 << 20
-	// maxTimes is the number of times of a call from which the percentiles are taken: the last ones.
-	maxTimes = 1 << 20
-	// minTileAge is how long a cache must be allowed to keep a full tile or an issuer, which never change.
+	// maxDurations is the number of the last durations of a call from which the percentiles are computed.
+	maxDurations = 1 << 20
+	// minTileAge is the minimum time for which a cache must be allowed to store full tiles and issuers, which never
+	// change.
 	minTileAge = 24 * time.Hour
-	// pageOrigin is what the requests say of the web page that asks, so that a log shows what it lets such pages read.
+	// pageOrigin is the origin of the web page that the requests pretend to be from, so that the answers show whether web
+	// pages may read them.
 	pageOrigin = "https://ct-probe.example"
 )
 
-// kindOf returns the kind of a request by its address, and whether it is of a partial tile.
+// kindOf returns the kind of a request by its path, and whether it is for a partial tile.
 func kindOf(path string) (kind string, isPartial bool) {
 	parts := strings.Split(strings.Trim(path, "/"), "/")
 	last := parts[len(parts)-1]
-	if at := slices.Index(parts, "tile"); at >= 0 && len(parts) > at+2 {
+	if position := slices.Index(parts, "tile"); position >= 0 && len(parts) > position+2 {
 		isPartial = strings.Contains(path, ".p/")
-		if parts[at+1] == "data" {
+		if parts[position+1] == "data" {
 			return kindDataTile, isPartial
 		}
 		return kindHashTile, isPartial
@@ -57,31 +58,31 @@ func kindOf(path string) (kind string, isPartial bool) {
 	return last, false
 }
 
-// mediaTypes are those of the answers (RFC 6962, section 4; C2SP static-ct-api).
+// mediaTypes holds the media types of answers other than JSON (RFC 6962, section 4; C2SP static-ct-api).
 var mediaTypes = map[string]string{kindCheckpoint: "text/plain", kindHashTile: "application/octet-stream",
 	kindDataTile: "application/octet-stream", kindIssuer: "application/pkix-cert"}
 
-// times are those of one kind of request.
-type times struct {
+// measurements holds the numbers and durations of one kind of request.
+type measurements struct {
 	requests, failed int
-	took             []time.Duration
+	durations        []time.Duration // of the answered requests, at most maxDurations
 	failures         map[string]int
 	lastFailure      string
 }
 
-// meter makes the requests of a probe. It counts and times the answers, and looks at their headers.
+// meter is a transport that makes the requests of a probe. It counts and times the answers, and judges their headers.
 type meter struct {
-	ctx           context.Context // of the whole probe
+	ctx           context.Context // the context of the whole probe
 	next          http.RoundTripper
 	clock         logclient.Clock
 	maxMergeDelay time.Duration
 
 	mutex    sync.Mutex
-	calls    map[string]*times
+	calls    map[string]*measurements // by the kind of request
 	recorder *recorder
 }
 
-// RoundTrip makes a request and reads its whole answer, so that its time is that of all of it.
+// RoundTrip makes a request and reads its whole answer, so that the measured time includes the body.
 func (m *meter) RoundTrip(request *http.Request) (*http.Response, error) {
 	request = request.Clone(request.Context())
 	request.Header.Set("Origin", pageOrigin)
@@ -94,19 +95,19 @@ func (m *meter) RoundTrip(request *http.Request) (*http.Response, error) {
 		response.Body.Close()
 		response.Body = io.NopCloser(bytes.NewReader(content))
 	}
-	took := m.clock.Now().Sub(began)
+	duration := m.clock.Now().Sub(began)
 	m.mutex.Lock()
 	defer m.mutex.Unlock()
 	failure := ""
 	switch {
 	case err != nil && m.ctx.Err() != nil:
-		return nil, err // (whoever runs the probe ended it, so it is no failure of the log)
+		return nil, err // The caller ended the probe, so this is not a failure of the log.
 	case err != nil:
 		failure = "no answer"
 	case response.StatusCode == http.StatusTooManyRequests || response.StatusCode >= http.StatusInternalServerError:
 		failure = fmt.Sprintf("status %d", response.StatusCode)
 	}
-	m.count(kind, failure, took)
+	m.count(kind, failure, duration)
 	if failure != "" {
 		m.calls[kind].lastFailure = fmt.Sprintf("%s: %s", m.clock.Now().UTC().Format(time.RFC3339),
 			cmp.Or(textOf(err), failure))
@@ -115,7 +116,7 @@ func (m *meter) RoundTrip(request *http.Request) (*http.Response, error) {
 		return nil, err
 	}
 	if response.StatusCode == http.StatusOK && request.Method == http.MethodGet {
-		m.look(kind, request.URL.Path, isPartial, response.Header)
+		m.judgeHeaders(kind, request.URL.Path, isPartial, response.Header)
 	}
 	return response, nil
 }
@@ -128,41 +129,41 @@ func textOf(err error) string {
 	return err.Error()
 }
 
-func (m *meter) count(kind, failure string, took time.Duration) {
-	of := m.calls[kind]
-	if of == nil {
-		of = &times{failures: map[string]int{}}
-		m.calls[kind] = of
+func (m *meter) count(kind, failure string, duration time.Duration) {
+	call := m.calls[kind]
+	if call == nil {
+		call = &measurements{failures: map[string]int{}}
+		m.calls[kind] = call
 	}
-	of.requests++
+	call.requests++
 	if failure != "" {
-		of.failed++
-		of.failures[failure]++
+		call.failed++
+		call.failures[failure]++
 		return
 	}
-	if len(of.took) < maxTimes {
-		of.took = append(of.took, took)
+	if len(call.durations) < maxDurations {
+		call.durations = append(call.durations, duration)
 	} else {
-		of.took[of.requests%maxTimes] = took
+		call.durations[call.requests%maxDurations] = duration
 	}
 }
 
-// look judges the headers of an answer with status 200.
-func (m *meter) look(kind, path string, isPartial bool, header http.Header) {
+// judgeHeaders judges the headers of an answer with status 200.
+func (m *meter) judgeHeaders(kind, path string, isPartial bool, header http.Header) {
 	if why := m.faultOfCaching(kind, isPartial, header.Get("Cache-Control")); why != "" {
 		m.recorder.fail(CheckCacheHeaders, nil, "%s: %s", path, why)
 	} else {
 		m.recorder.pass(CheckCacheHeaders, "%s: Cache-Control: %s", path, header.Get("Cache-Control"))
 	}
 	if allowed := header.Get("Access-Control-Allow-Origin"); allowed != "*" && allowed != pageOrigin {
-		m.recorder.fail(CheckCORS, nil, "%s: Access-Control-Allow-Origin is %q, and a page of %s reads nothing "+
-			"(answer *)", path, allowed, pageOrigin)
+		m.recorder.fail(CheckCORS, nil, "%s: Access-Control-Allow-Origin is %q, so a page of %s cannot read the answer "+
+			"(answer with *)", path, allowed, pageOrigin)
 	} else {
 		m.recorder.pass(CheckCORS, "%s: Access-Control-Allow-Origin: %s", path, allowed)
 	}
 	want := cmp.Or(mediaTypes[kind], "application/json")
 	if media, _, err := mime.ParseMediaType(header.Get("Content-Type")); err != nil || media != want {
-		m.recorder.fail(CheckContentType, nil, "%s: the media type is %q, and %s is due", path,
+		m.recorder.fail(CheckContentType, nil, "%s: the media type is %q, and %s is expected", path,
 			header.Get("Content-Type"), want)
 	} else {
 		m.recorder.pass(CheckContentType, "%s: %s", path, media)
@@ -172,21 +173,22 @@ func (m *meter) look(kind, path string, isPartial bool, header http.Header) {
 // faultOfCaching returns what is wrong with the Cache-Control of an answer, or "".
 func (m *meter) faultOfCaching(kind string, isPartial bool, text string) string {
 	if text == "" {
-		return "no Cache-Control, so each cache decides by itself how long it keeps the answer"
+		return "there is no Cache-Control, so each cache decides by itself how long it stores the answer"
 	}
 	age, mayKeep := maxAge(text)
 	isFixed := kind == kindIssuer || (kind == kindHashTile || kind == kindDataTile) && !isPartial
 	switch {
 	case isFixed && (!mayKeep || age < minTileAge):
-		return fmt.Sprintf("Cache-Control is %q, and this never changes (allow a day at least)", text)
+		return fmt.Sprintf("Cache-Control is %q, but this answer never changes (allow at least one day)", text)
 	case (kind == kindCheckpoint || kind == kindSTH) && mayKeep && age > m.maxMergeDelay:
-		return fmt.Sprintf("Cache-Control is %q, so a cache answers heads that are older than the merge delay of %v",
+		return fmt.Sprintf("Cache-Control is %q, so a cache can answer with heads that are older than the merge delay of %v",
 			text, m.maxMergeDelay)
 	}
 	return ""
 }
 
-// maxAge reads a Cache-Control (RFC 9111, section 5.2.2): whether a shared cache may keep the answer, and for how long.
+// maxAge reads a Cache-Control (RFC 9111, section 5.2.2). It returns whether a shared cache may store the answer, and
+// for how long.
 func maxAge(text string) (age time.Duration, mayKeep bool) {
 	shared := false
 	for _, part := range strings.Split(text, ",") {
@@ -204,40 +206,39 @@ func maxAge(text string) (age time.Duration, mayKeep bool) {
 	return age, mayKeep
 }
 
-// judge records whether each call was answered often and fast enough, and returns how each was answered.
+// judge records whether each call was answered often enough and fast enough, and returns the numbers of each call.
 func (m *meter) judge(bounds Bounds) (calls []Call) {
 	m.mutex.Lock()
 	defer m.mutex.Unlock()
 	for _, name := range slices.Sorted(maps.Keys(m.calls)) {
-		of := m.calls[name]
-		slices.Sort(of.took)
-		at := func(part float64) time.Duration {
-			if len(of.took) == 0 {
+		call := m.calls[name]
+		slices.Sort(call.durations)
+		percentile := func(part float64) time.Duration {
+			if len(call.durations) == 0 {
 				return 0
 			}
-			return of.took[int(math.Ceil(part*float64(len(of.took))))-1]
+			return call.durations[int(math.Ceil(part*float64(len(call.durations))))-1]
 		}
-		milliseconds := func(part float64) float64 { return float64(at(part).Microseconds()) / 1000 }
-		calls = append(calls, Call{Name: name, Requests: of.requests, Failed: of.failed, Median: milliseconds(0.5),
-			P95: milliseconds(0.95), P99: milliseconds(0.99), Longest: milliseconds(1), Failures: of.failures,
-			LastFailure: of.lastFailure})
-		// (one request may always fail: of few requests, one is more than the share)
-		allowed := max(1, int((1-bounds.Availability)*float64(of.requests)))
-		if share := 100 * float64(of.requests-of.failed) / float64(of.requests); of.failed > allowed {
+		milliseconds := func(part float64) float64 { return float64(percentile(part).Microseconds()) / 1000 }
+		calls = append(calls, Call{Name: name, Requests: call.requests, Failed: call.failed, Median: milliseconds(0.5),
+			P95: milliseconds(0.95), P99: milliseconds(0.99), Longest: milliseconds(1), Failures: call.failures,
+			LastFailure: call.lastFailure})
+		// One request may always fail: if there are few requests, one is more than the allowed share.
+		allowed := max(1, int((1-bounds.Availability)*float64(call.requests)))
+		if share := 100 * float64(call.requests-call.failed) / float64(call.requests); call.failed > allowed {
 			m.recorder.fail(CheckAvailability, nil, "%s: %.2f %% of %d requests were answered, and %.2f %% are "+
-				"asked for", name, share,
-				of.requests, 100*bounds.Availability)
+				"required", name, share, call.requests, 100*bounds.Availability)
 		} else {
-			m.recorder.pass(CheckAvailability, "%s: %.2f %% of %d requests were answered", name, share, of.requests)
+			m.recorder.pass(CheckAvailability, "%s: %.2f %% of %d requests were answered", name, share, call.requests)
 		}
-		if len(of.took) == 0 {
+		if len(call.durations) == 0 {
 			continue
 		}
-		if at(0.99) > bounds.Latency {
-			m.recorder.fail(CheckLatency, nil, "%s: 99 of 100 answers took up to %v, and %v is asked for", name,
-				at(0.99), bounds.Latency)
+		if percentile(0.99) > bounds.Latency {
+			m.recorder.fail(CheckLatency, nil, "%s: 99 of 100 answers took up to %v, and at most %v is allowed", name,
+				percentile(0.99), bounds.Latency)
 		} else {
-			m.recorder.pass(CheckLatency, "%s: 99 of 100 answers took up to %v", name, at(0.99))
+			m.recorder.pass(CheckLatency, "%s: 99 of 100 answers took up to %v", name, percentile(0.99))
 		}
 	}
 	return calls

@@ -14,7 +14,7 @@ import (
 	"wagtenib/internal/watch/audit"
 )
 
-// promise is what a log promised by an SCT, and what of it is still waited for.
+// promise holds an SCT, the entry that it promises, and which of its checks are done.
 type promise struct {
 	submission Submission
 	sct        audit.SCT
@@ -22,11 +22,11 @@ type promise struct {
 	until      time.Time // the end of the merge delay
 	leaf       []byte
 	hash       wagtenib.Hash
-	done       map[string]bool // the checks that are over
+	done       map[string]bool // the checks that are done
 }
 
-// waits are the checks that a promise waits for, in their order.
-var waits = []string{CheckSCTRepeat, CheckInclusionByTiles, CheckDataTile, CheckIssuers, CheckInclusionByHash,
+// promiseChecks holds the checks of a promise, in their order.
+var promiseChecks = []string{CheckSCTRepeat, CheckInclusionByTiles, CheckDataTile, CheckIssuers, CheckInclusionByHash,
 	CheckGetEntries, CheckMergeDelay}
 
 func (p *promise) keep(leaf []byte) {
@@ -37,21 +37,21 @@ func (p *promise) evidence() map[string][]byte {
 	return map[string][]byte{"sct": p.sct.Raw, "certificate": p.submission.Chain[0], "leaf": p.leaf}
 }
 
-// isOver reports whether nothing is waited for.
-func (p *promise) isOver() bool { return len(p.done) >= len(waits) }
+// isOver reports whether all checks are done.
+func (p *promise) isOver() bool { return len(p.done) >= len(promiseChecks) }
 
-// end ends the checks of a promise after one of them failed in a way that the others follow from.
+// end marks all checks of a promise as done, after a failure that makes the others fail too.
 func (p *promise) end() {
-	for _, name := range waits {
+	for _, name := range promiseChecks {
 		p.done[name] = true
 	}
 }
 
-// graceAfterDelay is how long after the merge delay the probe goes on to wait for an answer that shows an entry. It
-// outlasts the restart of a log.
+// graceAfterDelay is the time after the merge delay for which the probe still waits for an answer that shows an entry.
+// It is longer than a restart of a log.
 const graceAfterDelay = 30 * time.Second
 
-// isWaiting reports whether an SCT is still to be followed.
+// isWaiting reports whether the probe still waits for the entry of an SCT.
 func (r *run) isWaiting() bool {
 	now := r.clock.Now()
 	return slices.ContainsFunc(r.promises, func(p *promise) bool { return now.Before(p.until.Add(graceAfterDelay)) })
@@ -64,20 +64,20 @@ func (r *run) follow(ctx context.Context) {
 			r.repeat(ctx, p)
 		}
 		tiles, calls := r.endpoints[0], r.endpoints[1]
-		if !tiles.at.IsZero() {
+		if !tiles.received.IsZero() {
 			r.followTiles(ctx, p, tiles)
 		}
-		if !calls.at.IsZero() {
+		if !calls.received.IsZero() {
 			r.followCalls(ctx, p, calls)
 		}
-		for _, at := range r.endpoints {
-			r.judgeDelay(p, at)
+		for _, e := range r.endpoints {
+			r.judgeDelay(p, e)
 		}
 	}
 	r.promises = slices.DeleteFunc(r.promises, (*promise).isOver)
 }
 
-// repeat submits a chain again.
+// repeat submits a chain again, and compares the second SCT with the first.
 func (r *run) repeat(ctx context.Context, p *promise) {
 	again, ok := r.submit(ctx, p.submission)
 	if !ok {
@@ -99,17 +99,17 @@ func (r *run) repeat(ctx context.Context, p *promise) {
 	r.recorder.pass(CheckSCTRepeat, "entry %d, twice of %s", p.index, timeOf(again.Timestamp))
 }
 
-// followTiles looks for an entry by the tiles of a checkpoint.
-func (r *run) followTiles(ctx context.Context, p *promise, at *endpoint) {
-	head := at.last
+// followTiles looks for an entry in the tiles of a checkpoint.
+func (r *run) followTiles(ctx context.Context, p *promise, e *endpoint) {
+	head := e.last
 	if p.index >= head.TreeSize || p.done[CheckInclusionByTiles] && p.done[CheckDataTile] && p.done[CheckIssuers] {
 		return
 	}
-	entry, entryErr := at.reader.Entry(ctx, head, p.index)
+	entry, entryErr := e.reader.Entry(ctx, head, p.index)
 	if !p.done[CheckInclusionByTiles] {
-		_, path, err := at.reader.Place(ctx, head, p.hash, p.index)
+		_, path, err := e.reader.FindLeaf(ctx, head, p.hash, p.index)
 		if err != nil {
-			r.noteNonsense(p, CheckInclusionByTiles, err)
+			r.recordNonsense(p, CheckInclusionByTiles, err)
 			return
 		}
 		fault := wagtenib.VerifyInclusion(p.hash, p.index, head.TreeSize, path, head.Root)
@@ -119,7 +119,7 @@ func (r *run) followTiles(ctx context.Context, p *promise, at *endpoint) {
 			r.recorder.pass(CheckInclusionByTiles, "entry %d of %d", p.index, head.TreeSize)
 			r.recorder.pass(CheckSCTIndex, "entry %d", p.index)
 		case entryErr != nil:
-			return // (the entry decides which of the two checks failed)
+			return // Only with the entry can the probe decide which of the two checks failed.
 		case !bytes.Equal(entry.Leaf, p.leaf):
 			r.recorder.fail(CheckSCTIndex, p.evidence(), "the SCT names the index %d, and another entry is there",
 				p.index)
@@ -133,14 +133,15 @@ func (r *run) followTiles(ctx context.Context, p *promise, at *endpoint) {
 		}
 	}
 	if entryErr != nil {
-		r.noteNonsense(p, CheckDataTile, entryErr)
+		r.recordNonsense(p, CheckDataTile, entryErr)
 		return
 	}
 	r.judgeDataTile(ctx, p, entry)
 }
 
-// noteNonsense records an answer that is not of the form that was asked for. What does not come is asked for again.
-func (r *run) noteNonsense(p *promise, name string, err error) {
+// recordNonsense records a failure for an answer of the wrong form. If there was no answer, it does nothing, because
+// the probe asks again.
+func (r *run) recordNonsense(p *promise, name string, err error) {
 	for _, kind := range []error{logclient.ErrUnreachable, logclient.ErrBusy, logclient.ErrStatus, logclient.ErrTooSlow,
 		logclient.ErrNotFound, context.Canceled, context.DeadlineExceeded} {
 		if errors.Is(err, kind) {
@@ -151,7 +152,7 @@ func (r *run) noteNonsense(p *promise, name string, err error) {
 	r.recorder.fail(name, p.evidence(), "entry %d: %v", p.index, err)
 }
 
-// judgeDataTile compares an entry of a data tile with what was submitted, and fetches its issuers.
+// judgeDataTile compares an entry of a data tile with the submission, and fetches its issuers.
 func (r *run) judgeDataTile(ctx context.Context, p *promise, entry watch.Entry) {
 	if !p.done[CheckDataTile] {
 		p.done[CheckDataTile] = true
@@ -189,17 +190,17 @@ func (r *run) judgeDataTile(ctx context.Context, p *promise, entry watch.Entry) 
 	r.recorder.pass(CheckIssuers, "entry %d: %d issuers", p.index, len(entry.Fingerprints))
 }
 
-// followCalls looks for an entry by the calls of RFC 6962.
-func (r *run) followCalls(ctx context.Context, p *promise, at *endpoint) {
-	head := at.last
+// followCalls looks for an entry with the calls of RFC 6962.
+func (r *run) followCalls(ctx context.Context, p *promise, e *endpoint) {
+	head := e.last
 	if p.index >= head.TreeSize {
 		return
 	}
 	if !p.done[CheckInclusionByHash] {
-		index, path, err := at.reader.Place(ctx, head, p.hash, p.index)
+		index, path, err := e.reader.FindLeaf(ctx, head, p.hash, p.index)
 		if err != nil {
-			if !errors.Is(err, watch.ErrAbsent) { // (that one is asked for again, until the merge delay ends)
-				r.noteNonsense(p, CheckInclusionByHash, err)
+			if !errors.Is(err, watch.ErrAbsent) { // An absent entry may still be added until the merge delay ends.
+				r.recordNonsense(p, CheckInclusionByHash, err)
 			}
 			return
 		}
@@ -220,9 +221,9 @@ func (r *run) followCalls(ctx context.Context, p *promise, at *endpoint) {
 	if p.done[CheckGetEntries] {
 		return
 	}
-	entry, err := at.reader.Entry(ctx, head, p.index)
+	entry, err := e.reader.Entry(ctx, head, p.index)
 	if err != nil {
-		r.noteNonsense(p, CheckGetEntries, err)
+		r.recordNonsense(p, CheckGetEntries, err)
 		return
 	}
 	p.done[CheckGetEntries] = true
@@ -235,18 +236,18 @@ func (r *run) followCalls(ctx context.Context, p *promise, at *endpoint) {
 	r.recorder.pass(CheckGetEntries, "entry %d", p.index)
 }
 
-// judgeDelay judges whether a head that is later than an SCT by the merge delay has its entry.
-func (r *run) judgeDelay(p *promise, at *endpoint) {
-	if p.done[CheckMergeDelay] || at.at.IsZero() {
+// judgeDelay judges whether a head that is later than an SCT by more than the merge delay covers its entry.
+func (r *run) judgeDelay(p *promise, e *endpoint) {
+	if p.done[CheckMergeDelay] || e.received.IsZero() {
 		return
 	}
-	head := at.last
+	head := e.last
 	switch isLate := timeOf(head.Timestamp).After(p.until); {
 	case isLate && p.index >= head.TreeSize:
 		evidence := p.evidence()
 		evidence["head"] = head.Signed
 		r.recorder.fail(CheckMergeDelay, evidence, "%s of %s has %d leaves, and lacks entry %d, whose SCT is of %s",
-			at.name,
+			e.name,
 			timeOf(head.Timestamp), head.TreeSize, p.index, timeOf(p.sct.Timestamp))
 		p.end()
 	case p.done[CheckInclusionByTiles] || p.done[CheckInclusionByHash]:
@@ -256,9 +257,9 @@ func (r *run) judgeDelay(p *promise, at *endpoint) {
 	}
 }
 
-// giveUp records the checks of a promise for which no answer came.
+// giveUp records a failure for each check of a promise that is not done.
 func (r *run) giveUp(p *promise) {
-	for _, name := range waits {
+	for _, name := range promiseChecks {
 		if !p.done[name] {
 			r.recorder.fail(name, p.evidence(), "entry %d, whose SCT is of %s: no answer showed it until the end",
 				p.index,

@@ -45,8 +45,8 @@ const (
 	CheckLatency             = "latency"
 )
 
-// asked says for each check, in the order of a report, what is asked of the log.
-var asked = []struct{ name, asked string }{
+// requirements holds the name and the requirement of each check, in the order of a report.
+var requirements = []struct{ name, text string }{
 	{CheckWholeTime, "the probe looks at the log for the whole time that was asked for"},
 	{CheckSubmission, "add-chain and add-pre-chain answer each chain with an SCT (RFC 6962, sections 4.1 and 4.2)"},
 	{CheckSCTSignature, "each SCT has the log's ID, and is signed with the log's key over what was submitted (RFC " +
@@ -70,7 +70,7 @@ var asked = []struct{ name, asked string }{
 	{CheckSTHForward, "no answer to get-sth has a smaller tree or an earlier timestamp than one before it"},
 	{CheckConsistencyByTiles, "the hash tiles prove that all heads of both endpoints are of one history"},
 	{CheckConsistencyByCalls, "get-sth-consistency proves that all heads of both endpoints are of one history"},
-	{CheckRoots, "get-roots has each root that is wanted"},
+	{CheckRoots, "get-roots has each expected root"},
 	{CheckListed, "/log.v3.json is an entry of a log list of version 3"},
 	{CheckListedOrigin, "/log.v3.json has the submission prefix that the checkpoint's origin follows from (C2SP " +
 		"static-ct-api)"},
@@ -82,15 +82,15 @@ var asked = []struct{ name, asked string }{
 		"delay, and each other answer says how long"},
 	{CheckCORS, "web pages of other origins may read each answer (Access-Control-Allow-Origin)"},
 	{CheckContentType, "each answer has the media type that its specification names"},
-	{CheckAvailability, "of each call, the share that is answered is at least the one that is asked for"},
-	{CheckLatency, "99 of 100 answers to each call come within the time that is asked for"},
+	{CheckAvailability, "the share of answered requests of each call is at least the required one"},
+	{CheckLatency, "99 of 100 answers to each call come within the required time"},
 }
 
-// Verdict is what a check comes to.
+// Verdict is the outcome of a check.
 type Verdict string
 
-// The verdicts. A check for which the probe was given nothing to compare with is not asked for, and does not count. One
-// that was asked for and that nothing came under is missing, and counts as failed: nobody knows.
+// The verdicts. A check is NotAsked, and does not count, if the options do not have what it needs. A check that was
+// asked for and never tried is Missing. It counts as failed, because its outcome is unknown.
 const (
 	Passed   Verdict = "passed"
 	Failed   Verdict = "FAILED"
@@ -98,44 +98,44 @@ const (
 	NotAsked Verdict = "not asked"
 )
 
-// maxFaults is the number of faults of one check of which a report has the text.
+// maxFaults is the maximum number of faults of one check in a report.
 const maxFaults = 20
 
-// Fault is a breach: when it was seen, and what.
+// Fault describes a breach, and the time when it was seen.
 type Fault struct {
 	Time     time.Time         `json:"time"`
 	Text     string            `json:"text"`
-	Evidence map[string][]byte `json:"evidence,omitempty"` // signed heads, an SCT, a chain; in JSON base64
+	Evidence map[string][]byte `json:"evidence,omitempty"` // signed heads, an SCT, a chain; base64 in JSON
 }
 
-// Check is what was asked of the log under one name, and what was seen.
+// Check holds a requirement of the log, and what was seen.
 type Check struct {
 	Name    string    `json:"name"`
 	Asked   string    `json:"asked"`
 	Verdict Verdict   `json:"verdict"`
 	Tried   int       `json:"tried"`
 	Failed  int       `json:"failed"`
-	Seen    string    `json:"seen,omitempty"` // the last thing that was right
-	First   time.Time `json:"first"`          // when the check was tried first, and last
+	Seen    string    `json:"seen,omitempty"` // the last time that it passed, as text
+	First   time.Time `json:"first"`          // when the check was first and last tried
 	Last    time.Time `json:"last"`
 	Faults  []Fault   `json:"faults,omitempty"` // the first ones
 }
 
-// Call is how the log answered one kind of request. The times are in milliseconds.
+// Call holds the numbers of the answers to one kind of request. The times are in milliseconds.
 type Call struct {
 	Name     string  `json:"name"`
 	Requests int     `json:"requests"`
-	Failed   int     `json:"failed"` // no answer, a broken one, or status 429 or 500 and above
+	Failed   int     `json:"failed"` // no answer, an incomplete one, or status 429, 500 or above
 	Median   float64 `json:"median_ms"`
 	P95      float64 `json:"p95_ms"`
 	P99      float64 `json:"p99_ms"`
 	Longest  float64 `json:"longest_ms"`
-	// Failures counts the failures by what came instead of an answer.
+	// Failures counts the failures by their kind, for example "status 503".
 	Failures    map[string]int `json:"failures,omitempty"`
-	LastFailure string         `json:"last_failure,omitempty"` // when, and why
+	LastFailure string         `json:"last_failure,omitempty"` // the time and reason of the last failure
 }
 
-// Report is what a probe of a log comes to.
+// Report holds the outcome of a probe of a log.
 type Report struct {
 	Program       string    `json:"program"`
 	SubmissionURL string    `json:"submission_url"`
@@ -148,7 +148,7 @@ type Report struct {
 	Calls         []Call    `json:"calls"`
 }
 
-// Identity names the log that was looked at, and who said so.
+// Identity names the probed log, and the source of its key and maximum merge delay.
 type Identity struct {
 	Origin        string  `json:"origin"`
 	LogID         []byte  `json:"log_id"`
@@ -157,7 +157,7 @@ type Identity struct {
 	Source        string  `json:"source"`
 }
 
-// FailedChecks returns the names of the checks that failed or that nothing came under, in the order of the report.
+// FailedChecks returns the names of the checks that failed or are missing, in the order of the report.
 func (r Report) FailedChecks() (names []string) {
 	for _, check := range r.Checks {
 		if check.Verdict == Failed || check.Verdict == Missing {
@@ -173,37 +173,37 @@ func (r Report) JSON() ([]byte, error) {
 	return append(content, '\n'), err
 }
 
-// Text returns the report for people.
+// Text returns the report as text for people.
 func (r Report) Text() string {
-	var to strings.Builder
+	var text strings.Builder
 	verdict := "passed"
 	if !r.Passed {
 		verdict = "FAILED: " + strings.Join(r.FailedChecks(), ", ")
 	}
 	stamp := func(at time.Time) string { return at.UTC().Format("2006-01-02 15:04:05") }
-	fmt.Fprintf(&to, "%s: %s\n\n", r.Log.Origin, verdict)
-	fmt.Fprintf(&to, "submission prefix    %s\nmonitoring prefix    %s\n", r.SubmissionURL, r.MonitoringURL)
-	fmt.Fprintf(&to, "log ID               %x\nmaximum merge delay  %v s\n", r.Log.LogID, r.Log.MaxMergeDelay)
-	fmt.Fprintf(&to, "both are from        %s\n", r.Log.Source)
-	fmt.Fprintf(&to, "looked at            from %s to %s UTC, by %s\n\n", stamp(r.From), stamp(r.To), r.Program)
+	fmt.Fprintf(&text, "%s: %s\n\n", r.Log.Origin, verdict)
+	fmt.Fprintf(&text, "submission prefix    %s\nmonitoring prefix    %s\n", r.SubmissionURL, r.MonitoringURL)
+	fmt.Fprintf(&text, "log ID               %x\nmaximum merge delay  %v s\n", r.Log.LogID, r.Log.MaxMergeDelay)
+	fmt.Fprintf(&text, "both are from        %s\n", r.Log.Source)
+	fmt.Fprintf(&text, "looked at            from %s to %s UTC, by %s\n\n", stamp(r.From), stamp(r.To), r.Program)
 	for _, check := range r.Checks {
-		fmt.Fprintf(&to, "%-10s %-22s %s\n", check.Verdict, check.Name, check.Asked)
+		fmt.Fprintf(&text, "%-10s %-22s %s\n", check.Verdict, check.Name, check.Asked)
 		if check.Tried > 0 {
-			fmt.Fprintf(&to, "%33s tried %d times, failed %d, from %s to %s\n", "", check.Tried, check.Failed,
+			fmt.Fprintf(&text, "%33s tried %d times, failed %d, from %s to %s\n", "", check.Tried, check.Failed,
 				stamp(check.First),
 				stamp(check.Last))
 		}
 		if check.Seen != "" {
-			fmt.Fprintf(&to, "%33s last seen right: %s\n", "", check.Seen)
+			fmt.Fprintf(&text, "%33s last seen right: %s\n", "", check.Seen)
 		}
 		for _, fault := range check.Faults {
-			fmt.Fprintf(&to, "%33s %s %s\n", "", stamp(fault.Time), fault.Text)
+			fmt.Fprintf(&text, "%33s %s %s\n", "", stamp(fault.Time), fault.Text)
 		}
 	}
-	fmt.Fprintf(&to, "\n%-20s %9s %7s %9s %9s %9s %9s\n", "milliseconds", "requests", "failed", "median", "95 %",
+	fmt.Fprintf(&text, "\n%-20s %9s %7s %9s %9s %9s %9s\n", "milliseconds", "requests", "failed", "median", "95 %",
 		"99 %", "longest")
 	for _, call := range r.Calls {
-		fmt.Fprintf(&to, "%-20s %9d %7d %9.1f %9.1f %9.1f %9.1f", call.Name, call.Requests, call.Failed, call.Median,
+		fmt.Fprintf(&text, "%-20s %9d %7d %9.1f %9.1f %9.1f %9.1f", call.Name, call.Requests, call.Failed, call.Median,
 			call.P95, call.P99,
 			call.Longest)
 		var reasons []string
@@ -212,29 +212,29 @@ func (r Report) Text() string {
 		}
 		slices.Sort(reasons)
 		for _, reason := range reasons {
-			fmt.Fprintf(&to, "  %d times %s", call.Failures[reason], reason)
+			fmt.Fprintf(&text, "  %d times %s", call.Failures[reason], reason)
 		}
 		if call.LastFailure != "" {
-			fmt.Fprintf(&to, "; the last one at %s", call.LastFailure)
+			fmt.Fprintf(&text, "; the last one at %s", call.LastFailure)
 		}
-		fmt.Fprintln(&to)
+		fmt.Fprintln(&text)
 	}
-	return to.String()
+	return text.String()
 }
 
-// recorder collects what is seen under each check.
+// recorder collects the outcomes of each check.
 type recorder struct {
 	now    func() time.Time
 	mutex  sync.Mutex
 	checks map[string]*Check
-	unused map[string]bool // the checks for which the probe was given nothing
+	unused map[string]bool // the checks that are not asked for
 	notify func(name string, fault Fault)
 }
 
 func newRecorder(now func() time.Time, notify func(string, Fault)) *recorder {
 	r := &recorder{now: now, checks: map[string]*Check{}, unused: map[string]bool{}, notify: notify}
-	for _, one := range asked {
-		r.checks[one.name] = &Check{Name: one.name, Asked: one.asked}
+	for _, one := range requirements {
+		r.checks[one.name] = &Check{Name: one.name, Asked: one.text}
 	}
 	return r
 }
@@ -248,20 +248,20 @@ func (r *recorder) tried(name string) *Check {
 	return check
 }
 
-// pass records that something was right.
-func (r *recorder) pass(name, form string, words ...any) {
+// pass records that a check passed once.
+func (r *recorder) pass(name, format string, values ...any) {
 	r.mutex.Lock()
 	defer r.mutex.Unlock()
-	r.tried(name).Seen = fmt.Sprintf(form, words...)
+	r.tried(name).Seen = fmt.Sprintf(format, values...)
 }
 
-// fail records a breach.
-func (r *recorder) fail(name string, evidence map[string][]byte, form string, words ...any) {
+// fail records that a check failed once.
+func (r *recorder) fail(name string, evidence map[string][]byte, format string, values ...any) {
 	r.mutex.Lock()
 	defer r.mutex.Unlock()
 	check := r.tried(name)
 	check.Failed++
-	fault := Fault{check.Last, fmt.Sprintf(form, words...), evidence}
+	fault := Fault{check.Last, fmt.Sprintf(format, values...), evidence}
 	if len(check.Faults) < maxFaults {
 		check.Faults = append(check.Faults, fault)
 	}
@@ -275,7 +275,7 @@ func (r *recorder) all() (checks []Check, passed bool) {
 	r.mutex.Lock()
 	defer r.mutex.Unlock()
 	passed = true
-	for _, one := range asked {
+	for _, one := range requirements {
 		check := *r.checks[one.name]
 		switch {
 		case check.Failed > 0:

@@ -24,7 +24,7 @@ import (
 // mergeDelay is the maximum merge delay of the log of these tests.
 const mergeDelay = time.Minute
 
-// virtualClock is a clock that moves if somebody waits, and with each request.
+// virtualClock is a clock that advances only by waits and requests.
 type virtualClock struct {
 	mutex sync.Mutex
 	now   time.Time
@@ -43,8 +43,8 @@ func (c *virtualClock) Wait(ctx context.Context, d time.Duration) error {
 	return ctx.Err()
 }
 
-// server is a log as it should be, over x/mod's tlog, with what a test plants into it. It answers in this process, and
-// its time is the virtual one.
+// server is a correct log, built on tlog of x/mod, with the faults that a test plants. It answers in this process, and
+// uses the virtual clock.
 type server struct {
 	t       *testing.T
 	clock   *virtualClock
@@ -59,14 +59,14 @@ type server struct {
 	planted planted
 }
 
-// planted are the breaches of a server. Those that are nil are none.
+// planted holds the functions that make a server breach its rules. Each of them may be nil.
 type planted struct {
-	publishes func(s *server) bool      // whether it signs a head now
-	size      func(s *server) uint64    // of the head that it signs
-	timestamp func(s *server) time.Time // of an SCT
+	publishes func(s *server) bool      // reports whether the server signs a head now
+	size      func(s *server) uint64    // returns the size of the head that the server signs
+	timestamp func(s *server) time.Time // returns the timestamp of an SCT
 	sct       func(s *server, number int,
-		sct map[string]any) // changes the SCT of this number, from 1
-	before func(s *server, w http.ResponseWriter, r *http.Request) bool        // answers in its place
+		sct map[string]any) // changes the SCT with this number, which counts from 1
+	before func(s *server, w http.ResponseWriter, r *http.Request) bool        // answers instead, if it returns true
 	after  func(s *server, r *http.Request, answer *httptest.ResponseRecorder) // changes an answer
 }
 
@@ -88,7 +88,7 @@ func newServer(t *testing.T, roots ...[]byte) *server {
 		roots:   roots, listed: listed, count: map[string]int{}}
 }
 
-// RoundTrip answers a request. Each takes 5 ms of the virtual time.
+// RoundTrip answers a request. Each request takes 5 ms of virtual time.
 func (s *server) RoundTrip(r *http.Request) (*http.Response, error) {
 	s.clock.mutex.Lock()
 	s.clock.now = s.clock.now.Add(5 * time.Millisecond)
@@ -110,7 +110,7 @@ func (s *server) RoundTrip(r *http.Request) (*http.Response, error) {
 	return response, nil
 }
 
-// publish signs a head each second.
+// publish signs a head if the last one is a second old.
 func (s *server) publish() {
 	now := s.clock.Now()
 	if now.Sub(s.signed) < time.Second || s.planted.publishes != nil && !s.planted.publishes(s) {
@@ -157,7 +157,7 @@ func (s *server) write(w http.ResponseWriter, answer any) {
 	}
 }
 
-// add answers a submission. The entry of a precertificate is made by certificate-transparency-go.
+// add answers a submission. It makes the entry of a precertificate with certificate-transparency-go.
 func (s *server) add(w http.ResponseWriter, r *http.Request, isPrecertificate bool) {
 	var body struct {
 		Chain [][]byte `json:"chain"`
@@ -167,11 +167,11 @@ func (s *server) add(w http.ResponseWriter, r *http.Request, isPrecertificate bo
 		http.Error(w, "no chain", http.StatusBadRequest)
 		return
 	}
-	at := s.clock.Now()
+	timestamp := s.clock.Now()
 	if s.planted.timestamp != nil {
-		at = s.planted.timestamp(s)
+		timestamp = s.planted.timestamp(s)
 	}
-	entry := testlog.Entry{Timestamp: uint64(at.UnixMilli()), Certificate: body.Chain[0], Chain: body.Chain[1:]}
+	entry := testlog.Entry{Timestamp: uint64(timestamp.UnixMilli()), Certificate: body.Chain[0], Chain: body.Chain[1:]}
 	first, err := x509.ParseCertificate(body.Chain[0])
 	if err != nil {
 		s.t.Error(err)
@@ -203,7 +203,7 @@ func (s *server) add(w http.ResponseWriter, r *http.Request, isPrecertificate bo
 	s.write(w, answer)
 }
 
-// sctOf returns an SCT as add-chain answers it (RFC 6962, section 4.1).
+// sctOf returns an SCT in the form of an answer to add-chain (RFC 6962, section 4.1).
 func (s *server) sctOf(entry testlog.Entry, index uint64) map[string]any {
 	sct := s.log.SCT(entry, index)
 	const fixed = 1 + 32 + 8 + 2
@@ -213,12 +213,12 @@ func (s *server) sctOf(entry testlog.Entry, index uint64) map[string]any {
 		"signature":  sct[fixed+extensions:]}
 }
 
-// replace gives an answer other bytes and leaves its headers.
+// replace replaces the body of an answer, and leaves its headers.
 func replace(answer *httptest.ResponseRecorder, content []byte) {
 	answer.Body = bytes.NewBuffer(content)
 }
 
-// list returns the log's entry as a log list has it.
+// list returns a log list with only this log.
 func (s *server) list() []byte {
 	content, err := json.Marshal(map[string]any{"operators": []any{map[string]any{"name": "an operator",
 		"tiled_logs": []any{s.listed}}}})
@@ -234,7 +234,7 @@ func (s *server) id() []byte {
 	return id[:]
 }
 
-// signWithout signs an SCT of the newest entry that has no extensions.
+// signWithout replaces the signature of an SCT for the newest entry with one over a leaf without extensions.
 func (s *server) signWithout(sct map[string]any) {
 	index := s.log.Size() - 1
 	for fingerprint, at := range s.indexes {
@@ -242,7 +242,7 @@ func (s *server) signWithout(sct map[string]any) {
 			continue
 		}
 		leaf := s.known[fingerprint].MerkleLeaf(index)
-		leaf = append(leaf[:len(leaf)-10:len(leaf)-10], 0, 0) // (8 bytes of extensions and their length)
+		leaf = append(leaf[:len(leaf)-10:len(leaf)-10], 0, 0) // The extensions are 8 bytes, after 2 bytes of length.
 		signed := s.log.SCT(testlog.Entry{Leaf: leaf}, index)
 		sct["extensions"], sct["signature"] = "", signed[1+32+8+2+8:]
 	}

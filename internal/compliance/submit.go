@@ -12,25 +12,25 @@ import (
 	"wagtenib/internal/watch/audit"
 )
 
-// maxAnswer is the number of bytes of an answer to a submission at most.
+// maxAnswer is the maximum number of bytes of an answer to a submission.
 const maxAnswer = 64 << 10
 
-// Submission is a chain, and the entry that it becomes.
+// Submission holds a chain, and the entry that a log makes of it.
 type Submission struct {
 	Call   string   // "add-chain" or "add-pre-chain"
 	Chain  [][]byte // DER, the certificate or precertificate first
-	Header []byte   // the entry's type, and of a precertificate the hash of its issuer's key
+	Header []byte   // the entry's type and, for a precertificate, the hash of its issuer's key
 	Entry  []byte   // the certificate, or the TBSCertificate of the precertificate's entry
-	Old    bool     // the log may have it already, so the SCT's timestamp may be an old one
+	Old    bool     // the log may already have the entry, so the SCT's timestamp may be old
 }
 
-// Submitter makes what a probe submits.
+// Submitter makes the chains that a probe submits.
 type Submitter interface {
-	// Next returns the next chain. The certificate ends from `start` on and before `end` if these are not zero.
+	// Next returns the next chain. The certificate expires at `start` or later, and before `end`, if these are not zero.
 	Next(now, start, end time.Time) (Submission, error)
 }
 
-// submitNext submits the next chain, and keeps what the log promised.
+// submitNext submits the next chain, and adds the log's promise to r.promises.
 func (r *run) submitNext(ctx context.Context) {
 	submission, err := r.options.Submitter.Next(r.clock.Now(), r.log.Start, r.log.End)
 	if err != nil {
@@ -58,12 +58,12 @@ func (r *run) submitNext(ctx context.Context) {
 	r.promises = append(r.promises, p)
 }
 
-// submit submits a chain, and returns the SCT that the log answers with. A log that refuses a chain with another status
-// than one of a busy or failed server breaches the check; the meter counts the others.
+// submit submits a chain, and returns the SCT of the answer. If the log refuses the chain, it records a failure of the
+// check. The meter counts the answers of a busy or failed server.
 func (r *run) submit(ctx context.Context, submission Submission) (audit.SCT, bool) {
 	body, err := json.Marshal(map[string][][]byte{"chain": submission.Chain})
 	if err != nil {
-		panic(err) // (bytes can always be written)
+		panic(err) // Bytes can always be encoded.
 	}
 	address := r.options.SubmissionURL + "/ct/v1/" + submission.Call
 	request, err := http.NewRequestWithContext(ctx, http.MethodPost, address, bytes.NewReader(body))
@@ -84,8 +84,8 @@ func (r *run) submit(ctx context.Context, submission Submission) (audit.SCT, boo
 		return audit.SCT{}, false
 	case status != http.StatusOK:
 		r.recorder.fail(CheckSubmission, map[string][]byte{"chain": body},
-			"%s: status %d: %.200q (is the root among the log's, and the end in "+
-				"its interval?)", submission.Call, status, content)
+			"%s: status %d: %.200q (check that the log accepts the root, and that its interval contains the expiry date)",
+			submission.Call, status, content)
 		return audit.SCT{}, false
 	}
 	scts, err := audit.ReadSCTs(content)
@@ -96,7 +96,7 @@ func (r *run) submit(ctx context.Context, submission Submission) (audit.SCT, boo
 	return scts[0], true
 }
 
-// judgeSignature checks that an SCT for what was promised is the log's. It keeps the leaf that the SCT is of.
+// judgeSignature checks that the log signed an SCT for a submission. It stores the leaf that the SCT promises in p.
 func (r *run) judgeSignature(p *promise, sct *audit.SCT) bool {
 	evidence := map[string][]byte{"sct": sct.Raw, "certificate": p.submission.Chain[0]}
 	if sct.LogID != r.log.ID {
@@ -119,13 +119,13 @@ func (r *run) judgeSignature(p *promise, sct *audit.SCT) bool {
 
 // judgeTimestamp compares the timestamp of a new SCT with the time at which the chain was submitted.
 func (r *run) judgeTimestamp(p *promise, asked time.Time) bool {
-	at, now := timeOf(p.sct.Timestamp), r.clock.Now()
-	if at.After(now.Add(maxSkew)) || !p.submission.Old && at.Before(asked.Add(-maxSkew)) {
+	timestamp, now := timeOf(p.sct.Timestamp), r.clock.Now()
+	if timestamp.After(now.Add(maxSkew)) || !p.submission.Old && timestamp.Before(asked.Add(-maxSkew)) {
 		r.recorder.fail(CheckSCTTimestamp, p.evidence(),
-			"the SCT is of %s, and the chain was submitted from %s to %s", at,
+			"the SCT is of %s, and the chain was submitted from %s to %s", timestamp,
 			asked.UTC().Format(time.RFC3339Nano), now.UTC().Format(time.RFC3339Nano))
 		return false
 	}
-	r.recorder.pass(CheckSCTTimestamp, "%s, submitted at %s", at, asked.UTC().Format(time.RFC3339Nano))
+	r.recorder.pass(CheckSCTTimestamp, "%s, submitted at %s", timestamp, asked.UTC().Format(time.RFC3339Nano))
 	return true
 }

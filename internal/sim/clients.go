@@ -10,15 +10,16 @@ import (
 	"wagtenib/internal/node/step"
 )
 
-// certificateOf returns the certificate of a number. Nobody here reads it, so any bytes serve.
+// certificateOf returns the certificate with a number. The simulation does not parse it, so it may be any bytes.
 func certificateOf(number int) []byte { return fmt.Appendf(nil, "certificate %d", number) }
 
-// identityOf returns the identity of a number's entry: SHA-256 over the type and the certificate.
+// identityOf returns the identity of the entry with a number: the SHA-256 hash of the type and the certificate.
 func identityOf(number int) [32]byte {
 	return sha256.Sum256(append([]byte{0, 0}, certificateOf(number)...))
 }
 
-// requestWithin is how long a client waits for an answer, and tries how often it submits one entry.
+// requestWithin is the maximum time for which a client waits for an answer. tries is the maximum number of times that
+// it submits one entry.
 const (
 	requestWithin = 20 * time.Second
 	tries         = 3
@@ -26,8 +27,8 @@ const (
 
 var errUnreachable = errors.New("sim: the node does not run")
 
-// submit has a client submit a number to a machine, and returns once it is answered, or the node dies, or the client
-// gives up.
+// submit submits a number to a machine for a client. It returns after the node has answered or was killed, or the
+// client has given up.
 func (w *world) submit(m *machine, number int) error {
 	p, n := m.process, m.node
 	if p == nil || p.dead || n == nil {
@@ -49,7 +50,7 @@ func (w *world) submit(m *machine, number int) error {
 	return err
 }
 
-// serve does what an HTTP handler does with a submission: it looks the entry up, and has it wait for a step if the log
+// serve handles a submission as an HTTP handler does: it looks up the entry, and lets it wait for a step if the log
 // does not have it.
 func (w *world) serve(m *machine, n *node.Node, number int) error {
 	ctx, cancel := within(w.background(), requestWithin)
@@ -84,7 +85,7 @@ func (w *world) serve(m *machine, n *node.Node, number int) error {
 	return fmt.Errorf("sim: entry %d is known and is not found", number)
 }
 
-// answers gives a client its answer, and judges it.
+// answers logs and judges the answer to a client.
 func (w *world) answers(m *machine, number int, place node.Place) {
 	w.log("client", fmt.Sprintf("entry %d", number), fmt.Sprintf("%s answers %d at %d ms", m.name, place.Index,
 		place.Timestamp), "")
@@ -100,7 +101,7 @@ func isClosed(done <-chan struct{}) bool {
 	}
 }
 
-// client submits its numbers, each some times until it is answered.
+// client submits its numbers. It submits each number up to `tries` times, until it is answered.
 func (w *world) client(c Client, done func()) {
 	defer done()
 	w.wait(c.Begins, nil)

@@ -7,53 +7,55 @@ import (
 	"time"
 )
 
-// scheduler runs coroutines one at a time. The seed chooses which of those that can run is next, and time passes only
-// while none can.
+// scheduler runs coroutines one at a time. The seed decides which of the coroutines that can run is next. Time passes
+// only while none of them can run.
 type scheduler struct {
 	random  *rand.Rand
 	now     time.Duration
 	all     []*coroutine
 	current *coroutine
-	// idle are coroutines that ended, and run the next function: their stacks need not grow again.
+	// idle holds coroutines that ended. They run the next functions, so that their stacks need not grow again.
 	idle []*coroutine
-	// switches counts how often a coroutine was resumed.
+	// switches is the number of times that a coroutine was resumed.
 	switches int
 }
 
-// process is all coroutines of one run of a node. A kill ends it.
+// process is one run of a node, with all of its coroutines. A kill ends it.
 type process struct {
 	name string
 	dead bool
-	// pausedUntil is until when the process is paused.
+	// pausedUntil is the time until which the process is paused.
 	pausedUntil time.Duration
 	// unread is the text of the lock that the process's own swap put there, if it has not read the lock since.
 	unread string
-	// known is what the process must know of the lock.
+	// known holds what the process must know about the lock.
 	known known
 }
 
-// coroutine is one of a process, or of the world if it has none.
+// coroutine is a coroutine of a process, or of the world if it has no process.
 type coroutine struct {
 	of    *process
 	do    func()
 	next  func() (struct{}, bool)
 	stop  func()
 	yield func(struct{}) bool
-	// at is when the coroutine continues at the latest. until is the condition for which it waits before that, or nil.
+	// at is the latest time at which the coroutine continues. until is the condition for which it waits before that, or
+	// nil.
 	at       time.Duration
 	until    func() bool
 	happened bool
-	// ended says that the function has ended, and unwound that it did not return: then the coroutine runs no other one.
+	// ended is set after the function has ended. unwound is set if it did not return; the coroutine then runs no other
+	// one.
 	ended, unwound bool
 }
 
-// killed is what unwinds a coroutine whose process is dead.
+// killed is the value of the panic that unwinds a coroutine whose process is dead.
 type killed struct{}
 
 // forever is later than any history.
 const forever = time.Duration(1<<63 - 1)
 
-// spawn makes a coroutine, which begins at the next switch.
+// spawn makes a coroutine, which can run from the next switch on.
 func (s *scheduler) spawn(of *process, do func()) *coroutine {
 	var c *coroutine
 	if last := len(s.idle) - 1; last >= 0 {
@@ -88,8 +90,8 @@ func (c *coroutine) carryOut() (returned bool) {
 	return true
 }
 
-// wait stops the current coroutine until a condition holds, or for a while. It reports whether the condition held. All
-// that takes time in a history is this call.
+// wait stops the current coroutine until a condition holds, but at most for a time. It reports whether the condition
+// held. In a history, only this call takes time.
 func (s *scheduler) wait(long time.Duration, until func() bool) bool {
 	c := s.current
 	if c.of != nil && c.of.dead {
@@ -105,7 +107,7 @@ func (s *scheduler) wait(long time.Duration, until func() bool) bool {
 	return c.happened
 }
 
-// canRun reports whether a coroutine goes on now.
+// canRun reports whether a coroutine can continue now.
 func (s *scheduler) canRun(c *coroutine) bool {
 	if c.of != nil && c.of.pausedUntil > s.now {
 		return false
@@ -113,7 +115,7 @@ func (s *scheduler) canRun(c *coroutine) bool {
 	return c.at <= s.now || c.until != nil && c.until()
 }
 
-// run goes on until the end returns true, no coroutine is left, or time is over.
+// run runs coroutines until `end` returns true, or none of them can continue before the time `most`.
 func (s *scheduler) run(most time.Duration, end func() bool) {
 	defer s.stopAll()
 	var ready []*coroutine
@@ -144,7 +146,7 @@ func (s *scheduler) run(most time.Duration, end func() bool) {
 	}
 }
 
-// wakes returns when a coroutine continues only because of the time.
+// wakes returns the time at which a coroutine continues, if its condition does not hold before.
 func (s *scheduler) wakes(c *coroutine) time.Duration {
 	if c.of != nil && c.of.pausedUntil > s.now {
 		return max(c.of.pausedUntil, min(c.at, forever))
@@ -181,8 +183,7 @@ func (s *scheduler) stopAll() {
 	s.all, s.idle = nil, nil
 }
 
-// simulated is a context in virtual time. It has no channel, so nothing but the simulation's calls can wait for its
-// end.
+// simulated is a context in virtual time. It has no channel, so only the simulation's calls can wait for its end.
 type simulated struct {
 	context.Context
 	world    *scheduler
@@ -191,12 +192,12 @@ type simulated struct {
 	ended    error
 }
 
-// background is the context of a process.
+// background returns a context without a deadline.
 func (s *scheduler) background() *simulated {
 	return &simulated{Context: context.Background(), world: s, deadline: forever}
 }
 
-// within returns a context that ends after a while, or by the function.
+// within returns a context that ends after a time, or when the function is called.
 func within(ctx context.Context, long time.Duration) (*simulated, context.CancelFunc) {
 	before := ctx.(*simulated)
 	inner := &simulated{Context: before.Context, world: before.world, before: before, deadline: before.world.now + long}
@@ -209,7 +210,7 @@ func (c *simulated) end(why error) {
 	}
 }
 
-// Err returns why the context has ended, or nil.
+// Err returns the reason why the context has ended, or nil if it has not.
 func (c *simulated) Err() error {
 	if c.ended == nil && c.deadline <= c.world.now {
 		c.ended = context.DeadlineExceeded
@@ -220,10 +221,10 @@ func (c *simulated) Err() error {
 	return c.ended
 }
 
-// Deadline says that there is none in real time.
+// Deadline reports that there is no deadline in real time.
 func (c *simulated) Deadline() (time.Time, bool) { return time.Time{}, false }
 
-// left is for how long the context lasts by its deadlines.
+// left returns the time until the first deadline of the context and its parents.
 func (c *simulated) left() time.Duration {
 	left := forever
 	for at := c; at != nil; at = at.before {
@@ -234,13 +235,13 @@ func (c *simulated) left() time.Duration {
 	return left
 }
 
-// sleep waits for a while, and returns the context's error if it ends before.
+// sleep waits for a time, and returns the context's error if the context ends before.
 func (s *scheduler) sleep(ctx *simulated, long time.Duration) error {
 	s.wait(min(long, max(ctx.left(), 0)), func() bool { return ctx.Err() != nil })
 	return ctx.Err()
 }
 
-// parallel calls functions side by side in coroutines of the current process, as node.Machine.Parallel must.
+// parallel calls functions at the same time, in coroutines of the current process. It implements node.Machine.Parallel.
 func (s *scheduler) parallel(ctx context.Context, all ...func(context.Context) error) error {
 	inner, cancel := within(ctx, forever-s.now-1)
 	defer cancel()

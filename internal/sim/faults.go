@@ -14,11 +14,11 @@ import (
 	"wagtenib/internal/stores"
 )
 
-// befalls has a fault happen at a call of a machine. It returns the fault if that is the outcome of this call. Any
-// other fault changes the world before the call.
+// befalls lets a fault happen at a call of a machine. It returns the fault if the fault decides the outcome of this
+// call. Any other fault changes the world before the call.
 func (w *world) befalls(m *machine, f Fault, store string) *Fault {
 	if store == "memory" && (f.Kind == CallHangs || f.Kind == DoneLate || f.Kind == AnswersLate) {
-		// A disk of the machine's own either works or fails.
+		// The machine's own disk either works or fails.
 		f.Kind = CallFails
 	}
 	if f.Kind <= KilledAfter {
@@ -32,7 +32,7 @@ func (w *world) befalls(m *machine, f Fault, store string) *Fault {
 	return nil
 }
 
-// happens has a fault happen that is not one call's, and reports whether there was something that it could change.
+// happens lets a fault happen that does not concern only one call. It reports whether the fault changed something.
 func (w *world) happens(m *machine, f Fault) bool {
 	switch f.Kind {
 	case Paused:
@@ -63,7 +63,7 @@ func (w *world) happens(m *machine, f Fault) bool {
 	return true
 }
 
-// loses has a store lose what it acknowledged, and reports whether there was something to lose.
+// loses lets a store lose something that it acknowledged. It reports whether there was something to lose.
 func (w *world) loses(m *machine, f Fault) bool {
 	happened := false
 	switch f.Kind {
@@ -78,13 +78,13 @@ func (w *world) loses(m *machine, f Fault) bool {
 	case HeadForged:
 		happened = w.forgesHead(f.Count)
 		if happened && w.isPublished() {
-			// The newest staged batch has what is signed, so the log must go on.
+			// The newest staged batch has what is signed, so the log must continue.
 			return true
 		}
 	case HeadSwapped:
 		happened = w.swapsHead(f.Count)
 	case EdgeBent:
-		// The newest staged batch has the right one, so the log must go on.
+		// The newest staged batch has the right tile, so the log must continue.
 		return w.bendsEdge()
 	case IndexLost:
 		happened = w.losesPlaces(w.events.calls - 10*f.Count)
@@ -98,7 +98,7 @@ func (w *world) loses(m *machine, f Fault) bool {
 	case LockGone:
 		happened = w.losesLock(f.Count)
 	case StepLost:
-		// The newest staged batch has all of it, so the log must go on.
+		// The newest staged batch has all of it, so the log must continue.
 		return w.losesStep()
 	default:
 		happened = w.rollsBack(f)
@@ -107,7 +107,7 @@ func (w *world) loses(m *machine, f Fault) bool {
 	return happened
 }
 
-// losesNewest takes away the object that was put last.
+// losesNewest removes the object that was put last.
 func (w *world) losesNewest() bool {
 	changes := w.stores.changes[objectsPart]
 	for i := len(changes) - 1; i >= 0; i-- {
@@ -120,7 +120,7 @@ func (w *world) losesNewest() bool {
 	return false
 }
 
-// losesLock takes the lock's text away. Half of the engines do not know any more that there was a lock.
+// losesLock removes the lock's text. Half of the engines also forget that there was a lock.
 func (w *world) losesLock(which int) bool {
 	s := &w.stores
 	happened := s.text != ""
@@ -128,8 +128,8 @@ func (w *world) losesLock(which int) bool {
 	return happened
 }
 
-// losesStep has the power fail: all nodes are killed, and the store loses what was put of the newest state since it was
-// decided, if that is published and its staged batch is there.
+// losesStep simulates a power failure, if the newest state is published and its staged batch is in the store. All nodes
+// are killed, and the store loses the tiles and heads that were put since the state was decided.
 func (w *world) losesStep() bool {
 	k := cells(w.stores.text)
 	if k == nil || !w.isPublished() || w.judge.newest.Timestamp != k.timestamp || w.judge.newest.Size != k.size ||
@@ -148,7 +148,7 @@ func (w *world) losesStep() bool {
 	return true
 }
 
-// bends changes a byte of an object that is no head.
+// bends changes a byte of a tile or a staged batch.
 func (w *world) bends(which int) bool {
 	names := append(w.stores.list("tile/", ""), w.stores.list("staging/", "")...)
 	if len(names) == 0 {
@@ -171,11 +171,11 @@ func (w *world) bendsByte(name string, at int) {
 	w.excuses.missing, w.bentAt = true, w.now
 }
 
-// forgesHead has the newest head of the store be one that the log's key never signed, in one of three ways.
+// forgesHead replaces the newest head of the store with one that the log's key never signed, in one of three ways.
 func (w *world) forgesHead(which int) bool {
 	names := w.stores.list("heads/", "")
 	if len(names) < 2 {
-		// A store all of whose heads are another key's is one of another log.
+		// A store in which another key signed all heads is the store of another log.
 		return false
 	}
 	name := names[len(names)-1]
@@ -196,7 +196,7 @@ func (w *world) forgesHead(which int) bool {
 		if err != nil {
 			return false
 		}
-		// The key's number, and all of its signature but the timestamp.
+		// This changes the key's ID, and all of the signature except the timestamp.
 		for i := range blob {
 			if i < 4 || i >= 12 {
 				blob[i] ^= 1
@@ -209,7 +209,7 @@ func (w *world) forgesHead(which int) bool {
 	return true
 }
 
-// swapsHead gives the newest head the content of an older one.
+// swapsHead replaces the content of the newest head with that of an older one.
 func (w *world) swapsHead(which int) bool {
 	names := w.stores.list("heads/", "")
 	if len(names) < 2 {
@@ -242,25 +242,25 @@ func (w *world) bendsEdge() bool {
 	return true
 }
 
-// isPublished reports whether the newest head is published by the lock. A node may not put another content over an
-// object of a state that is not: the lock may have been rolled back.
+// isPublished reports whether the newest head is published according to the lock. A node may not replace the content of
+// an object of an unpublished state, because the lock may have been rolled back.
 func (w *world) isPublished() bool {
 	newest := stores.Published{Size: w.judge.newest.Size, Timestamp: w.judge.newest.Timestamp}
 	return w.stores.published == newest
 }
 
-// bentEdge is a partial tile that the store has bent, and its right content.
+// bentEdge holds the name of a partial tile that the store damaged, and its right content.
 type bentEdge struct {
 	name    string
 	content []byte
 }
 
-// isBent reports whether the store still has it bent.
+// isBent reports whether the tile in the store is still damaged.
 func (b bentEdge) isBent(s *memory) bool {
 	return b.name != "" && !bytes.Equal(s.objects[b.name], b.content)
 }
 
-// losesPlaces rolls the index back, and nothing else. An identity whose place is lost may get one more entry.
+// losesPlaces rolls back only the index. An identity whose place is lost may get one more entry.
 func (w *world) losesPlaces(call int) bool {
 	for _, c := range w.stores.changes[indexPart] {
 		if c.call > call {
@@ -270,7 +270,7 @@ func (w *world) losesPlaces(call int) bool {
 	return w.stores.rollBack(indexPart, call)
 }
 
-// misplaces gives an identity the place of another entry.
+// misplaces replaces the place of an identity with that of another entry.
 func (w *world) misplaces(which int) bool {
 	ids := make([]stores.Identity, 0, len(w.stores.index))
 	for id := range w.stores.index {
@@ -288,7 +288,7 @@ func (w *world) misplaces(which int) bool {
 	return true
 }
 
-// rollsBack sets parts of the stores back by the same time.
+// rollsBack rolls parts of the stores back by the same number of calls.
 func (w *world) rollsBack(f Fault) bool {
 	of := map[Kind][]part{
 		ObjectsRolledBack: {objectsPart}, LockRolledBack: {lockPart}, GuardRolledBack: {guardPart},
@@ -297,14 +297,13 @@ func (w *world) rollsBack(f Fault) bool {
 		AllRolledBack: {objectsPart, lockPart, guardPart, indexPart},
 	}[f.Kind]
 	if f.Kind == AllRolledBack && !w.allRemember() && len(w.observers) == 0 {
-		// Nothing would show a machine that did not accept the newest head that all stores are old together
-		// (OPERATING.md, "Backup").
+		// A machine that did not accept the newest head could not see that all stores are old (OPERATING.md, "Backup").
 		return false
 	}
 	unput := w.unputHead()
 	waits := f.Kind == LockAndGuardRolledBack && unput != nil
 	if waits && len(w.observers) == 0 {
-		// A node that did not see that head would put one of another list (OPERATING.md, "Backup").
+		// A node that did not see that head would put a head of another list (OPERATING.md, "Backup").
 		return false
 	}
 	happened := false
@@ -327,8 +326,8 @@ func (w *world) rollsBack(f Fault) bool {
 	return happened
 }
 
-// stopsAll ends all nodes, as an operator does before the stores are put back. With witnesses the machines are rolled
-// back as well, and only the witnesses show it.
+// stopsAll ends all nodes, as an operator does before the stores are restored. If the log has witnesses, the machines
+// lose their memories too, so that only the witnesses show the rollback.
 func (w *world) stopsAll() {
 	isWitnessed := len(w.observers) > 0
 	w.killsAll()
@@ -349,11 +348,12 @@ func (w *world) killsAll() {
 	}
 }
 
-// listedWithin is how long before the end of its swap a node may have listed the heads (maxUnlisted in internal/node).
+// listedWithin is the maximum time between a node's listing of the heads and the end of its swap (maxUnlisted in
+// internal/node).
 const listedWithin = 100 * time.Millisecond
 
-// unputHead returns the head that the guard approved last if it is not in the store, or was put so late that a node that
-// swaps may have listed the heads before, and nil otherwise.
+// unputHead returns the head that the guard approved last if it is not in the store, or was put so late that a node
+// that swaps may have listed the heads before. Otherwise it returns nil.
 func (w *world) unputHead() *signer.Head {
 	guard, err := signer.ReadState(w.stores.guard)
 	if err != nil || guard.Last() == nil {
@@ -367,8 +367,8 @@ func (w *world) unputHead() *signer.Head {
 	return last
 }
 
-// allRemember reports whether every machine's memory has the newest head: the newest one that was put, or one that is
-// signed and may be put late.
+// allRemember reports whether the memories of all machines have the newest head: the newest one that was put, or one
+// that is signed and may be put late.
 func (w *world) allRemember() bool {
 	newest := w.judge.newest.Timestamp
 	if unput := w.unputHead(); unput != nil {

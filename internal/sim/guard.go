@@ -20,7 +20,7 @@ import (
 	"wagtenib/internal/witness"
 )
 
-// keyDER is the SubjectPublicKeyInfo of the log's key in all histories. logKey signs in its place.
+// keyDER is the SubjectPublicKeyInfo of the log's key in all histories. logKey signs instead of this key.
 var (
 	keyDER = newKey()
 	logKey = standIn(keyDER)
@@ -36,8 +36,8 @@ func newKey() []byte {
 	return der
 }
 
-// standIn signs in place of a private key: its signatures are hashes, which cost a hundredth of a real signature. No
-// fault of a history makes such a hash, so a signature that is one was made by the signer.
+// standIn signs instead of a private key. Its signatures are hashes, which cost a hundredth of a real signature. No
+// fault of a history makes such a hash, so the signer must have made such a signature.
 type standIn []byte
 
 // sign returns the signature of a message. It has 64 bytes, and is the same each time.
@@ -51,7 +51,7 @@ func (s standIn) sign(message []byte) []byte {
 // isSigned reports whether a signature is this key's over a message.
 func (s standIn) isSigned(message, signed []byte) bool { return bytes.Equal(s.sign(message), signed) }
 
-// verifier verifies the signatures of notes that a stand-in made.
+// verifier verifies signatures of notes that a stand-in made.
 type verifier struct {
 	note.Verifier
 	isSigned func(text, signature []byte) bool
@@ -69,14 +69,14 @@ var ownVerifier = verifier{witness.OfRFC6962(Origin, keyDER), func(text, signatu
 		Root: root}), signature[8:])
 }}
 
-// Verifier is what a node verifies the log's signatures of notes by.
+// Verifier returns the verifier with which a node verifies the log's signatures of notes.
 func (g *guarded) Verifier() note.Verifier { return ownVerifier }
 
-// salted is how many bytes at the beginning of a signature of the log's key are its salt. Signatures of one message
-// differ, as those by ECDSA do.
+// salted is the length of the salt at the beginning of a signature of the log's key, in bytes. With it, signatures of
+// one message differ, as ECDSA signatures do.
 const salted = 8
 
-// sign returns the DigitallySigned of a message (RFC 5246, section 4.7), by a salt.
+// sign returns the DigitallySigned of a message (RFC 5246, section 4.7) with a salt.
 func sign(salt, message []byte) []byte {
 	signature := append(bytes.Clone(salt), logKey.sign(append(bytes.Clone(salt), message...))[salted:]...)
 	return append(binary.BigEndian.AppendUint16([]byte{4, 3}, uint16(len(signature))), signature...)
@@ -93,17 +93,17 @@ func (g *guarded) sign(message []byte) []byte {
 	return sign(binary.BigEndian.AppendUint64(nil, g.m.w.stores.signatures), message)
 }
 
-// headMessage is what is signed of a tree head (RFC 6962, section 3.5).
+// headMessage returns the bytes of a tree head that are signed (RFC 6962, section 3.5).
 func headMessage(head signer.Head) []byte {
 	message := binary.BigEndian.AppendUint64([]byte{0, 1}, head.Timestamp)
 	return append(binary.BigEndian.AppendUint64(message, head.Size), head.Root[:]...)
 }
 
-// guarded is the signer of a machine: the key behind the proved guard, over a state in the lock's engine
-// (docs/GUARD.md).
+// guarded implements the signer of a machine. It signs only what the proved guard approves. The guard's state is in the
+// lock's engine (docs/GUARD.md).
 type guarded struct {
 	m *machine
-	// busy says that a call is at work: the signer takes one at a time.
+	// busy is set during a call, because the signer handles one call at a time.
 	busy bool
 	// seen is the newest state that this process saw.
 	seen signer.State
@@ -114,10 +114,10 @@ func (g *guarded) Key() []byte { return keyDER }
 // IsGuarded reports that there is a guard.
 func (g *guarded) IsGuarded() bool { return true }
 
-// signerWithin is how long one call of the signer may take.
+// signerWithin is the maximum time for one call of the signer.
 const signerWithin = 4 * time.Second
 
-// turn waits until no other call is at work, and returns the context of this one.
+// turn waits until no other call is running, and returns the context for this call, and the function that ends it.
 func (g *guarded) turn(ctx context.Context) (*simulated, func(), error) {
 	inner, cancel := within(ctx, signerWithin)
 	if !g.m.w.wait(max(inner.left(), 0), func() bool { return !g.busy }) {
@@ -128,7 +128,7 @@ func (g *guarded) turn(ctx context.Context) (*simulated, func(), error) {
 	return inner, func() { g.busy = false; cancel() }, nil
 }
 
-// state reads the guard's state, which must not be rolled back.
+// state reads the guard's state. It returns an error if the state was rolled back.
 func (g *guarded) state(ctx context.Context) (state signer.State, err error) {
 	text := ""
 	err = g.m.call(ctx, "guard", "read", false, func() error {
@@ -160,8 +160,8 @@ func (g *guarded) Last(ctx context.Context) (*signer.Head, error) {
 	return state.Last(), nil
 }
 
-// SignHead signs a head that the guard approves, after the lock's engine has the guard's new state. Before the first
-// head with leaves it gets that of the empty tree.
+// SignHead signs a head that the guard approves, after the guard's new state is in the lock's engine. Before the first
+// head with leaves, the guard's state gets the head of the empty tree.
 func (g *guarded) SignHead(ctx context.Context, head signer.Head, consistency [][32]byte) ([]byte, error) {
 	inner, done, err := g.turn(ctx)
 	if err != nil {
@@ -239,7 +239,7 @@ func (g *guarded) SignTimestamps(ctx context.Context, receipts []signer.Receipt)
 	})
 }
 
-// signApproved signs leaves if the guard approves them over its state.
+// signApproved signs leaves if the guard approves them with its current state.
 func (g *guarded) signApproved(ctx context.Context, leaves [][]byte, approve func(signer.State) error) ([][]byte, error) {
 	inner, done, err := g.turn(ctx)
 	if err != nil {

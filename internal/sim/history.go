@@ -6,13 +6,13 @@ import (
 	"time"
 )
 
-// history is what happened, as lines that a person can read. They are kept only if they are asked for.
+// history holds the events of a history as lines for people. They are recorded only if they were asked for.
 type history struct {
 	isKept bool
 	lines  []string
 }
 
-// log adds a line: who did what, with which outcome, and the fault that befell it.
+// log adds a line: the actor, its action, the outcome, and the fault that happened at it.
 func (w *world) log(who, what, outcome, fault string) {
 	if !w.history.isKept {
 		return
@@ -41,9 +41,9 @@ func (w *world) logCall(n int, who, store, what string, err error, fault string)
 
 // Violation is a rule of the judge that a history broke.
 type Violation struct {
-	// Rule is the rule's name, and Text says what broke it.
+	// Rule is the name of the rule, and Text says what broke it.
 	Rule, Text string
-	// At is when, in virtual time.
+	// At is the virtual time of the violation.
 	At time.Duration
 }
 
@@ -51,7 +51,7 @@ func (v *Violation) Error() string {
 	return fmt.Sprintf("%v: rule %q: %s", v.At, v.Rule, v.Text)
 }
 
-// format writes a history that broke a rule.
+// format returns a history that broke a rule as text.
 func format(plan Plan, lines []string, v *Violation) string {
 	return fmt.Sprintf("%v\n%s\n%v\n", plan, strings.Join(lines, "\n"), v)
 }

@@ -20,26 +20,26 @@ import (
 	"wagtenib/internal/stores"
 )
 
-// judge looks at each object as it is put, at each head as it is signed, and at each answer as it is given. It has one
+// judge checks each object when it is put, each head when it is signed, and each answer when it is given. It has one
 // list of leaves, which only grows. It uses none of the code that it judges.
 type judge struct {
 	w         *world
 	violation *Violation
-	// knownList is the list under the largest head that was put.
+	// knownList is the list of leaves under the largest head that was put.
 	knownList
-	// newest is the newest head that was put, raised what was published furthest, and tiles has what was put of each
-	// tile.
+	// newest is the newest head that was put. raised is how far the log was published at most. tiles holds the contents
+	// that were put of each tile.
 	newest, checkpoint signer.Head
 	raised             stores.Published
 	tiles              map[string]*puts
-	// standing are all heads that were put, in that order.
+	// standing holds all heads that were put, in the order in which they were put.
 	standing []standing
 	counts   [kinds]int
 	stats    Stats
 }
 
-// allows reports whether an identity may get a second entry: the index lost its place, or has a wrong one, since the
-// last one.
+// allows reports whether an identity may get a second entry, because the index has lost its place or has a wrong one
+// since the last entry.
 func (e *excuses) allows(identity [32]byte) bool {
 	if e.again[identity] {
 		delete(e.again, identity)
@@ -48,11 +48,12 @@ func (e *excuses) allows(identity [32]byte) bool {
 	return e.repeats
 }
 
-// Stats are the numbers of a history.
+// Stats holds the numbers of a history.
 type Stats struct {
 	Calls, Switches, Starts int
 	Published
-	// Answers and Repeats count what clients got, and Reads what readers got.
+	// Answers is the number of all answers to clients, and Repeats that of answers from the index. Reads is the number of
+	// heads that readers got.
 	Answers, Repeats, Reads int
 	Tidied
 	Contended
@@ -61,23 +62,23 @@ type Stats struct {
 // Published counts what was published.
 type Published struct{ Heads, Cosigned, Entries, Checkpoints int }
 
-// Contended counts how nodes met. Unknown swaps did not say whether they were done. Remembered counts swaps that a node
-// made from a text that it had put there itself and not read since, and Overtaken those of them that were lost. Late
-// counts heads that were put after the lock had got a later text.
+// Contended counts how nodes met. Lost counts lost swaps, and Unknown those that did not say whether they were done.
+// Remembered counts swaps that a node made from a text that it had put there itself and had not read since, and
+// Overtaken those of them that were lost. Late counts heads that were put after the lock had got a later text.
 type Contended struct{ Lost, Unknown, Remembered, Overtaken, Late int }
 
-// Tidied counts what the janitors deleted and read again.
+// Tidied counts the objects that the janitors deleted and read again.
 type Tidied struct{ Deleted, Partials, OldHeads, Staged, Reread int }
 
 // leaf is an entry of the list.
 type leaf struct {
-	// tile is its TileLeaf, merkle its MerkleTreeLeaf, and hash the hash of that one.
+	// tile is the entry's TileLeaf, merkle its MerkleTreeLeaf, and hash the hash of the MerkleTreeLeaf.
 	tile, merkle, hash []byte
 	identity           [32]byte
 	timestamp          uint64
 }
 
-// knownList is a growing list of leaves, with the root of each size up to theirs.
+// knownList is a growing list of leaves, with the root of each size up to its own.
 type knownList struct {
 	leaves     []leaf
 	roots      [][32]byte
@@ -92,7 +93,7 @@ func newJudge(w *world) *judge {
 	return &judge{w: w, knownList: list, tiles: map[string]*puts{}}
 }
 
-// breaks keeps the first violation.
+// breaks records a violation of a rule. Only the first one is kept.
 func (j *judge) breaks(rule, what string, of ...any) {
 	if j.violation == nil {
 		j.violation = &Violation{Rule: rule, Text: fmt.Sprintf(what, of...), At: j.w.now}
@@ -146,10 +147,10 @@ func (j *judge) putHead(name, note string) {
 	j.stats.Heads++
 }
 
-// isNext judges whether a head that is put may come after the newest one.
+// isNext judges whether a head that is put may follow the newest one.
 func (j *judge) isNext(head signer.Head, name string) {
-	// Witnesses remember trees, and not their timestamps. So if all else was rolled back to an earlier head of a tree that
-	// they saw, a head with more entries may be as early as one of that tree, or earlier.
+	// Witnesses remember trees, but not their timestamps. If everything else was rolled back to an earlier head of a tree
+	// that they saw, the timestamp of a head with more entries may be that of a head of this tree, or earlier.
 	isSmaller := head.Timestamp > j.newest.Timestamp && head.Size < j.newest.Size
 	isEarlier := head.Timestamp <= j.newest.Timestamp && head.Size > j.newest.Size
 	isExcused := isEarlier && j.w.excuses.signed
@@ -173,7 +174,7 @@ func (j *judge) putCheckpoint(name string, content []byte) {
 	}
 	before := j.checkpoint
 	if j.w.excuses.missing {
-		// It may have been rolled back with the other objects. If there is none, no head was before.
+		// It may have been rolled back with the other objects. If there is none, there was no head before.
 		before, _ = readNote(string(j.w.stores.checkpoint))
 	}
 	if head.Size < before.Size || head.Timestamp <= before.Timestamp {
@@ -206,8 +207,8 @@ func (j *judge) signs(m *machine, head signer.Head) {
 	}
 }
 
-// swaps judges a step on which the lock decides: it is made of the text before, whose head is published, and its staged
-// batch is in the store.
+// swaps judges a step when the lock decides it: the step is made from the text before, whose head is published, and its
+// staged batch is in the store.
 func (j *judge) swaps(by *process, old, new string) {
 	before, after := cells(old), cells(new)
 	if before == nil || after == nil {
@@ -234,16 +235,16 @@ func (j *judge) swaps(by *process, old, new string) {
 	j.takes(by, before, after)
 }
 
-// takes judges whether the process that swaps the lock may take a step. A node that started since the log was rolled
-// back with its machines may not, since the witnesses saw more.
+// takes judges whether the process that swaps the lock may make a step. A node that started after the log was rolled
+// back with its machines may not, because the witnesses saw more.
 func (j *judge) takes(by *process, before, after *cell) {
 	if j.w.excuses.signed && !by.dead && !before.isBegin() && before.size < j.newest.Size {
 		j.breaks("an old log takes nothing", "the lock gets the text of %d entries, and a head of %d was published",
 			after.size, j.newest.Size)
 	}
 	if after.size == before.size && j.w.edge.isBent(&j.w.stores) {
-		// A node that has the tile in its memory makes a step without entries. The newest staged batch has the tile no
-		// more, so a node that has to read it cannot go on until a step has entries.
+		// A node that has the tile in its memory makes a step without entries. The newest staged batch then no longer has the
+		// tile, so a node that must read it cannot continue until a step has entries.
 		j.w.excuses.loss = true
 	}
 }
@@ -275,8 +276,8 @@ func cells(text string) *cell {
 	return c
 }
 
-// raises judges how far the lock says that the log is published: the head is in the store, and the checkpoint is that
-// head or a later one.
+// raises judges a change of how far the log is published according to the lock: the head is in the store, and the
+// checkpoint is that head or a later one.
 func (j *judge) raises(p stores.Published) {
 	if j.raised.Before(p) {
 		j.raised = p
@@ -292,14 +293,14 @@ func (j *judge) raises(p stores.Published) {
 	}
 }
 
-// shows judges which head a machine says to be published: its node put that, or read it.
+// shows judges a head that a machine says to be published: its node put that head, or read it.
 func (j *judge) shows(m *machine, p stores.Published) {
 	if name := headName(signer.Head{Size: p.Size, Timestamp: p.Timestamp}); !m.process.known.seen[name] {
 		j.breaks("a published head was seen", "%s says that %s is published, and neither put nor read it", m.name, name)
 	}
 }
 
-// creates judges a lock that a machine makes: it may not have found one gone from a log that has heads.
+// creates judges a lock that a machine creates: the machine must not have found the lock gone while the log had heads.
 func (j *judge) creates(m *machine, isGone bool) {
 	if isGone {
 		j.breaks("a lock that is gone is not made again", "%s makes one, and the store had heads when it found none", m.name)
@@ -327,9 +328,9 @@ func (j *judge) answered(m *machine, number int, index, timestamp uint64, signed
 	}
 }
 
-// alarms judges why a node does not start, or refuses a submission: it must not say that the log lost something, or was
-// rolled back, if no store lost anything and no witness says so. It must not say that the signer refused a timestamp
-// either if the guard's state is still the same as when the submission came.
+// alarms judges the reason why a node does not start, or refuses a submission. The node must not say that the log lost
+// something, or was rolled back, if no store lost anything and no witness gives a wrong answer. It must not say that
+// the signer refused a timestamp if the guard's state has not changed since the submission.
 func (j *judge) alarms(m *machine, err error, isStill bool) {
 	if j.w.excuses.loss || j.w.excuses.missing || j.counts[WitnessSays]+j.counts[StepLost] > 0 {
 		return

@@ -34,29 +34,28 @@ const (
 	ClockForward
 	ClockBack
 	// WitnessSays: a witness answers wrongly. WitnessRolledBack: a witness forgets what it cosigned last, if the log's
-	// quorums bear that.
+	// quorums tolerate this.
 	WitnessSays
 	WitnessRolledBack
-	// PutLost: a put is acknowledged, and the object is not there. From here on the faults are losses: a store does not
-	// keep what it acknowledged. A history has at most one of these, since two may be a loss that no node can see.
+	// PutLost: a put is acknowledged, but the object is not stored. This fault and the following ones are losses: a store
+	// loses something that it acknowledged. A history has at most one of these, because no node may be able to see two.
 	PutLost
 	// NewestLost: the newest object of the store is gone.
 	NewestLost
-	// ObjectBent: an object has another content. HeadForged: the newest head is one that the key never signed: a byte of
-	// its signature is another one, or its root is, or another key signed it.
+	// ObjectBent: an object has another content. HeadForged: the log's key never signed the newest head. A byte of its
+	// signature was changed, or its root, or another key signed it.
 	ObjectBent
 	HeadForged
-	// HeadSwapped: the newest head has the content of another head. EdgeBent: a tile at the edge of the newest head's
-	// tree has another content, of which the newest staged batch has the right one.
+	// HeadSwapped: the newest head has the content of another head. EdgeBent: a tile at the right edge of the newest
+	// head's tree has another content. The newest staged batch has the right one.
 	HeadSwapped
 	EdgeBent
-	// IndexLost: some of the newest places are gone from the index. IndexWrong: a place is another entry's.
+	// IndexLost: the index lost some of its newest places. IndexWrong: a place in the index is that of another entry.
 	IndexLost
 	IndexWrong
 	// MemoryLost: the machine's memory is gone, and the node is killed.
 	MemoryLost
-	// The stores are rolled back to an earlier state: the objects, the lock, the guard's state, two of these together,
-	// or all.
+	// Stores are rolled back to an earlier state: the objects, the lock, the guard's state, two of these together, or all.
 	ObjectsRolledBack
 	LockRolledBack
 	GuardRolledBack
@@ -64,10 +63,10 @@ const (
 	ObjectsAndLockRolledBack
 	ObjectsAndGuardRolledBack
 	AllRolledBack
-	// LockGone: the lock's text is gone. Half of the engines do not know any more that there was a lock.
+	// LockGone: the lock's text is gone. Half of the engines also forget that there was a lock.
 	LockGone
-	// StepLost: the power fails. All nodes are killed, and the store loses all that was put of the newest state, of which
-	// the staged batch is left. So nothing is lost for good, and a history may have more than one.
+	// StepLost: the power fails. All nodes are killed, and the store loses all objects of the newest state except its
+	// staged batch. Everything can be restored from that, so a history may have more than one of these faults.
 	StepLost
 
 	kinds
@@ -87,16 +86,16 @@ func (k Kind) String() string { return kindNames[k] }
 
 // Fault happens at one call of the history.
 type Fault struct {
-	// At is the number of the call, from 1 on, of all calls of all nodes. On is how the call begins, and Of is the number
-	// of the machine that makes it, from 1 on, or 0 if any may. The fault happens at the first such call from At on, and
-	// not before the time After.
+	// At is the number of the call, which counts all calls of all nodes from 1. On is the beginning of the call. Of is the
+	// number of the machine that makes the call, which counts from 1, or 0 for any machine. The fault happens at the first
+	// such call from At on, and not before the time After.
 	At    int
 	On    string
 	Of    int
 	After time.Duration
 	Kind  Kind
-	// Long is for how long it lasts, or by how much a clock is set, and Count for how many calls, in tens, a store is
-	// rolled back, or which object is meant.
+	// Long is the duration of the fault, or the time by which a clock is changed. Count is the number of calls, in tens,
+	// by which a store is rolled back, or selects an object.
 	Long  time.Duration
 	Count int
 }

@@ -9,21 +9,21 @@ import (
 	"wagtenib/internal/node"
 )
 
-// known is what one run of a node must know of the lock.
+// known holds what one run of a node must know about the lock.
 type known struct {
-	// old is a text that the node must know to be old, and why says how it knows that.
+	// old is a text that the node must know to be old, and why says from what it knows this.
 	old, why string
 	// newest is the newest text that the node read.
 	newest *cell
-	// heard is when the node was last answered by the lock, or by a list of the heads.
+	// heard is the time of the last answer to the node from the lock, or of the last listing of the heads.
 	heard time.Duration
-	// seen has the names of the heads that the node put, or read.
+	// seen holds the names of the heads that the node put or read.
 	seen map[string]bool
-	// isGone says that the lock was gone when the node read it last, and that the store had heads then.
+	// isGone is set if the node found no lock when it last found none, and the store had heads at that time.
 	isGone bool
 }
 
-// sees keeps that the store has a head, if an object is one under its name.
+// sees records that the node saw a head, if an object is a head with its right name.
 func (of *known) sees(name string, content []byte) {
 	if !strings.HasPrefix(name, "heads/") {
 		return
@@ -36,20 +36,20 @@ func (of *known) sees(name string, content []byte) {
 	}
 }
 
-// lookBack is for how long a node may not have heard of the lock, until it must look for heads that are later than what
-// it reads.
+// lookBack is the maximum time without an answer from the lock. After a longer time, a node must look for heads that
+// are later than the text that it reads.
 const lookBack = 3 * time.Second
 
-// begins is called before the machine's node reads the lock. A node that refuses the newest text may go on from an
-// earlier one, if that comes back.
+// begins is called before the machine's node reads the lock. A node that refuses the newest text may continue from an
+// earlier one, if the lock has that again.
 func (m *machine) begins() {
 	if n := m.node; n != nil && errors.Is(n.Fault(), node.ErrRolledBack) {
 		m.process.known.newest = nil
 	}
 }
 
-// finds says why a node that reads a text of the lock now must know that it is old, or nothing. If the store has a later
-// head than the text, a node that did not hear of the lock for a while must see that.
+// finds returns the reason why a node that reads a text of the lock now must know that the text is old, or "". If the
+// store has a later head than the text, a node that got no answer from the lock for a while must see this.
 func (m *machine) finds(text string) string {
 	k, listed := cells(text), m.w.listed()
 	if k == nil || m.node == nil || m.w.now-m.process.known.heard <= lookBack ||
@@ -59,7 +59,8 @@ func (m *machine) finds(text string) string {
 	return "the store had a later head when it read that after a while"
 }
 
-// read keeps the newest text that was read, and one of which the node must know, for a reason, that it is old.
+// read records the newest text that was read. If there is a reason, it also records that the node must know that the
+// text is old.
 func (of *known) read(text, why string) {
 	if why != "" {
 		of.old, of.why = text, why
@@ -69,10 +70,10 @@ func (of *known) read(text, why string) {
 	}
 }
 
-// isBefore reports whether a state has fewer entries, or is earlier.
+// isBefore reports whether a state has fewer entries than a size, or is earlier than a timestamp.
 func (c *cell) isBefore(size, timestamp uint64) bool { return c.size < size || c.timestamp < timestamp }
 
-// isOld says why the process must know that a text of the lock is old, or nothing.
+// isOld returns the reason why the process must know that a text of the lock is old, or "".
 func (of *known) isOld(text string) string {
 	if text == of.old {
 		return of.why

@@ -10,38 +10,39 @@ import (
 	"wagtenib/internal/witness"
 )
 
-// Client submits one after the other. A number that another client or an earlier one had is a repeated chain.
+// Client submits entries by their numbers, one after the other. A number that a client has submitted before is a
+// duplicate.
 type Client struct {
 	Begins  time.Duration
 	Machine int
 	Numbers []int
-	// Burst says that all numbers are submitted at once.
+	// If Burst is set, all numbers are submitted at once.
 	Burst bool
 }
 
-// The calls that are answered late in haste.
+// The values of Plan.Haste: the beginnings of the calls of which half are answered late.
 const (
 	lateLookups = "index: find"
 	lateHeads   = "objects: get heads/"
 )
 
-// Plan is a history before it runs. Everything else follows from Seed.
+// Plan describes a history before it runs. Seed decides everything else.
 type Plan struct {
 	Seed      int64
 	Machines  int
 	Witnesses Witnesses
-	// Janitors says that each node has a janitor beside it.
+	// If Janitors is set, a janitor runs with each node.
 	Janitors bool
-	// Public says that the nodes also put a checkpoint for readers without a node.
+	// If Public is set, the nodes also put a checkpoint for readers that do not ask a node.
 	Public  bool
 	Faults  []Fault
 	Clients []Client
-	// Answers is how many answers the clients get at least, if the plan says so.
+	// Answers is the minimum number of answers that the clients must get.
 	Answers int
-	// MaxBatch is how many entries a step takes at most, and 0 is the usual number.
+	// MaxBatch is the maximum number of entries of a step, and 0 means usualBatch.
 	MaxBatch int
-	// Haste is empty or how the calls begin of which half are answered late: lateLookups or lateHeads. Readers ask often
-	// then, and at the same time.
+	// Haste is empty, lateLookups or lateHeads. Half of the calls that begin with it are answered late, and readers ask
+	// often and at the same time.
 	Haste string
 }
 
@@ -85,7 +86,7 @@ func newPlan(seed int64) Plan {
 	return plan
 }
 
-// special adds a loss, or faults that belong together, and reports whether the plan is whole with them.
+// special adds a loss, or faults that belong together, and reports whether the plan is complete with them.
 func (p *Plan) special(random *rand.Rand) bool {
 	switch random.Intn(10) {
 	case 0, 1, 2, 3:
@@ -107,7 +108,7 @@ func (p *Plan) special(random *rand.Rand) bool {
 	return false
 }
 
-// submits adds clients with new entries and repeated ones, and returns the number of the next new one.
+// submits adds clients with new entries and duplicates, and returns the number of the next new entry.
 func (p *Plan) submits(random *rand.Rand) (next int) {
 	for range 1 + random.Intn(4) {
 		c := Client{Begins: time.Duration(random.Intn(6000)) * time.Millisecond, Machine: random.Intn(p.Machines)}
@@ -124,10 +125,10 @@ func (p *Plan) submits(random *rand.Rand) (next int) {
 	return next
 }
 
-// fillsTile has more entries submitted than a tile has, after a few that make partial tiles. Janitors get fewer faults,
-// so that most of these logs go on. A third of these logs lose the full tile when it is put, so that its partial ones are
-// what is left of it. In another third, a node stands still from before the tile is full until its partial ones are
-// deleted, and has then to answer what it knows under the head before.
+// fillsTile adds clients that submit more entries than a tile has, after a few that make partial tiles. If the plan has
+// janitors, it gets fewer faults, so that most of these logs continue. A third of these logs lose the full tile when it
+// is put, so that only its partial tiles are left. In another third, a node is paused from before the tile is full
+// until its partial tiles are deleted. It then has to answer for entries that it knows from the head before.
 func (p *Plan) fillsTile(random *rand.Rand, next int) {
 	burst := Client{Begins: time.Duration(1000+random.Intn(3000)) * time.Millisecond,
 		Machine: random.Intn(p.Machines), Burst: true}
@@ -154,8 +155,8 @@ func (p *Plan) fillsTile(random *rand.Rand, next int) {
 	}
 }
 
-// pausesOne pauses a node, and then rolls stores back to about that time. So the state that the node saw last is the
-// newest again, and others saw more.
+// pausesOne pauses a node, and then rolls stores back to about that time. The state that the node saw last is then the
+// newest again, although other nodes saw later ones.
 func (p *Plan) pausesOne(random *rand.Rand) {
 	p.Machines = 2 + random.Intn(2)
 	of := []Kind{LockRolledBack, LockAndGuardRolledBack, LockAndGuardRolledBack,
@@ -173,7 +174,7 @@ func (p *Plan) pausesOne(random *rand.Rand) {
 		}
 		p.Clients = append(p.Clients, c)
 		if random.Intn(2) == 0 {
-			// A step of several entries writes tiles of other names than the steps of the other nodes.
+			// A step with several entries writes tiles with other names than the steps of the other nodes.
 			several := Client{Begins: time.Duration(random.Intn(2500)) * time.Millisecond, Machine: i, Burst: true}
 			for n := range 3 + random.Intn(8) {
 				several.Numbers = append(several.Numbers, 1000*(i+1)+100+n)
@@ -183,7 +184,7 @@ func (p *Plan) pausesOne(random *rand.Rand) {
 	}
 }
 
-// restarts has a store lose something that only a node that starts can see, or has to mend, and has the nodes start
+// restarts lets a store lose something that only a starting node can see or must repair, and lets the nodes start
 // again.
 func (p *Plan) restarts(random *rand.Rand) {
 	p.Machines = 1 + random.Intn(2)
@@ -192,7 +193,7 @@ func (p *Plan) restarts(random *rand.Rand) {
 	lost.On = "lock: read"
 	p.Faults = append(p.Faults[:len(p.Faults)/4], lost)
 	for i := range p.Machines {
-		// The node that reads the lock then is killed at that call, and the other one soon.
+		// The node that then reads the lock is killed at that call, and the other one soon after it.
 		p.Faults = append(p.Faults, Fault{At: lost.At + i, On: "lock: read", Kind: KilledBefore})
 	}
 	for i := range p.Machines {
@@ -201,8 +202,8 @@ func (p *Plan) restarts(random *rand.Rand) {
 	}
 }
 
-// looksFirst has one node publish the first heads of a log, and another one look at a head for the first time after the
-// store lost that one.
+// looksFirst lets one node publish the first heads of a log. Another node looks at a head for the first time after the
+// store has lost it.
 func (p *Plan) looksFirst(random *rand.Rand) {
 	p.Machines, p.Witnesses = 2, Witnesses{}
 	at := 40 + random.Intn(70)
@@ -219,8 +220,8 @@ func (p *Plan) looksFirst(random *rand.Rand) {
 	}
 }
 
-// clockIsSlow returns a plan in which only the clock of a node is set back, by less than it may be off. Nothing else is
-// wrong, so each client gets its answers.
+// clockIsSlow returns a plan whose only fault is that the clock of a node is set to an earlier time, within maxSkew. So
+// each client must get its answers.
 func (p *Plan) clockIsSlow(random *rand.Rand) Plan {
 	p.Faults = []Fault{{At: 40 + random.Intn(100), Kind: ClockBack, Long: 8 * time.Second}}
 	p.Witnesses, p.Answers = Witnesses{}, 0
@@ -231,7 +232,7 @@ func (p *Plan) clockIsSlow(random *rand.Rand) Plan {
 	return *p
 }
 
-// misplacesOne has a place wrong, and cuts off the step that replaces it.
+// misplacesOne makes a place in the index wrong, and interrupts the step that replaces it.
 func (p *Plan) misplacesOne(random *rand.Rand) {
 	p.Machines = 1 + random.Intn(2)
 	wrong := Fault{At: 70 + 30*p.Machines + random.Intn(40), On: "lock: read", Kind: IndexWrong, Count: random.Intn(12)}
@@ -244,7 +245,7 @@ func (p *Plan) misplacesOne(random *rand.Rand) {
 	}
 }
 
-// rollsAllBack rolls back everything that the log has, its machines included. Only its witnesses show that.
+// rollsAllBack rolls back everything that the log has, including its machines. Only its witnesses show this.
 func (p *Plan) rollsAllBack(random *rand.Rand) {
 	p.Witnesses = quorums[random.Intn(len(quorums))]
 	p.Faults = p.Faults[:len(p.Faults)/2]
@@ -261,8 +262,8 @@ func (p *Plan) rollsAllBack(random *rand.Rand) {
 	}
 }
 
-// beginsAgain rolls the log back to its creation, and a witness with it. The witness that was not needed for the first
-// heads saw none.
+// beginsAgain rolls the log back to its creation, and one witness with it. The witness that was not needed for the
+// first heads saw none of them.
 func (p *Plan) beginsAgain(random *rand.Rand) {
 	count := 4 + random.Intn(3)
 	p.Machines, p.Witnesses = 1, quorums[2]
@@ -274,7 +275,7 @@ func (p *Plan) beginsAgain(random *rand.Rand) {
 		{At: at + 5, Kind: WitnessRolledBack, Count: 12 + random.Intn(3)}}
 }
 
-// quorums are those of logs with witnesses.
+// quorums holds the witnesses and quorums from which plans choose.
 var quorums = []Witnesses{
 	{Count: 1, Quorums: witness.Quorums{Publish: 1, Start: 1}},
 	{Count: 3, Quorums: witness.Quorums{Publish: 2, Start: 2}},
@@ -282,15 +283,15 @@ var quorums = []Witnesses{
 	{Count: 3, Quorums: witness.Quorums{Publish: 3, Start: 2, Faults: 1}},
 }
 
-// moments are the calls between which a step may be cut off, as their lines begin.
+// timestamps holds the beginnings of the calls at which faults interrupt a step.
 var timestamps = []string{
 	"objects: put staging", "lock: swap", "lock: swap", "lock: read", "objects: put tile", "index: add", "memory: save",
 	"guard: swap", "objects: put heads", "lock: raise",
 	"witness1: add", "witness2: add", "objects: delete", "objects: list",
 }
 
-// newFault returns a fault at one of the first calls. Half of the faults of a call happen at one of the calls that
-// decide.
+// newFault returns a fault at one of the first calls. Half of the faults that concern one call happen at one of the
+// calls in timestamps.
 func newFault(random *rand.Rand, kind Kind, calls int) Fault {
 	f := Fault{At: 1 + random.Intn(calls), Kind: kind, Count: 1 + random.Intn(12)}
 	if kind <= Paused && random.Intn(2) == 0 {

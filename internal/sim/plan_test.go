@@ -10,7 +10,7 @@ import (
 )
 
 // TestPlanPrintsAllFields changes each field of a plan, of its faults and of its clients. The printed plan must change
-// with it, so that a plan can be built again from a failure's output.
+// too, so that a plan can be built again from the output of a failure.
 func TestPlanPrintsAllFields(t *testing.T) {
 	plan := sim.Plan{Faults: []sim.Fault{{}}, Clients: []sim.Client{{}}}
 	printed := plan.String()

@@ -16,8 +16,8 @@ func numbers(first, many int) (all []int) {
 	return all
 }
 
-// TestResumedStepReplacesWrongPlace has the index give an entry the place of another one, and kills the node before it
-// replaces that place. The node that resumes the step must replace it. Otherwise the entry is logged a third time, when
+// TestResumedStepReplacesWrongPlace lets the index give an entry the place of another one, and kills the node before it
+// replaces that place. The node that resumes the step must replace it. Otherwise the entry is logged a third time when
 // it is submitted again.
 func TestResumedStepReplacesWrongPlace(t *testing.T) {
 	for which := range 4 {
@@ -38,15 +38,15 @@ func TestResumedStepReplacesWrongPlace(t *testing.T) {
 			t.Errorf("%v\n%s", result.Violation, sim.Explain(plan, proved))
 		}
 		if result.Counts[sim.IndexWrong] != 1 || result.Counts[sim.KilledBefore] != 1 {
-			t.Errorf("place %d: the faults happened %d and %d times and not once each", which,
+			t.Errorf("place %d: the faults happened %d and %d times, and not once each", which,
 				result.Counts[sim.IndexWrong], result.Counts[sim.KilledBefore])
 		}
 	}
 }
 
-// TestJanitorDeletes has a log grow beyond a tile, with two nodes and their janitors. They must delete the partial
-// tiles below the full one, and heads.
-func TestJanitorDeletes(t *testing.T) {
+// TestJanitorsDelete lets a log grow beyond a tile, with two nodes and their janitors. The janitors must delete the
+// partial tiles of the full one, and heads.
+func TestJanitorsDelete(t *testing.T) {
 	plan := sim.Plan{
 		Seed: 1, Machines: 2, Janitors: true,
 		Clients: []sim.Client{
@@ -61,13 +61,14 @@ func TestJanitorDeletes(t *testing.T) {
 		t.Errorf("%v\n%s", result.Violation, sim.Explain(plan, proved))
 	}
 	if s := result.Stats; s.Partials < 8 || s.OldHeads < 8 || s.Reread == 0 || s.Repeats < 8 {
-		t.Errorf("of more than 8 partial tiles and heads, %d and %d were deleted, %d tiles were read again, and %d "+
-			"entries were answered again", s.Partials, s.OldHeads, s.Reread, s.Repeats)
+		t.Errorf("%d partial tiles and %d heads were deleted, and at least 8 of each are expected; %d tiles were read "+
+			"again, and %d entries were answered again", s.Partials, s.OldHeads, s.Reread, s.Repeats)
 	}
 }
 
-// TestJanitorsLeaveOneHead has a node start again, so that its janitor does not know how old a head is. It must not
-// delete that head for the one before it, which the other node's janitor deletes meanwhile as an old one.
+// TestJanitorsLeaveOneHead lets a node start again, so that its janitor does not know how old a head is. The janitor
+// must not delete that head because of the one before it, which the other node's janitor deletes meanwhile as an old
+// one.
 func TestJanitorsLeaveOneHead(t *testing.T) {
 	for seed := range int64(100) {
 		plan := sim.Plan{
@@ -88,8 +89,8 @@ func TestJanitorsLeaveOneHead(t *testing.T) {
 	}
 }
 
-// TestPausedJanitorThinsNoOldHeads has a node that was paused thin heads, while the other node's janitor deletes those
-// as old ones for which the paused one would delete others. Something must stay of them.
+// TestPausedJanitorThinsNoOldHeads lets a node that was paused thin out heads. Meanwhile, the other node's janitor
+// deletes the heads that the paused one would leave, because they are old. Some of the heads must stay.
 func TestPausedJanitorThinsNoOldHeads(t *testing.T) {
 	for _, seed := range []int64{107_903, 1, 2, 3} {
 		plan := sim.Plan{
@@ -113,9 +114,9 @@ func TestPausedJanitorThinsNoOldHeads(t *testing.T) {
 	}
 }
 
-// TestTimestampsAfterAnOldBackup has a node whose clock is ahead publish a second head of one tree, and then all rolled
-// back to the first one. The witnesses saw that tree, so the log goes on, and its next head may be earlier than the
-// second one was.
+// TestTimestampsAfterAnOldBackup lets a node whose clock is ahead publish a second head of one tree. Then everything is
+// rolled back to the first one. The witnesses saw that tree, so the log continues, and its next head may be earlier
+// than the second one was.
 func TestTimestampsAfterAnOldBackup(t *testing.T) {
 	for seed := range int64(21) {
 		for at := 195; at < 225; at += 3 {
@@ -137,8 +138,8 @@ func TestTimestampsAfterAnOldBackup(t *testing.T) {
 	}
 }
 
-// TestAllRolledBackBeforeAllStarted has all rolled back at the very first call, when no other machine has begun to
-// start its node. The fault must stop those that run, and no others.
+// TestAllRolledBackBeforeAllStarted rolls everything back at the very first call, before any other machine has started
+// its node. The fault must stop only the nodes that run.
 func TestAllRolledBackBeforeAllStarted(t *testing.T) {
 	for seed := range int64(20) {
 		plan := sim.Plan{
@@ -153,7 +154,7 @@ func TestAllRolledBackBeforeAllStarted(t *testing.T) {
 	}
 }
 
-// TestReplacedTextComesBack has a node lose a swap, and then the lock and the guard rolled back to before the step that
+// TestReplacedTextComesBack lets a node lose a swap, and then rolls the lock and the guard back to before the step that
 // won. The node saw that the text was replaced, so it must not make another step from it.
 func TestReplacedTextComesBack(t *testing.T) {
 	plan := sim.Plan{
@@ -181,8 +182,8 @@ func TestReplacedTextComesBack(t *testing.T) {
 	}
 }
 
-// TestLockFallsWhileHeadWaits has the lock and the guard rolled back while a head waits for the last witness. A node
-// that did not see that head may have one of another list signed. No witness may cosign it, and nobody may put it.
+// TestLockFallsWhileHeadWaits rolls the lock and the guard back while a head waits for the last witness. A node that
+// did not see that head may have a head of another list signed. No witness may cosign it, and no node may put it.
 func TestLockFallsWhileHeadWaits(t *testing.T) {
 	for _, seed := range []int64{92, 133, 301, 385, 474, 556, 578, 641, 661} {
 		plan := sim.Plan{
@@ -207,10 +208,10 @@ func TestLockFallsWhileHeadWaits(t *testing.T) {
 	}
 }
 
-// TestLaterTextIsKept has a node read a text of the lock after it stood still, and then fail to look back, since it is
-// away. Then the lock is rolled back to the text before. The node must not make a step from that, since it saw a later
-// one.
-func TestLaterTextIsKept(t *testing.T) {
+// TestRefusesOlderTextAfterFailedLookBack lets a node read a text of the lock after a pause, and then fail to look for
+// later heads, because it is away. Then the lock is rolled back to the text before. The node must not make a step from
+// that text, because it saw a later one.
+func TestRefusesOlderTextAfterFailedLookBack(t *testing.T) {
 	plan := sim.Plan{
 		Seed: 6716, Machines: 3, Public: true, Haste: "index: find",
 		Witnesses: sim.Witnesses{Count: 3, Quorums: witness.Quorums{Publish: 3, Start: 2, Faults: 1}},
@@ -253,8 +254,8 @@ func TestLaterTextIsKept(t *testing.T) {
 	}
 }
 
-// TestTwoNodesRestoreOneHead has the power fail, and the store loses the newest step. Both nodes restore its head at the
-// same time, and their signatures differ. None may delete the head that the other one put.
+// TestTwoNodesRestoreOneHead simulates a power failure, in which the store loses the newest step. Two nodes restore its
+// head at the same time, and their signatures differ. No node may delete the head that another one put.
 func TestTwoNodesRestoreOneHead(t *testing.T) {
 	lost := 0
 	for seed := range int64(100) {
@@ -271,29 +272,31 @@ func TestTwoNodesRestoreOneHead(t *testing.T) {
 		lost += result.Counts[sim.StepLost]
 	}
 	if lost < 60 {
-		t.Errorf("the newest step was lost %d times in 100 histories", lost)
+		t.Errorf("the newest step was lost %d times in 100 histories, and at least 60 times are expected", lost)
 	}
 }
 
-// TestStartBesideARollback has a node read a text of the lock at its start, as another node goes on. The lock is rolled
-// back before the start looks again. The older text must be refused.
-func TestStartBesideARollback(t *testing.T) {
+// TestStartRefusesRolledBackLock lets a node read a text of the lock at its start, while another node continues. The
+// lock is rolled back before the start reads it again. The node must refuse the older text.
+func TestStartRefusesRolledBackLock(t *testing.T) {
 	if result := sim.Run(sim.NewPlan(42_027_860), proved, false); result.Violation != nil {
 		t.Error(result.Violation)
 	}
 }
 
-// TestAllRolledBackBesideAPut has a node put a head late, and all stores be rolled back before that. Two machines have
-// not seen the head, so nothing could show them that. This must not happen (README.md, "What a history may lose").
-func TestAllRolledBackBesideAPut(t *testing.T) {
+// TestNoRollbackOfAllBesideALatePut lets a node put a head late, after all stores would be rolled back. Two machines
+// have not seen the head, so nothing could show them that. So the rollback must not happen (README.md, "What a history
+// may lose").
+func TestNoRollbackOfAllBesideALatePut(t *testing.T) {
 	if result := sim.Run(sim.NewPlan(50_024_780), proved, false); result.Violation != nil {
 		t.Error(result.Violation)
 	}
 }
 
-// TestRefusalOverAnOlderHead has a node ask for a signature over the head that it had signed before, while another node
-// had a later one signed. The signer refuses, and does not answer which head is its last. That is no refusal of the head.
-func TestRefusalOverAnOlderHead(t *testing.T) {
+// TestSignerRefusalOfAnOlderHead lets a node ask for a signature of a head that it had signed before, while another
+// node had a later one signed. The signer refuses, and does not answer which head is its last. The node must not treat
+// this as a refusal of the head.
+func TestSignerRefusalOfAnOlderHead(t *testing.T) {
 	if result := sim.Run(sim.NewPlan(9_002_619), proved, false); result.Violation != nil {
 		t.Error(result.Violation)
 	}

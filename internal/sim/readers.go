@@ -10,23 +10,23 @@ import (
 	"wagtenib/internal/stores"
 )
 
-// reading is what readers saw of one run of a node.
+// reading holds what readers saw of one run of a node.
 type reading struct {
 	of *process
-	// shown is the head that the node showed last, and newest the one that it returned last as the newest.
+	// shown is the head that the node showed last. newest is the newest head that it returned to a reader.
 	shown, newest signer.Head
-	// asked is how many readers ask the node for the newest head now.
+	// asked is the number of readers that now ask the node for the newest head.
 	asked int
 }
 
-// Mostly there are askedEach looks at a machine for each time that it is asked for the newest head, by one reader at a
-// time. If readers are in haste, it is asked at each look, by up to maxAsked at a time.
+// Normally, a reader asks a machine for the newest head at one of askedEach looks, and only one reader asks at a time.
+// If readers are in haste, one asks at each look, and up to maxAsked of them at a time.
 const (
 	askedEach = 6
 	maxAsked  = 3
 )
 
-// reader reads the head that each machine shows, now and then, and asks some of them for the newest one.
+// reader reads the heads that the machines show at random times, and asks some machines for the newest head.
 func (w *world) reader() {
 	last := make([]*reading, len(w.machines))
 	each, most, looks := askedEach, 1, 400
@@ -67,9 +67,9 @@ func (w *world) looksAt(m *machine, now node.Snapshot, last *reading) {
 	last.shown = now.Head.Head
 }
 
-// asksNewest asks a machine for the newest head, as who reads the checkpoint over HTTP does, and judges the answer. The
-// answer may not be older than one that the machine gave before it was asked, and older than what is published only if
-// something went wrong meanwhile.
+// asksNewest asks a machine for the newest head, as a reader of the checkpoint over HTTP does, and judges the answer.
+// The answer must not be older than one that the machine gave before. It may be older than the published head only if a
+// fault happened meanwhile.
 func (w *world) asksNewest(m *machine, last *reading) {
 	n, before := m.node, last.newest
 	last.asked++
@@ -95,7 +95,7 @@ func (w *world) asksNewest(m *machine, last *reading) {
 	})
 }
 
-// judgeTree judges whether the tree of a head that a reader gets is in the store, although janitors delete.
+// judgeTree judges whether the tree of a head that a reader gets is in the store, although janitors delete objects.
 func (w *world) judgeTree(m *machine, head signer.Head) {
 	if w.plan.Janitors && !w.excuses.missing {
 		// A reader may still read a head that it saw before.

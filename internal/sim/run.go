@@ -14,27 +14,27 @@ import (
 type Result struct {
 	// Violation is the first rule that was broken, or nil.
 	Violation *Violation
-	// Counts says how often each kind of fault happened.
+	// Counts holds how often each kind of fault happened.
 	Counts [kinds]int
 	Stats  Stats
-	// Stopped is why the log stopped in the end, if it may, and nil if it went on.
+	// Stopped is the reason why the log stopped in the end, if it was allowed to stop. It is nil if the log continued.
 	Stopped error
-	// Lines are the history, if they were asked for.
+	// Lines holds the history, if it was asked for.
 	Lines []string
 }
 
 const (
-	// scriptWithin is how long the clients' scripts may take, and calmWithin how long the log may take to go on after
-	// all faults have ended.
+	// scriptWithin is the maximum time for the clients' scripts. calmWithin is the maximum time until the log continues
+	// after all faults have ended.
 	scriptWithin = 10 * time.Minute
 	calmWithin   = 3 * time.Minute
-	// namedWithin is how long a node that says why it stopped is asked again, if a store lost something.
+	// namedWithin is the time for which a node that says why it stopped is asked again, if a store lost something.
 	namedWithin = 30 * time.Second
-	// settleWithin is how long a node that goes on may take to answer all that wait.
+	// settleWithin is the maximum time for a node that continues until it has answered all waiting requests.
 	settleWithin = time.Minute
 )
 
-// Run runs the history of a plan over the proved decisions. Two runs of one plan are the same.
+// Run runs the history of a plan with the proved decisions. Two runs of one plan give the same history.
 func Run(plan Plan, proved node.Proved, logs bool) (result Result) {
 	w := newWorld(plan, proved, logs)
 	over := false
@@ -76,7 +76,7 @@ func (w *world) script() {
 	}
 }
 
-// ends has all faults end, sets the clocks right, and judges whether the log goes on or says why it does not.
+// ends ends all faults, corrects the clocks, and judges whether the log continues or says why it does not.
 func (w *world) ends() {
 	w.events.calm = true
 	w.stores.fullUntil, w.stores.readOnlyUntil = 0, 0
@@ -122,7 +122,7 @@ func (w *world) findsLeaves() {
 	}
 }
 
-// forgets judges whether a node that goes on has forgotten a submission.
+// forgets judges whether a node that continues has forgotten a submission.
 func (w *world) forgets(m *machine) {
 	if n := m.node; n != nil && !w.wait(settleWithin, func() bool { return m.node != n || n.Waiting() == 0 }) {
 		w.judge.breaks("no submission is forgotten", "%s goes on, and %d submissions wait for ever",
@@ -130,18 +130,18 @@ func (w *world) forgets(m *machine) {
 	}
 }
 
-// repeats submits what clients have submitted once more, and twice, to a node that goes on. The judge compares the
+// repeats submits some of the clients' entries again, twice each, to a node that continues. The judge compares the
 // answers.
 func (w *world) repeats(m *machine) {
 	for number := range 3 {
 		for range 2 {
-			// The judge looks at answers only: a node may refuse what it cannot read.
+			// The judge checks only answers: a node may refuse a submission if it cannot read what it needs.
 			_ = w.submit(m, number)
 		}
 	}
 }
 
-// isNamed reports whether an error says why a node does not go on.
+// isNamed reports whether an error says why a node does not continue.
 func isNamed(err error) bool {
 	for _, named := range []error{node.ErrRolledBack, node.ErrDamaged, node.ErrIndex, node.ErrClock, signer.ErrState,
 		signer.ErrRefused} {
@@ -152,7 +152,8 @@ func isNamed(err error) bool {
 	return false
 }
 
-// goesOn submits a new entry to a machine until it is answered, and then once more. It returns why it is not.
+// goesOn submits a new entry to a machine until it is answered, and then submits it once more. It returns nil, or the
+// reason why there is no answer.
 func (w *world) goesOn(m *machine, number int) error {
 	end := w.now + calmWithin
 	for {
@@ -174,7 +175,7 @@ func (w *world) goesOn(m *machine, number int) error {
 	}
 }
 
-// Shrink drops faults and clients from a plan, one by one, as long as the same rule is broken.
+// Shrink removes faults and clients from a plan, one by one, as long as the plan breaks the same rule.
 func Shrink(plan Plan, proved node.Proved) Plan {
 	first := Run(plan, proved, false).Violation
 	breaks := func(p Plan) bool {

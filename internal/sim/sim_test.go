@@ -16,10 +16,10 @@ import (
 	"wagtenib/internal/sim"
 )
 
-// proved are the proved decisions.
+// proved holds the proved decisions.
 var proved = node.Proved{Decider: decider.New(), Steps: step.New(sim.Origin)}
 
-// number returns the number that a variable of the environment has, or the one that counts if it is not set.
+// number returns the number in an environment variable, or `normal` if the variable is not set.
 func number(t *testing.T, variable string, normal int64) int64 {
 	t.Helper()
 	text := os.Getenv(variable)
@@ -28,16 +28,16 @@ func number(t *testing.T, variable string, normal int64) int64 {
 	}
 	n, err := strconv.ParseInt(text, 10, 64)
 	if err != nil || n < 0 {
-		t.Fatalf("%s: %q is no number of at least 0", variable, text)
+		t.Fatalf("%s: %q is not a number (write an integer of at least 0)", variable, text)
 	}
 	return n
 }
 
-// block is how many histories run before the test says how far it is, so that a later run can begin there.
+// block is the number of histories after which the test prints how far it is, so that a later run can begin there.
 const block = 10_000
 
-// TestHistories runs the histories of many seeds, on all processors, and explains one that breaks a rule. It prints how
-// often each kind of fault happened.
+// TestHistories runs the histories of many seeds, on all processors, and explains a history that breaks a rule. It
+// prints how often each kind of fault happened.
 func TestHistories(t *testing.T) {
 	began := time.Now()
 	first, histories := number(t, "SIM_FIRST", 0), number(t, "SIM_HISTORIES", 300)
@@ -45,7 +45,7 @@ func TestHistories(t *testing.T) {
 	for from, end := first, first+histories; from < end && !t.Failed(); from += block {
 		to := min(from+block, end)
 		runHistories(t, from, to, &total)
-		t.Logf("the histories of the seeds %d to %d are run, %.1f a second", first, to-1,
+		t.Logf("the histories of the seeds %d to %d were run, %.1f a second", first, to-1,
 			float64(to-first)/time.Since(began).Seconds())
 	}
 	t.Logf("%v", &total)
@@ -54,14 +54,14 @@ func TestHistories(t *testing.T) {
 	}
 	if s := total.Stats; histories >= 300 &&
 		(s.Partials == 0 || s.OldHeads == 0 || s.Staged == 0 || s.Reread == 0 || s.Cosigned == 0 || s.Checkpoints == 0) {
-		t.Errorf("janitors, witnesses or checkpoints did nothing of a kind: %+v", s)
+		t.Errorf("a number of the janitors, witnesses or checkpoints is 0: %+v", s)
 	}
 	if c := total.Stats.Contended; histories >= 300 && (c.Lost == 0 || c.Unknown == 0 || c.Overtaken == 0 || c.Late == 0) {
-		t.Errorf("nodes did not meet in a kind of way: %+v", c)
+		t.Errorf("a number of lost, unknown, overtaken or late outcomes is 0: %+v", c)
 	}
 }
 
-// runHistories runs the histories of the seeds up to an end, and adds them to the totals.
+// runHistories runs the histories of the seeds `from` to end-1, and adds them to the totals.
 func runHistories(t *testing.T, from, end int64, total *sim.Totals) {
 	var next atomic.Int64
 	next.Store(from)
@@ -90,7 +90,7 @@ func runHistories(t *testing.T, from, end int64, total *sim.Totals) {
 	all.Wait()
 }
 
-// TestOneHistory prints the whole history of one seed, whether a rule is broken or not.
+// TestOneHistory prints the whole history of one seed, even if it breaks no rule.
 func TestOneHistory(t *testing.T) {
 	if os.Getenv("SIM_SEED") == "" {
 		t.Skip("SIM_SEED says which seed's history is printed")
@@ -103,7 +103,7 @@ func TestOneHistory(t *testing.T) {
 	}
 }
 
-// TestSameHistory runs plans twice, and compares all lines.
+// TestSameHistory runs plans twice, and compares all lines of the histories.
 func TestSameHistory(t *testing.T) {
 	for seed := range int64(20) {
 		plan := sim.NewPlan(seed)

@@ -8,8 +8,8 @@ import (
 	"wagtenib/internal/stores"
 )
 
-// refuses returns why a machine's node must not start with the stores as they are now, or nothing. It looks at the
-// stores by itself.
+// refuses returns the reason why a machine's node must not start with the current stores, or "". It reads the stores
+// without the node's code.
 func (w *world) refuses(m *machine) string {
 	k := cells(w.stores.text)
 	if k == nil || w.stores.text == "" {
@@ -42,13 +42,14 @@ func headName(head signer.Head) string {
 // listed returns the size and the timestamp of the newest head in the store, by its name.
 func (w *world) listed() (head signer.Head) {
 	if heads := w.stores.list("heads/", ""); len(heads) > 0 {
-		// A name that cannot be read is no head's, so both stay 0.
+		// A name that cannot be read is not the name of a head, so both stay 0.
 		_, _ = fmt.Sscanf(heads[len(heads)-1], "heads/%020d-%020d", &head.Size, &head.Timestamp)
 	}
 	return head
 }
 
-// isBehindGuard says how the lock is older than the guard's state, or how that is older than the heads in the store.
+// isBehindGuard returns a text if the lock is older than the guard's state, or if the guard's state is older than the
+// heads in the store. Otherwise it returns "".
 func (w *world) isBehindGuard(k *cell) string {
 	guard, err := signer.ReadState(w.stores.guard)
 	if err != nil {
@@ -78,8 +79,8 @@ func (w *world) lacksNewest(k *cell, published stores.Published) bool {
 	return !ok
 }
 
-// remembers judges a head with entries that a node puts: its machine remembers the state, so that a start from older
-// stores is refused.
+// remembers judges a head with entries that a node puts: its machine must remember the state already, so that a start
+// from older stores is refused.
 func (j *judge) remembers(m *machine, name string) {
 	if !strings.HasPrefix(name, "heads/") || strings.HasPrefix(name, fmt.Sprintf("heads/%020d-", 0)) {
 		return

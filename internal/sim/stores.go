@@ -13,7 +13,7 @@ import (
 	"wagtenib/internal/stores"
 )
 
-// part is what can be rolled back by itself.
+// part is a part of the stores that can be rolled back independently.
 type part int
 
 const (
@@ -24,24 +24,24 @@ const (
 	parts
 )
 
-// memory has all that the simulated stores keep.
+// memory holds the contents of all simulated stores.
 type memory struct {
 	objects map[string][]byte
-	// checkpoint is the object that readers without a node follow.
+	// checkpoint is the object that readers follow if they do not ask a node.
 	checkpoint []byte
 	lockState
 	guardState
-	// index has the places by identities, and leaves by the hashes of leaves.
+	// index holds the places by identities, and leaves holds them by the hashes of leaves.
 	index, leaves map[stores.Identity]stores.Place
-	// call is the number of the newest call. changes are those of each part, from the first on, so that the newest can
-	// be undone.
+	// call is the number of the newest call. changes holds the changes of each part, in their order, so that the newest
+	// ones can be undone.
 	call    int
 	changes [parts][]change
 	denied
 }
 
-// lockState is what the lock's engine has: the text, whether it was ever created, and how far the log is published.
-// decided is the number of the call that put the text there.
+// lockState holds the state of the lock's engine: the text, whether it was ever created, and how far the log is
+// published. decided is the number of the call that put the text there.
 type lockState struct {
 	text      string
 	created   bool
@@ -49,17 +49,17 @@ type lockState struct {
 	decided   int
 }
 
-// guardState is the text of the guard's state, which is another cell of the lock's engine, and how many signatures the
-// key made.
+// guardState holds the text of the guard's state, which is another cell of the lock's engine, and the number of
+// signatures that the key made.
 type guardState struct {
 	guard      string
 	signatures uint64
 }
 
-// denied says until when the stores take nothing, and until when they do not even delete.
+// denied holds the times until which the stores are full, and until which they are read-only and do not even delete.
 type denied struct{ fullUntil, readOnlyUntil time.Duration }
 
-// change is one of a part: the number of its call, the object's name, and what undoes it.
+// change is a change of a part: the number of its call, the object's name, and the function that undoes it.
 type change struct {
 	call int
 	name string
@@ -71,7 +71,7 @@ func newMemory() memory {
 		leaves: map[stores.Identity]stores.Place{}, guardState: guardState{guard: signer.NoHead}}
 }
 
-// set gives an object a content, or none.
+// set sets the content of an object, or removes the object if the content is nil.
 func (s *memory) set(name string, content []byte) {
 	before, was := s.objects[name]
 	s.changes[objectsPart] = append(s.changes[objectsPart], change{s.call, name, func() {
@@ -95,7 +95,7 @@ func (s *memory) setCheckpoint(content []byte) {
 	s.checkpoint = content
 }
 
-// setLock gives the lock a text and what is published.
+// setLock sets the lock's text and how far the log is published.
 func (s *memory) setLock(text string, published stores.Published) {
 	before, was := s.text, s.published
 	s.changes[lockPart] = append(s.changes[lockPart], change{call: s.call,
@@ -133,7 +133,7 @@ func (s *memory) rollBack(of part, call int) bool {
 	return left < len(all)
 }
 
-// objects are the objects' store as a machine's node sees it.
+// objects implements the object store for a machine's node.
 type objects struct{ m *machine }
 
 func (o objects) Put(ctx context.Context, name string, content []byte) error {
@@ -179,7 +179,7 @@ func (o objects) Get(ctx context.Context, name string, max int64) (content []byt
 	return content, nil
 }
 
-// current is the checkpoint's store as a machine's node sees it.
+// current implements the store of the checkpoint for a machine's node.
 type current struct{ m *machine }
 
 func (c current) Swap(ctx context.Context, name string, old, new []byte) error {
@@ -213,7 +213,7 @@ func (o objects) List(ctx context.Context, prefix, after string, max int) (names
 	return names, nil
 }
 
-// list returns the names of objects in the order of their bytes.
+// list returns the names of objects that have a prefix and come after a name, in the order of their bytes.
 func (s *memory) list(prefix, after string) []string {
 	var names []string
 	for name := range s.objects {
@@ -235,12 +235,12 @@ func (o objects) Delete(ctx context.Context, name string) error {
 	})
 }
 
-// lock is the lock as a machine's node sees it.
+// lock implements the lock for a machine's node.
 type lock struct{ m *machine }
 
 func (l lock) Create(ctx context.Context, text string) error {
 	s := &l.m.w.stores
-	// The call may take effect late, when the node has read the lock once more.
+	// The call may take effect late, after the node has read the lock again.
 	isGone := l.m.process.known.isGone
 	return l.m.call(ctx, "lock", "create "+short(text), true, func() error {
 		if s.created {
@@ -264,7 +264,7 @@ func (l lock) Read(ctx context.Context) (text string, err error) {
 		why = l.m.finds(text)
 		return nil
 	})
-	// A reading that was done too late told the node nothing.
+	// If the reading was done too late, the node learned nothing from it.
 	if err != nil {
 		return "", err
 	}
@@ -304,7 +304,7 @@ func (l lock) Swap(ctx context.Context, old, new string) error {
 	return err
 }
 
-// meet counts a swap by its outcome.
+// meet counts a swap of the lock by its outcome.
 func (c *Contended) meet(by *process, old, new string, err error) {
 	isUnread := by.unread == old
 	if isUnread {
@@ -351,7 +351,7 @@ func (l lock) Raise(ctx context.Context, published stores.Published) error {
 	})
 }
 
-// short is a text of the lock for a line: its size, its timestamp and its salt.
+// short returns a text of the lock for a line of a history: its size, its timestamp and the end of its salt.
 func short(text string) string {
 	if len(text) < 60 {
 		return "?"
@@ -359,7 +359,7 @@ func short(text string) string {
 	return text[len("growth "):len("growth ")+32] + ".." + text[len(text)-5:len(text)-1]
 }
 
-// index is the index as a machine's node sees it.
+// index implements the deduplication index for a machine's node.
 type index struct{ m *machine }
 
 func (i index) Find(ctx context.Context, identities []stores.Identity) (map[stores.Identity]stores.Place, error) {
@@ -387,10 +387,11 @@ func (i index) find(ctx context.Context, what string, in map[stores.Identity]sto
 	return found, nil
 }
 
-// lateAnswers is how late the index answers, and the store when it is asked for a head, if the plan says so.
+// lateAnswers is the delay of late answers, if the plan asks for them: answers of the index, or those of the object
+// store to a request for a head.
 const lateAnswers = 300 * time.Millisecond
 
-// dawdle has half of the answers of such calls come late, if the plan says so. By then the store may have more.
+// dawdle delays half of the answers to such calls, if the plan asks for it. Meanwhile, the store may get more.
 func (m *machine) dawdle(ctx context.Context, calls string) error {
 	w := m.w
 	if w.plan.Haste != calls || w.events.calm || w.random.Intn(2) == 0 {

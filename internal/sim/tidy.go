@@ -10,19 +10,19 @@ import (
 	"wagtenib/internal/node/janitor"
 )
 
-// keep is for how long what is not needed any more stays in a history with janitors.
+// keep holds the times for which janitors keep objects that are no longer needed.
 var keep = janitor.Keep{
 	Every: 500 * time.Millisecond, Tiles: 2 * time.Second, Heads: 8 * time.Second, Staged: 3 * time.Second,
 	Thin: time.Second, Apart: 500 * time.Millisecond, Reread: 5 * time.Second, Call: 2 * time.Second,
 }
 
-// tidyWithin is how long the janitors may take, after all faults have ended, until nothing is left that nobody needs.
+// tidyWithin is the maximum time, after all faults have ended, until the janitors have deleted all garbage.
 const tidyWithin = 90 * time.Second
 
-// readWithin is how long a janitor may take from reading a full tile to deleting the last of its partial ones.
+// readWithin is the maximum time from a janitor's reading of a full tile to its deletion of the last partial one.
 const readWithin = 10 * time.Second
 
-// tidies runs the janitor of a machine's node, in its process.
+// tidies runs the janitor of a machine's node in the node's process.
 func (m *machine) tidies() {
 	w, n := m.w, m.node
 	j, err := janitor.New(janitor.Config{
@@ -44,14 +44,14 @@ func (m *machine) tidies() {
 	w.spawn(m.process, func() { _ = j.Run(w.background()) })
 }
 
-// standing is a head that was put, and when.
+// standing holds the size and timestamp of a head that was put, and when it was put.
 type standing struct {
 	size, timestamp uint64
 	at              time.Duration
 }
 
-// deletes judges a name that is deleted: a staged batch that is not the newest state's, an object that has a wrong
-// content, a partial tile whose full one is there, or a head after which a later one was put.
+// deletes judges a deletion. Only these may be deleted: a staged batch that is not that of the newest state, an object
+// with a wrong content, a partial tile whose full one is in the store, or a head after which a later one was put.
 func (j *judge) deletes(name string) {
 	j.stats.Deleted++
 	if strings.HasPrefix(name, "staging/") {
@@ -83,7 +83,7 @@ func (j *judge) deletes(name string) {
 	}
 }
 
-// leavesRest judges a partial tile that is deleted: its full one must not be missing or bent.
+// leavesRest judges a partial tile that is deleted: its full one must not be missing or damaged.
 func (j *judge) leavesRest(name, full string) {
 	put, ok := j.tiles[full]
 	_, isThere := j.w.stores.objects[name]
@@ -93,7 +93,7 @@ func (j *judge) leavesRest(name, full string) {
 	}
 }
 
-// keepsHead says why a head must stay, or nothing.
+// keepsHead returns the reason why a head must stay, or "".
 func (j *judge) keepsHead(name string) string {
 	var size, timestamp uint64
 	if _, err := fmt.Sscanf(name, "heads/%020d-%020d", &size, &timestamp); err != nil {
@@ -114,7 +114,7 @@ func (j *judge) keepsHead(name string) string {
 	return why
 }
 
-// hasNeighbour reports whether the store has a head that came less than Apart before a timestamp.
+// hasNeighbour reports whether the store has a head whose timestamp is less than keep.Apart before a timestamp.
 func (j *judge) hasNeighbour(timestamp uint64) bool {
 	for _, before := range j.standing {
 		if before.timestamp < timestamp && timestamp < before.timestamp+uint64(keep.Apart.Milliseconds()) {
@@ -126,7 +126,7 @@ func (j *judge) hasNeighbour(timestamp uint64) bool {
 	return false
 }
 
-// keepsPartial says why a partial tile must stay, or nothing.
+// keepsPartial returns the reason why a partial tile must stay, or "".
 func (j *judge) keepsPartial(name string) string {
 	full, _, _ := strings.Cut(name, ".p/")
 	content, ok := j.w.stores.objects[full]
@@ -147,7 +147,7 @@ func (j *judge) keepsPartial(name string) string {
 	return "no head with the full tile stood long enough"
 }
 
-// garbage returns the name of an object that nobody needs any more, or nothing.
+// garbage returns the name of an object that is no longer needed, or "".
 func (j *judge) garbage() string {
 	newest, isWhole := cells(j.w.stores.text), j.hasFullTiles()
 	for _, name := range j.w.stores.list("", "") {
@@ -159,8 +159,8 @@ func (j *judge) garbage() string {
 		case strings.HasPrefix(name, "heads/") && j.isOld(name):
 			return name
 		case strings.HasPrefix(name, "staging/"):
-			// A swap may still need a batch that was made of the newest state. The newest state's own may be needed as
-			// well, and the one before it is deleted by the next step or listing.
+			// A swap may still need a batch that was made from the newest state. The newest state's own batch may be needed
+			// too, and the next step or listing deletes the one before it.
 			if parts := name[len("staging/"):]; newest != nil && parts != newest.name &&
 				parts[16:32] != newest.name[:16] {
 				return name
@@ -170,8 +170,8 @@ func (j *judge) garbage() string {
 	return ""
 }
 
-// hasFullTiles reports whether the store has each full tile that was put. Otherwise partial tiles may be what is left of
-// one: a data tile cannot be read without the tile of its hashes.
+// hasFullTiles reports whether the store has each full tile that was put. If it does not, the partial tiles may be the
+// only rest of one: a data tile cannot be read without the tile of its hashes.
 func (j *judge) hasFullTiles() bool {
 	for name, put := range j.tiles {
 		if !strings.Contains(name, ".p/") && !bytes.Equal(put.last(), j.w.stores.objects[name]) {
@@ -181,7 +181,8 @@ func (j *judge) hasFullTiles() bool {
 	return true
 }
 
-// isOld reports whether a head must be gone by now: another one stood for twice as long as heads stay, and some passes.
+// isOld reports whether a head must have been deleted by now, because a later one was put more than twice keep.Heads
+// and some passes ago.
 func (j *judge) isOld(name string) bool {
 	for _, later := range j.standing {
 		if later.at <= j.w.now-2*keep.Heads-10*keep.Every &&
@@ -192,7 +193,7 @@ func (j *judge) isOld(name string) bool {
 	return false
 }
 
-// tidied judges whether the janitors delete all that nobody needs, after all faults have ended.
+// tidied judges whether the janitors delete all garbage after all faults have ended.
 func (w *world) tidied() {
 	left := ""
 	if !w.wait(tidyWithin, func() bool {

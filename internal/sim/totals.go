@@ -7,14 +7,14 @@ import (
 	"strings"
 )
 
-// Totals are the numbers of many histories.
+// Totals holds the numbers of many histories.
 type Totals struct {
 	Histories, Stopped int
 	Stats              Stats
-	// happened says how often each kind of fault happened, in how many histories, and how many of these went on
-	// afterwards.
+	// happened holds how often each kind of fault happened, in holds in how many histories, and wentOn how many of these
+	// histories continued afterwards.
 	happened, in, wentOn [kinds]int
-	// reasons says how often the log stopped, by the beginning of why.
+	// reasons holds how often the log stopped, by the beginning of the reason.
 	reasons map[string]int
 }
 
@@ -61,7 +61,7 @@ func (t *Totals) Add(r Result) {
 	}
 }
 
-// numbers differ between two reasons of one kind.
+// numbers matches the numbers in a reason, which differ between two reasons of one kind.
 var numbers = regexp.MustCompile(`-?[0-9][0-9a-fhms.]*`)
 
 // Missing returns the kinds of faults that never happened.
@@ -74,7 +74,7 @@ func (t *Totals) Missing() (kinds []string) {
 	return kinds
 }
 
-// String returns a table.
+// String returns the totals as a table.
 func (t *Totals) String() string {
 	var text strings.Builder
 	fmt.Fprintf(&text, "%d histories, of which %d stopped and said why: %+v\n", t.Histories, t.Stopped, t.Stats)

@@ -15,8 +15,8 @@ import (
 // ranges makes the judge's trees.
 var ranges = &compact.RangeFactory{Hash: rfc6962.DefaultHasher.HashChildren}
 
-// puts has all contents that were put of one tile, the last one at the end, and the leaves of those that were read as a
-// data tile.
+// puts holds all contents that were put of one tile, in their order, and the leaves of the contents that were read as
+// data tiles.
 type puts struct {
 	contents [][]byte
 	read     map[int][]leaf
@@ -24,8 +24,8 @@ type puts struct {
 
 func (p *puts) last() []byte { return p.contents[len(p.contents)-1] }
 
-// keepTile keeps what is put of a tile. After a rollback, the tile of another tree may get a name that a tile had
-// before.
+// keepTile records the content that is put of a tile. After a rollback, a tile of another tree may get the name of an
+// earlier tile.
 func (j *judge) keepTile(name string, content []byte) {
 	p, ok := j.tiles[name]
 	if !ok {
@@ -37,7 +37,7 @@ func (j *judge) keepTile(name string, content []byte) {
 	}
 }
 
-// leavesAt reads the content of a data tile that was put as the number says, once.
+// leavesAt returns the leaves of the content with this number. It reads each content only once.
 func (p *puts) leavesAt(which int) ([]leaf, error) {
 	if leaves, ok := p.read[which]; ok {
 		return leaves, nil
@@ -49,9 +49,9 @@ func (p *puts) leavesAt(which int) ([]leaf, error) {
 	return leaves, err
 }
 
-// tile returns what was put of a tile, and the numbers of the contents that may be a head's: the one in the store; or
-// if the store lost or bent something, the last one that was put; or all, the last one first, if the tile of another
-// tree may have got the name.
+// tile returns the contents that were put of a tile, and the numbers of those that may belong to a head. Normally, this
+// is the content in the store. If the store lost or damaged something, it is the last one that was put. If a tile of
+// another tree may have got the name, it is any of them, the last one first.
 func (j *judge) tile(prefix string, n, width uint64, name string) (of *puts, may []int, ok bool) {
 	digits := strconv.FormatUint(n, 10)
 	tile := prefix + "000"[:max(0, 3-len(digits))] + digits
@@ -68,7 +68,7 @@ func (j *judge) tile(prefix string, n, width uint64, name string) (of *puts, may
 		}
 		return of, may, true
 	case !isThere && put && width < 256:
-		// A janitor may have deleted it: it is the beginning of the full tile.
+		// A janitor may have deleted it, because it is the beginning of the full tile.
 		full, _, _ := strings.Cut(tile, ".p/")
 		for last := len(of.contents) - 1; last >= 0; last-- {
 			if bytes.HasPrefix(j.w.stores.objects[full], of.contents[last]) {
@@ -89,7 +89,7 @@ func (j *judge) tile(prefix string, n, width uint64, name string) (of *puts, may
 	return of, []int{which}, true
 }
 
-// treeOf reads the tiles of a head's tree, compares them with the list, and returns the leaves that come after it.
+// treeOf reads the tiles of a head's tree, compares them with the list, and returns the leaves that follow the list.
 func (j *judge) treeOf(head signer.Head, name string) (added []leaf, ok bool) {
 	for first := uint64(0); first < head.Size; first += 256 {
 		width := min(head.Size-first, 256)
@@ -110,8 +110,8 @@ func (j *judge) treeOf(head signer.Head, name string) (added []leaf, ok bool) {
 	return added, true
 }
 
-// tileOf returns the leaves of one data tile of a head's tree, which the tile of their hashes must have. Added are the
-// leaves after the list in the tiles before.
+// tileOf returns the leaves of one data tile of a head's tree. The tile of hashes must have their hashes. `added` holds
+// the leaves in the tiles before that follow the list.
 func (j *judge) tileOf(head signer.Head, first, width uint64, added []leaf, name string) ([]leaf, bool) {
 	data, may, ok := j.tile("tile/data/", first/256, width, name)
 	if !ok {
@@ -119,7 +119,7 @@ func (j *judge) tileOf(head signer.Head, first, width uint64, added []leaf, name
 	}
 	which := may[0]
 	for _, other := range may {
-		// More than one may be the head's only if stores were rolled back.
+		// Only if stores were rolled back, more than one may belong to the head.
 		if leaves, err := data.leavesAt(other); len(may) > 1 && err == nil && j.isOf(head, first, leaves, added) {
 			which = other
 			break
@@ -146,8 +146,8 @@ func (j *judge) tileOf(head signer.Head, first, width uint64, added []leaf, name
 	return leaves, true
 }
 
-// isOf reports whether the leaves of a data tile are a head's: they agree with the list, and the last ones lead to the
-// root.
+// isOf reports whether the leaves of a data tile belong to a head: they agree with the list, and the last ones lead to
+// the head's root.
 func (j *judge) isOf(head signer.Head, first uint64, leaves, added []leaf) bool {
 	known := min(max(len(j.leaves)-int(first), 0), len(leaves))
 	for i := range known {
@@ -159,7 +159,7 @@ func (j *judge) isOf(head signer.Head, first uint64, leaves, added []leaf) bool 
 	return !isLast || j.rootOf(slices.Concat(added, leaves[known:])) == head.Root
 }
 
-// rootOf returns the root of the list with more leaves.
+// rootOf returns the root of the list followed by more leaves.
 func (j *judge) rootOf(added []leaf) (root [32]byte) {
 	if len(added) == 0 {
 		return j.roots[len(j.leaves)]
@@ -180,8 +180,8 @@ func (j *judge) rootOf(added []leaf) (root [32]byte) {
 	return root
 }
 
-// isLists judges whether a head is of the tree whose tiles are in the store, and whether that tree's leaves begin with
-// the list. It returns the leaves that come after the list.
+// isLists judges whether a head has the root of the tree whose tiles are in the store, and whether that tree's leaves
+// agree with the list. It returns the leaves that follow the list.
 func (j *judge) isLists(head signer.Head, name, rule string) (added []leaf, ok bool) {
 	if j.w.excuses.signed {
 		return nil, false
@@ -200,9 +200,9 @@ func (j *judge) isLists(head signer.Head, name, rule string) (added []leaf, ok b
 	return added, true
 }
 
-// continues judges whether a head that a machine has signed continues all heads that it accepted: a node that accepted a
-// head of one list never has one of another list signed (docs/NODE.md, "A lock that falls").
-// Added are the leaves that come after the list.
+// continues judges whether a head that a machine has signed continues all heads that the machine accepted. A node that
+// accepted a head of one list must never have a head of another list signed (docs/NODE.md, "A lock that falls").
+// `added` holds the leaves that follow the list.
 func (j *judge) continues(m *machine, head signer.Head, added []leaf) {
 	if len(m.accepted) == 0 {
 		return
@@ -220,11 +220,11 @@ func (j *judge) continues(m *machine, head signer.Head, added []leaf) {
 				"list of %d at %d ms", m.name, head.Size, head.Timestamp, before.Size, before.Timestamp)
 		}
 	}
-	// All of them are of one list now, so the newest is enough.
+	// All of them belong to one list now, so the newest is enough.
 	m.accepted = m.accepted[len(m.accepted)-1:]
 }
 
-// grow adds leaves to the list.
+// grow appends leaves to the list.
 func (j *judge) grow(added []leaf, name string) {
 	for _, one := range added {
 		index := len(j.leaves)

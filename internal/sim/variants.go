@@ -7,13 +7,13 @@ import (
 	"time"
 )
 
-// publicEach is how many histories there are for each one with a checkpoint for readers without a node.
+// One of publicEach histories has a checkpoint for readers that do not ask a node.
 const publicEach = 3
 
-// queuesEach is how many histories there are for each one in which submissions wait for several steps.
+// In one of queuesEach histories, submissions wait for several steps.
 const queuesEach = 23
 
-// NewPlan returns the plan of a seed.
+// NewPlan returns the plan for a seed.
 func NewPlan(seed int64) Plan {
 	plan := newPlan(seed)
 	if seed%queuesEach == queuesEach/2 {
@@ -42,7 +42,7 @@ func NewPlan(seed int64) Plan {
 	return plan
 }
 
-// How many histories there are for each one of startsUnheard, of startsUnread, and so on.
+// One of unheardEach histories is a history of startsUnheard, one of unreadEach is one of startsUnread, and so on.
 const (
 	unheardEach    = 3
 	unreadEach     = 74
@@ -53,8 +53,8 @@ const (
 	beforeSwapEach = 59
 )
 
-// readsElsewhere has one node make all steps, and readers in haste ask the others, which know of the steps only by
-// reading. Each of these is away now and then, when it has to return what it knows.
+// readsElsewhere lets one node make all steps. Readers in haste ask the other nodes, which know the steps only by
+// reading. Each of these is away at times, and then has to return what it knows.
 func (p *Plan) readsElsewhere(random *rand.Rand) {
 	p.Haste, p.Machines, p.Answers, p.Faults, p.Clients = lateHeads, max(p.Machines, 2), 0, nil, nil
 	begins := time.Duration(500+random.Intn(500)) * time.Millisecond
@@ -74,8 +74,8 @@ func (p *Plan) readsElsewhere(random *rand.Rand) {
 	}
 }
 
-// losesAtRest has the newest step lost in a power failure, some times, or the lock with its engine. So the nodes that
-// start have to restore that step, or have to refuse.
+// losesAtRest lets the newest step be lost in a power failure, three times, or the lock with its engine. The nodes that
+// start must then restore that step, or must refuse.
 func (p *Plan) losesAtRest(random *rand.Rand) {
 	p.Machines, p.Answers = max(p.Machines, 2+random.Intn(2)), 0
 	p.Faults = slices.DeleteFunc(p.Faults[:len(p.Faults)/2], func(f Fault) bool { return f.Kind >= PutLost })
@@ -90,8 +90,8 @@ func (p *Plan) losesAtRest(random *rand.Rand) {
 		Fault{At: at + random.Intn(20), Kind: KilledBefore})
 }
 
-// fallsUnsigned pauses a node after it decided a step and accepted that, and before it has the head signed. Meanwhile the
-// lock falls to the state before, and other nodes go on from there.
+// fallsUnsigned pauses a node after its step was decided and accepted, and before the head is signed. Meanwhile, the
+// lock is rolled back to the state before, and other nodes continue from there.
 func (p *Plan) fallsUnsigned(random *rand.Rand) {
 	p.Machines, p.Answers, p.Faults = max(p.Machines, 2), 0, nil
 	own, begins := Client{Begins: 300 * time.Millisecond}, time.Duration(900+random.Intn(600))*time.Millisecond
@@ -113,8 +113,8 @@ func (p *Plan) fallsUnsigned(random *rand.Rand) {
 	}
 }
 
-// fallsBeforeSwap pauses a node before it swaps the lock. Meanwhile others make steps from the same text, and then the lock
-// and the guard's state fall back, mostly to that text.
+// fallsBeforeSwap pauses a node before it swaps the lock. Meanwhile, others make steps from the same text, and then the
+// lock and the guard's state are rolled back, mostly to that text.
 func (p *Plan) fallsBeforeSwap(random *rand.Rand) {
 	p.Machines, p.Answers, p.Witnesses = max(p.Machines, 2), 0, Witnesses{}
 	begins := time.Duration(2500+random.Intn(1000)) * time.Millisecond
@@ -129,9 +129,9 @@ func (p *Plan) fallsBeforeSwap(random *rand.Rand) {
 	}
 }
 
-// thinsAfterPause pauses a node for so long that others put heads which it does not know when its janitor goes on. Later
-// it is paused again, for a moment, while its janitor deletes heads. The other nodes put several heads at a time, with
-// nothing between for a while.
+// thinsAfterPause pauses a node for so long that others put heads which it does not know when its janitor continues.
+// Later it is paused again, for a second or two, while its janitor deletes heads. The other nodes put several heads at
+// a time, with a pause of some seconds between.
 func (p *Plan) thinsAfterPause(random *rand.Rand) {
 	p.Machines, p.Answers, p.Janitors = max(p.Machines, 2), 0, true
 	begins := time.Duration(1000+random.Intn(5000)) * time.Millisecond
@@ -152,8 +152,8 @@ func (p *Plan) thinsAfterPause(random *rand.Rand) {
 	}
 }
 
-// queues has steps take few entries, and has the same entries submitted twice at once, in two orders. So the second
-// submission of an entry is looked up before its step, and waits until several steps later.
+// queues limits steps to few entries, and lets the same entries be submitted twice at once, in two orders. So the
+// second submission of an entry is looked up before the step of the first one, and waits for several more steps.
 func (p *Plan) queues() {
 	p.MaxBatch = 2
 	const entries = 8
@@ -167,12 +167,12 @@ func (p *Plan) queues() {
 	}
 }
 
-// hastensEach is how many histories there are for each one of hastens.
+// One of hastensEach histories is a history of hastens.
 const hastensEach = 19
 
-// hastens has the same entries submitted to all nodes at once, and readers in haste. So an entry may be published by
-// another node while it is looked up, and a reader may get a head while another one gets a later one. In a third of
-// these histories each machine is away some times, when it has to return what it knows.
+// hastens lets the same entries be submitted to all nodes at once, with readers in haste. So another node may publish
+// an entry while it is looked up, and a reader may get a head while another reader gets a later one. In a third of
+// these histories, each machine is away at times, and then has to return what it knows.
 func (p *Plan) hastens(seed int64) {
 	p.Haste = lateLookups
 	for round := range 4 {
@@ -192,8 +192,8 @@ func (p *Plan) hastens(seed int64) {
 	}
 }
 
-// startsUnheard has each witness fail once after all stores are rolled back, so that none says what it saw when a node
-// starts.
+// startsUnheard lets each witness fail once after all stores are rolled back, so that no witness says what it saw when
+// a node starts.
 func (p *Plan) startsUnheard() {
 	for _, f := range p.Faults {
 		if f.Kind == AllRolledBack {
@@ -205,8 +205,8 @@ func (p *Plan) startsUnheard() {
 	}
 }
 
-// startsUnread has the index lose its newest places, and has the only node start again. The first tile cannot be read
-// by which that node would see the loss.
+// startsUnread lets the index lose its newest places, and lets the only node start again. The first reading of a tile
+// fails, by which that node would see the loss.
 func (p *Plan) startsUnread(seed int64) {
 	p.Machines, p.Answers = 1, 0
 	at := 45 + int(seed%61)

@@ -20,24 +20,24 @@ import (
 	"wagtenib/internal/witness"
 )
 
-// Witnesses says how many witnesses a log has, and how many of them must cosign.
+// Witnesses holds the number of a log's witnesses, and how many of them must cosign.
 type Witnesses struct {
 	Count   int
 	Quorums witness.Quorums
 }
 
-// observer is a simulated witness: the proved decision, a key, and the message that it cosigned last.
+// observer is a simulated witness, with a key and the messages that it cosigned. It uses the proved decision.
 type observer struct {
 	cosigner
 	w *world
-	// messages are all that it cosigned since it was rolled back last, and rolled says that it was.
+	// messages holds the messages that it cosigned and that no rollback removed. rolled is set if it was rolled back.
 	messages [][]byte
 	rolled   bool
-	// says is how often it answers wrongly from now on, and which is how.
+	// says is the number of wrong answers that it gives from now on, and which selects the kind of wrong answer.
 	says, which int
 }
 
-// cosigner is a witness's key, and the stand-in that signs in its place. It is the same in all histories.
+// cosigner holds a witness's key, and the stand-in that signs instead of it. It is the same in all histories.
 type cosigner struct {
 	name     string
 	key      ed25519.PublicKey
@@ -60,14 +60,14 @@ var cosigners = func() (all []cosigner) {
 	return all
 }()
 
-// newObservers returns the witnesses of a plan.
+// newObservers adds the witnesses of the plan to the world.
 func (w *world) newObservers() {
 	for i := range w.plan.Witnesses.Count {
 		w.observers = append(w.observers, &observer{w: w, cosigner: cosigners[i]})
 	}
 }
 
-// witnesses returns the witnesses as a machine's node asks them.
+// witnesses returns the witnesses that a machine's node asks.
 func (m *machine) witnesses() node.Witnesses {
 	all := node.Witnesses{Quorums: m.w.plan.Witnesses.Quorums}
 	for _, o := range m.w.observers {
@@ -76,7 +76,7 @@ func (m *machine) witnesses() node.Witnesses {
 	return all
 }
 
-// asked is a witness as a machine's node asks it.
+// asked implements a witness for a machine's node.
 type asked struct {
 	*observer
 	m *machine
@@ -99,8 +99,8 @@ func (a asked) AddCheckpoint(ctx context.Context, body []byte) (status int, answ
 	return status, answer, err
 }
 
-// answers does what a witness does (C2SP tlog-witness): it checks the log's signature, asks the proved decision, keeps
-// the message, and cosigns it.
+// answers answers a request as a witness does (C2SP tlog-witness): it checks the log's signature, asks the proved
+// decision, stores the message, and cosigns it.
 func (o *observer) answers(body []byte) (status int, answer string) {
 	r, err := witness.ParseRequest(body)
 	if err != nil {
@@ -152,7 +152,8 @@ func (o *observer) size() uint64 {
 	return 0
 }
 
-// wrong answers what no witness answers: a size that it never saw, no size, or a cosignature that is not its key's.
+// wrong returns an answer that no correct witness gives: a size that it never saw, no size, or a cosignature of another
+// message.
 func (o *observer) wrong(r witness.Request) (status int, answer string) {
 	switch o.which % 3 {
 	case 0:
@@ -163,7 +164,7 @@ func (o *observer) wrong(r witness.Request) (status int, answer string) {
 	return http.StatusOK, o.line([]byte("another message"), 1)
 }
 
-// line returns the line of a cosignature (C2SP tlog-cosignature).
+// line returns the signature line of a cosignature (C2SP tlog-cosignature).
 func (o *observer) line(message []byte, seconds uint64) string {
 	blob := binary.BigEndian.AppendUint32(nil, o.verifier.KeyHash())
 	blob = append(binary.BigEndian.AppendUint64(blob, seconds), o.sign(message)...)
@@ -180,8 +181,8 @@ func (o *observer) rollBack(by int) bool {
 	return true
 }
 
-// mayRoll reports whether one more witness may be rolled back in this history: witnesses that are all rolled back with
-// the log show nothing.
+// mayRoll reports whether one more witness may be rolled back in this history. If all witnesses are rolled back with
+// the log, none of them shows this.
 func (w *world) mayRoll() bool {
 	rolled := 0
 	for _, o := range w.observers {
@@ -192,8 +193,8 @@ func (w *world) mayRoll() bool {
 	return rolled < w.plan.Witnesses.Quorums.Faults
 }
 
-// cosigns judges a checkpoint that a witness cosigns. It must be the list's, unless the witness was rolled back, or the
-// machine that signed it cannot know of the list's newest head.
+// cosigns judges a checkpoint that a witness cosigns. It must be a head of the list, unless the witness was rolled
+// back, or the machine that signed it cannot know the list's newest head.
 func (j *judge) cosigns(by *observer, head signer.Head) {
 	j.stats.Cosigned++
 	if !by.rolled && !j.w.excuses.theirs[head] {

@@ -16,13 +16,13 @@ import (
 	"wagtenib/internal/stores"
 )
 
-// Origin is the log's name in checkpoints: the proved steps need it.
+// Origin is the log's name in checkpoints, which the proved steps need.
 const Origin = "log.example/sim"
 
 // epoch is the true time at the beginning of each history.
 var epoch = time.Date(2027, 3, 1, 0, 0, 0, 0, time.UTC)
 
-// world is what one history has: the stores, the machines, and the judge of all that is put and answered.
+// world holds everything of one history: the stores, the machines, the witnesses, and the judge.
 type world struct {
 	scheduler
 	plan     Plan
@@ -35,24 +35,25 @@ type world struct {
 	observed
 }
 
-// observed is what the simulation knows of a history so far.
+// observed holds what the simulation knows about a history so far.
 type observed struct {
 	judge   *judge
 	excuses excuses
 	history history
-	// bentAt is when an object that could be read was bent or lost last, and edge the tile that was bent at the edge.
+	// bentAt is the last time at which a readable object was damaged or lost. edge is the tile that was damaged at the
+	// right edge.
 	bentAt time.Duration
 	edge   bentEdge
-	// stopped is why the log stopped in the end.
+	// stopped is the reason why the log stopped in the end.
 	stopped error
 }
 
-// events are the faults of the plan, by their calls.
+// events holds the faults of the plan, and the number of calls that decides when they happen.
 type events struct {
-	// calls counts the calls to stores, and faults are those that have not happened yet.
+	// calls is the number of calls to stores so far. faults holds the faults that have not happened yet.
 	calls  int
 	faults []Fault
-	// losesNext says that the next put is lost, and calm that no fault happens any more.
+	// If losesNext is set, the next put is lost. If calm is set, no fault happens any more.
 	losesNext, calm bool
 }
 
@@ -69,50 +70,52 @@ func (e *events) due(m *machine, n int, call string) (now []Fault) {
 	return now
 }
 
-// machine is where one node runs, is killed and starts again.
+// machine is a machine on which one node runs, is killed and starts again.
 type machine struct {
 	w       *world
 	name    string
 	process *process
 	node    *node.Node
-	// refused is why the node did not start when that was tried last.
+	// refused is the reason why the last start of the node was refused, or nil.
 	refused error
-	// offset is how far the time of day is off, and away until when no call reaches a store.
+	// offset is the error of the machine's time of day. away is the time until which no call reaches a store.
 	offset, away time.Duration
 	disk
 	signer  *guarded
 	janitor *janitor.Janitor
 }
 
-// disk is the memory of a machine.
+// disk holds the memory of a machine.
 type disk struct {
-	// remembered is the newest head that it has, and accepted are all that a node was told to be there since it was made.
+	// remembered is the newest head in the memory. accepted holds all heads that a node loaded from it or saved to it
+	// since it was made.
 	remembered *signer.Head
 	accepted   []signer.Head
 }
 
-// excuses say what a history may do since a store did not keep what it acknowledged, or a clock was wrong.
+// excuses holds what a history is allowed to do after a store lost something that it acknowledged, or a clock was
+// wrong.
 type excuses struct {
-	// loss says that the log may stop, if it says why. clock says that it may stop for its clock.
+	// If loss is set, the log may stop, if it says why. If clock is set, it may stop because of its clock.
 	loss, clock bool
-	// tiles says that a tile's name may get two contents, repeats that an identity may have two entries, and missing
-	// that objects may be missing or bent.
+	// If tiles is set, a tile's name may get two contents. If repeats is set, an identity may have two entries. If missing
+	// is set, objects may be missing or damaged.
 	tiles, repeats, missing bool
-	// ahead says that a node may have started by a wrong clock.
+	// If ahead is set, a node may have started with a wrong clock.
 	ahead bool
-	// signed says that only the witnesses show that the log was longer. They see a head after it was signed, so one of
-	// another list may be signed. It must not be put.
+	// If signed is set, only the witnesses show that the log was longer. They see a head only after it was signed, so a
+	// head of another list may be signed. It must not be put.
 	signed bool
-	// unput has the machines that did not accept a signed head when the lock and the guard's state were rolled back
-	// before that head was put. Their nodes may have a head of another list signed, which must not be put. theirs has
-	// the heads that they had signed since. A witness may cosign one of them if it did not see the head that was lost.
+	// unput holds the machines that had not accepted a signed head when the lock and the guard's state were rolled back
+	// before that head was put. Their nodes may have a head of another list signed, which must not be put. theirs holds
+	// the heads that they had signed since. A witness may cosign one of them if it did not see the lost head.
 	unput  map[*machine]bool
 	theirs map[signer.Head]bool
-	// again has the identities that may get one more entry.
+	// again holds the identities that may get one more entry.
 	again map[[32]byte]bool
 }
 
-// errFails is a fault of a store; errAway is one of the way to it.
+// errFails is a fault of a store. errAway is a fault of the connection to it.
 var (
 	errFails    = errors.New("sim: the store fails")
 	errAway     = errors.New("sim: the store does not answer")
@@ -120,7 +123,7 @@ var (
 	errReadOnly = errors.New("sim: the store is read-only")
 )
 
-// newWorld returns the world of a plan.
+// newWorld returns the world for a plan.
 func newWorld(plan Plan, proved node.Proved, logs bool) *world {
 	w := &world{plan: plan, proved: proved, events: events{faults: slices.Clone(plan.Faults)}, stores: newMemory(),
 		observed: observed{history: history{isKept: logs}, bentAt: -readWithin}}
@@ -160,7 +163,7 @@ func (m *machine) operate() {
 	}
 }
 
-// carry runs a node until it is killed.
+// carry runs a node until it is killed, or its start is refused.
 func (m *machine) carry() {
 	ctx := m.w.background()
 	before := m.w.refuses(m)
@@ -178,17 +181,17 @@ func (m *machine) carry() {
 	if m.w.plan.Janitors {
 		m.tidies()
 	}
-	// It ends with its process only.
+	// It ends only with its process.
 	_ = loop.Run(ctx)
 }
 
-// usualBatch is how many entries a step takes at most, unless the plan says less.
+// usualBatch is the maximum number of entries of a step, unless the plan has another one.
 const usualBatch = 300
 
-// maxSkew is how far a clock may be off by the nodes' configuration.
+// maxSkew is the maximum error of a clock in the nodes' configuration.
 const maxSkew = 10 * time.Second
 
-// config is the configuration of a machine's node.
+// config returns the configuration of a machine's node.
 func (m *machine) config() node.Config {
 	shared := node.Stores{Objects: objects{m}, Lock: lock{m}, Index: index{m}}
 	if m.w.plan.Public {
@@ -211,7 +214,7 @@ func (m *machine) config() node.Config {
 	}
 }
 
-// clock is a machine's.
+// clock implements the clock of a machine in virtual time.
 type clock struct{ m *machine }
 
 func (c clock) Now() time.Time         { return epoch.Add(c.m.w.now + c.m.offset) }
@@ -231,7 +234,7 @@ func (c clock) Wait(ctx context.Context, long time.Duration, wake <-chan struct{
 	return of.Err()
 }
 
-// remembering is the memory of a machine: a file on its disk.
+// remembering implements the memory of a machine, which is a file on its disk.
 type remembering struct{ m *machine }
 
 func (r remembering) Load(ctx context.Context) (head *signer.Head, err error) {
@@ -256,7 +259,7 @@ func (r remembering) Save(ctx context.Context, head signer.Head) error {
 	return err
 }
 
-// call carries out one call of a machine's node on a store, with its faults.
+// call makes one call of a machine's node to a store, with the faults that happen at this call.
 func (m *machine) call(ctx context.Context, store, what string, writes bool, do func() error) error {
 	w, of := m.w, ctx.(*simulated)
 	w.events.calls++
@@ -281,7 +284,7 @@ func (m *machine) call(ctx context.Context, store, what string, writes bool, do 
 	return err
 }
 
-// befallen does a call, or does not, by its fate. It returns the fault's name.
+// befallen makes a call, or does not, depending on its fault (fate). It returns the fault's name and the outcome.
 func (m *machine) befallen(ctx *simulated, store, what string, writes bool, fate *Fault,
 	do func() error) (fault string, err error) {
 	w := m.w
@@ -310,8 +313,8 @@ func (m *machine) befallen(ctx *simulated, store, what string, writes bool, fate
 	return fault, m.outcome(ctx, fate, err)
 }
 
-// isKept reports whether a call does not reach its store before its caller gives up or is killed, and with which error
-// it ends then.
+// isKept reports whether a call does not reach its store before its caller gives up or is killed. It also returns the
+// error with which the call then ends.
 func (m *machine) isKept(ctx *simulated, store, what string, writes bool, fate *Fault, do func() error) (bool, error) {
 	w := m.w
 	switch fate.Kind {
@@ -324,8 +327,8 @@ func (m *machine) isKept(ctx *simulated, store, what string, writes bool, fate *
 		w.spawn(nil, func() {
 			w.wait(ctx.left()+fate.Long, nil)
 			if m.takes(store, writes) == nil && cuts == w.judge.counts[StepLost] {
-				// No caller waits for the outcome any more. If a bent tile is deleted late, another node may have put the
-				// right one meanwhile, and that one is lost.
+				// No caller waits for the outcome any more. If a damaged tile is deleted late, another node may have put the
+				// right tile meanwhile, and that tile is lost.
 				w.log("store", what, fmt.Sprint(do()), "done late")
 				isMending := store == "objects" && strings.HasPrefix(what, "delete tile/") && w.bentAt > 0
 				w.excuses.loss = w.excuses.loss || isMending
@@ -338,7 +341,7 @@ func (m *machine) isKept(ctx *simulated, store, what string, writes bool, fate *
 	return true, unknown(ctx.Err())
 }
 
-// outcome returns what the caller learns of a call that was done with an error or without.
+// outcome returns the error that the caller gets for a call that was done with an error or without.
 func (m *machine) outcome(ctx *simulated, fate *Fault, err error) error {
 	kind := kinds
 	if fate != nil {
@@ -362,10 +365,10 @@ func (m *machine) outcome(ctx *simulated, fate *Fault, err error) error {
 	return err
 }
 
-// unknown is an error that does not say whether the call was done.
+// unknown returns an error that does not say whether the call was done.
 func unknown(err error) error { return fmt.Errorf("%w: %w", stores.ErrUnknown, err) }
 
-// latency is how long a call takes: mostly some milliseconds.
+// latency returns a random duration of a call, mostly some milliseconds.
 func (w *world) latency() time.Duration {
 	if w.random.Intn(30) == 0 {
 		return time.Duration(50+w.random.Intn(400)) * time.Millisecond
@@ -373,7 +376,7 @@ func (w *world) latency() time.Duration {
 	return time.Duration(1+w.random.Intn(6)) * time.Millisecond
 }
 
-// takes returns an error if a store does not take the call now. The memory is not a store.
+// takes returns an error if a store refuses the call now. A machine's memory never does.
 func (m *machine) takes(store string, writes bool) error {
 	s := &m.w.stores
 	switch {

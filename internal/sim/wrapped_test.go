@@ -11,7 +11,7 @@ import (
 	"wagtenib/internal/sim"
 )
 
-// wrapped is the proved decider, and changes what it says.
+// wrapped wraps the proved decider, and changes its input or its answers.
 type wrapped struct {
 	*decider.Decider
 	// outcome changes an outcome before the decider gets it, and next the command that follows.
@@ -30,7 +30,7 @@ func (w *wrapped) Next(command *decider.Command, outcome *decider.Outcome) (*dec
 	return next, err
 }
 
-// skips returns a decider that leaves one command out, as if it were done.
+// skips returns a decider that skips one command, as if it were done.
 func skips(do string) node.Decider {
 	return &wrapped{Decider: decider.New(), next: func(w *wrapped, _, next *decider.Command,
 		err error) (*decider.Command, error) {
@@ -41,14 +41,14 @@ func skips(do string) node.Decider {
 	}}
 }
 
-// ahead makes steps with timestamps that are an hour ahead.
+// ahead makes steps with timestamps that are 50 minutes ahead.
 type ahead struct{ *step.Stepper }
 
 func (a ahead) Step(line string, edge [][]byte, batch []step.Submission, now, most uint64) (*step.Stepped, error) {
 	return a.Stepper.Step(line, edge, batch, now+3_000_000, most+3_000_000)
 }
 
-// other makes steps of another certificate than the last one that was submitted.
+// other makes steps with another certificate instead of the last one that was submitted.
 type other struct{ *step.Stepper }
 
 func (o other) Step(line string, edge [][]byte, batch []step.Submission, now, most uint64) (*step.Stepped, error) {
@@ -59,9 +59,9 @@ func (o other) Step(line string, edge [][]byte, batch []step.Submission, now, mo
 	return o.Stepper.Step(line, edge, batch, now, most)
 }
 
-// TestWrappedDecisions changes the order and the steps from outside, and has the judge find each change within a few
-// seeds, by the rule that says so. A change may break another rule first in some of them.
-func TestWrappedDecisions(t *testing.T) {
+// TestJudgeFindsWrongDecisions changes commands and steps from outside. The judge must find each change within a few
+// seeds, by the expected rule. With some seeds, a change may break another rule first.
+func TestJudgeFindsWrongDecisions(t *testing.T) {
 	steps := step.New(sim.Origin)
 	for _, of := range []struct {
 		name, rule string
@@ -98,7 +98,7 @@ func TestWrappedDecisions(t *testing.T) {
 		found := ""
 		for seed := int64(0); seed < 40 && found != of.rule; seed++ {
 			plan := sim.NewPlan(seed)
-			// A node with witnesses looks at its head once more before it takes anything, which hides a wrong order.
+			// A node with witnesses looks at its head again before it makes a step, which hides a wrong order.
 			plan.Witnesses = sim.Witnesses{}
 			if v := sim.Run(plan, of.with, false).Violation; v != nil {
 				found = v.Rule
@@ -111,8 +111,8 @@ func TestWrappedDecisions(t *testing.T) {
 	}
 }
 
-// TestRefusesTheCommandOfAnotherStep has the decider say the outcome of an earlier step in the place of this one's, as a
-// reply would that has slipped by one. The node must not swap the lock to it, and must say what is wrong.
+// TestRefusesTheCommandOfAnotherStep lets the decider return a command with the state of an earlier step, as if its
+// answers had slipped by one. The node must not swap the lock to that state, and must say what is wrong.
 func TestRefusesTheCommandOfAnotherStep(t *testing.T) {
 	for _, do := range []string{decider.Stage, decider.Swap} {
 		var earlier *decider.Command

@@ -20,7 +20,7 @@ import (
 	"wagtenib/internal/watch"
 )
 
-// clock is a clock that the test sets. A wait passes at once, and moves it.
+// clock is a clock that the test sets. Wait returns at once, and moves the clock.
 type clock struct{ now atomic.Int64 }
 
 func newClock(milliseconds int64) *clock {
@@ -36,9 +36,9 @@ func (c *clock) Wait(ctx context.Context, d time.Duration) error {
 	return ctx.Err()
 }
 
-// wantsShown writes each piece of evidence of a log to a folder, and has the independent judge look at it. With a
-// changed head it must show nothing.
-func wantsShown(t *testing.T, k *keeper, log watch.Log) {
+// checkEvidence writes each piece of evidence against a log to a folder, and checks that the independent judge confirms
+// it, and refuses it with a changed head.
+func checkEvidence(t *testing.T, k *keeper, log watch.Log) {
 	t.Helper()
 	for _, evidence := range k.accused[log.ID] {
 		folder := writeEvidence(t, evidence)
@@ -46,7 +46,7 @@ func wantsShown(t *testing.T, k *keeper, log watch.Log) {
 		if err != nil || shown == "" {
 			t.Errorf("%s: the judge says %q, %v", evidence.Verdict, shown, err)
 		}
-		showsNoOther(t, folder, evidence, log.PublicKey)
+		checkNoOtherVerdict(t, folder, evidence, log.PublicKey)
 		if evidence.Verdict == watch.VerdictSigner {
 			continue
 		}
@@ -60,18 +60,18 @@ func wantsShown(t *testing.T, k *keeper, log watch.Log) {
 			t.Fatal("the head cannot be changed")
 		}
 		if _, err := logcheck.Evidence(folder, log.PublicKey); !errors.Is(err, logcheck.ErrEvidence) {
-			t.Errorf("%s: the judge takes a changed head: %v", evidence.Verdict, err)
+			t.Errorf("%s: the judge accepts a changed head: %v", evidence.Verdict, err)
 		}
 	}
 }
 
-// strongVerdicts are those that files show by themselves, or nearly so.
+// strongVerdicts are the verdicts that the files of evidence show without this monitor, and an unknown one.
 var strongVerdicts = []string{watch.VerdictFork, watch.VerdictShrunk, watch.VerdictNotLater, watch.VerdictLateMerge,
 	watch.VerdictLaterEntry, watch.VerdictWrongIndex, watch.VerdictNoLeaf, watch.VerdictDamagedTile, watch.VerdictSigner,
 	watch.VerdictInconsistent, watch.VerdictPromise, watch.VerdictFewCosigned, "no such verdict"}
 
-// showsNoOther has the judge look at the files of evidence under every other verdict, of which they must show none.
-func showsNoOther(t *testing.T, folder string, evidence watch.Evidence, key []byte) {
+// checkNoOtherVerdict checks that the judge refuses the files of evidence under every other verdict.
+func checkNoOtherVerdict(t *testing.T, folder string, evidence watch.Evidence, key []byte) {
 	t.Helper()
 	about := filepath.Join(folder, watch.FileAbout)
 	own := evidence.Files[watch.FileAbout]
@@ -85,7 +85,7 @@ func showsNoOther(t *testing.T, folder string, evidence watch.Evidence, key []by
 			t.Fatal("the verdict cannot be changed")
 		}
 		if shown, err := logcheck.Evidence(folder, key); !errors.Is(err, logcheck.ErrEvidence) {
-			t.Errorf("the evidence of %q shows %q: %s, %v", evidence.Verdict, verdict, shown, err)
+			t.Errorf("the evidence of %q also shows %q: %s, %v", evidence.Verdict, verdict, shown, err)
 		}
 	}
 	if err := os.WriteFile(about, own, 0o600); err != nil {
@@ -104,48 +104,53 @@ func writeEvidence(t *testing.T, evidence watch.Evidence) (folder string) {
 	return folder
 }
 
-// scene is a log that is followed, and is accepted so far.
+// scene holds a log and its follower, after a first pass that accepted the log's head.
 type scene struct {
 	log      *testlog.Log
-	of       watch.Log
+	watched  watch.Log
 	keeper   *keeper
 	clock    *clock
 	follower *watch.Follower
 }
 
+// options returns the options of the scene's followers.
+func (s *scene) options() watch.Options {
+	return watch.Options{FromStart: true, Client: logclient.Options{Clock: s.clock}}
+}
+
 // newScene follows a log of 300 entries from its start.
 func newScene(t *testing.T, kind string, mmd time.Duration) *scene {
 	t.Helper()
-	s := &scene{log: newLog(t, 300), keeper: newKeeper(), clock: newClock(begun + 300_000)}
-	s.of = serve(t, s.log, kind)
-	s.of.MaxMergeDelay = mmd
-	s.follower = follower(t, s.of, s.keeper, watch.Options{FromStart: true, Client: logclient.Options{Clock: s.clock}})
+	s := &scene{log: newLog(t, 300), keeper: newKeeper(), clock: newClock(epoch + 300_000)}
+	s.watched = serve(t, s.log, kind)
+	s.watched.MaxMergeDelay = mmd
+	s.follower = newFollower(t, s.watched, s.keeper, s.options())
 	if err := s.follower.Pass(context.Background()); err != nil {
 		t.Fatal(err)
 	}
 	return s
 }
 
-// wantsAccused makes a pass, which must accuse the log.
-func (s *scene) wantsAccused(t *testing.T, verdict string) {
+// checkAccused makes a pass, and checks that it accuses the log with this verdict.
+func (s *scene) checkAccused(t *testing.T, verdict string) {
 	t.Helper()
 	var accused *watch.AccusedError
 	if err := s.follower.Pass(context.Background()); !errors.As(err, &accused) || accused.Verdict != verdict {
-		t.Fatalf("the pass ends with %v, and %q is due", err, verdict)
+		t.Fatalf("the pass ends with %v, and the verdict %q is expected", err, verdict)
 	}
-	if status := s.keeper.statuses[s.of.ID]; !errors.As(status.Fault, &accused) {
+	if status := s.keeper.statuses[s.watched.ID]; !errors.As(status.Fault, &accused) {
 		t.Errorf("the status has the fault %v", status.Fault)
 	}
 }
 
-// heads are what a dishonest log signs after 300 entries, by the verdict on it.
+// heads holds the lies that a dishonest log signs after 300 entries, by the verdict on each.
 var heads = map[string]func(*testlog.Log){
-	watch.VerdictFork:     func(log *testlog.Log) { log.PublishRoot(300, begun+310_000, [32]byte{1}) },
-	watch.VerdictShrunk:   func(log *testlog.Log) { log.Publish(299, begun+310_000) },
-	watch.VerdictNotLater: func(log *testlog.Log) { log.Add(entriesOf(300, 1)...); log.Publish(301, begun+300_000) },
+	watch.VerdictFork:     func(log *testlog.Log) { log.PublishRoot(300, epoch+310_000, [32]byte{1}) },
+	watch.VerdictShrunk:   func(log *testlog.Log) { log.Publish(299, epoch+310_000) },
+	watch.VerdictNotLater: func(log *testlog.Log) { log.Add(makeEntries(300, 1)...); log.Publish(301, epoch+300_000) },
 	watch.VerdictOtherRoot: func(log *testlog.Log) {
-		log.Add(entriesOf(300, 5)...)
-		log.PublishRoot(305, begun+310_000, [32]byte{1})
+		log.Add(makeEntries(300, 5)...)
+		log.PublishRoot(305, epoch+310_000, [32]byte{1})
 	},
 }
 
@@ -155,24 +160,24 @@ func TestAccusesByHeads(t *testing.T) {
 			t.Run(kind+" "+verdict, func(t *testing.T) {
 				s := newScene(t, kind, 0)
 				lie(s.log)
-				s.wantsAccused(t, verdict)
-				// The same answer again is no news, and the log is still accused.
+				s.checkAccused(t, verdict)
+				// The same answer again adds no evidence, but the pass still fails.
 				if err := s.follower.Pass(context.Background()); err == nil {
-					t.Error("the second pass is content")
+					t.Error("the second pass accepts the same lie")
 				}
-				wantsVerdicts(t, s.keeper, s.of.ID, verdict)
-				wantsShown(t, s.keeper, s.of)
-				// What is right afterwards is followed again.
-				s.log.Add(entriesOf(s.log.Size(), 10)...)
-				s.log.Publish(s.log.Size(), begun+400_000)
+				checkVerdicts(t, s.keeper, s.watched.ID, verdict)
+				checkEvidence(t, s.keeper, s.watched)
+				// The log is followed again after it has signed an honest head.
+				s.log.Add(makeEntries(s.log.Size(), 10)...)
+				s.log.Publish(s.log.Size(), epoch+400_000)
 				if err := s.follower.Pass(context.Background()); err != nil {
 					t.Fatal(err)
 				}
-				if state := s.keeper.states[s.of.ID]; state.Accepted.Root != s.log.Root(s.log.Size()) {
+				if state := s.keeper.states[s.watched.ID]; state.Accepted.Root != s.log.Root(s.log.Size()) {
 					t.Errorf("%d leaves are accepted", state.Accepted.TreeSize)
 				}
-				if found := s.keeper.indexes(s.of.ID); !slices.Equal(slices.Compact(slices.Sorted(slices.Values(found))),
-					count(0, s.log.Size())) {
+				if found := s.keeper.indexes(s.watched.ID); !slices.Equal(slices.Compact(slices.Sorted(slices.Values(found))),
+					numbers(0, s.log.Size())) {
 					t.Error("an entry was left out")
 				}
 			})
@@ -180,55 +185,55 @@ func TestAccusesByHeads(t *testing.T) {
 	}
 }
 
-// A log whose later entries are of another history is accused by the proof before they are read, and by their root
-// after that.
+// A log whose later entries belong to another history is accused by the proof before they are read, and by their root
+// afterwards.
 func TestAccusesRewrittenHistory(t *testing.T) {
 	for _, kind := range kinds {
 		t.Run(kind, func(t *testing.T) {
 			s := newScene(t, kind, 0)
 			other := s.log.Fork(200)
-			other.Add(entriesOf(1_000_000, 3000)...)
-			other.Publish(3200, begun+5_000_000_000)
+			other.Add(makeEntries(1_000_000, 3000)...)
+			other.Publish(3200, epoch+5_000_000_000)
 			server := httptest.NewServer(other)
 			t.Cleanup(server.Close)
-			s.of.URL = server.URL
-			s.follower = follower(t, s.of, s.keeper, watch.Options{FromStart: true, Client: logclient.Options{Clock: s.clock}})
-			s.wantsAccused(t, watch.VerdictOtherRoot)
-			wantsVerdicts(t, s.keeper, s.of.ID, watch.VerdictInconsistent, watch.VerdictOtherRoot)
-			wantsShown(t, s.keeper, s.of)
-			// All entries that were handed out were searched, those of the last batch too.
-			if found := s.keeper.indexes(s.of.ID); found[len(found)-1] != 3199 {
+			s.watched.URL = server.URL
+			s.follower = newFollower(t, s.watched, s.keeper, s.options())
+			s.checkAccused(t, watch.VerdictOtherRoot)
+			checkVerdicts(t, s.keeper, s.watched.ID, watch.VerdictInconsistent, watch.VerdictOtherRoot)
+			checkEvidence(t, s.keeper, s.watched)
+			// All entries that the log gave were searched, including those of the last batch.
+			if found := s.keeper.indexes(s.watched.ID); found[len(found)-1] != 3199 {
 				t.Errorf("the last entry that was searched is %d", found[len(found)-1])
 			}
 		})
 	}
 }
 
-// An entry that a log must not have accuses it, and is searched with the others.
+// A log is accused of an entry that it must not have, and the entry is searched like the others.
 func TestAccusesByEntries(t *testing.T) {
 	index := uint64(7)
 	for verdict, entry := range map[string]testlog.Entry{
-		watch.VerdictLateMerge:  {Timestamp: begun + 100, Certificate: []byte{1}},
-		watch.VerdictLaterEntry: {Timestamp: begun + 900_000, Certificate: []byte{1}},
-		watch.VerdictWrongIndex: {Timestamp: begun + 305_000, Certificate: []byte{1}, Index: &index},
+		watch.VerdictLateMerge:  {Timestamp: epoch + 100, Certificate: []byte{1}},
+		watch.VerdictLaterEntry: {Timestamp: epoch + 900_000, Certificate: []byte{1}},
+		watch.VerdictWrongIndex: {Timestamp: epoch + 305_000, Certificate: []byte{1}, Index: &index},
 		watch.VerdictNoLeaf:     {Leaf: []byte("no leaf")},
 	} {
 		for _, kind := range kinds {
 			if kind == "RFC 6962" && verdict == watch.VerdictWrongIndex || kind == "tiled" && verdict == watch.VerdictNoLeaf {
-				continue // (only a tiled log's leaves name indexes, and no data tile has what is no leaf)
+				continue // Only a tiled log's leaves name indexes, and a data tile can hold only leaves.
 			}
 			t.Run(kind+" "+verdict, func(t *testing.T) {
 				s := newScene(t, kind, 2*time.Minute)
-				s.log.Add(entriesOf(300, 9)...)
+				s.log.Add(makeEntries(300, 9)...)
 				s.log.Add(entry)
-				s.log.Publish(310, begun+310_000)
+				s.log.Publish(310, epoch+310_000)
 				if err := s.follower.Pass(context.Background()); err != nil {
 					t.Fatal(err)
 				}
-				wantsVerdicts(t, s.keeper, s.of.ID, verdict)
-				wantsShown(t, s.keeper, s.of)
-				wantsEntries(t, s.keeper, s.of.ID, count(0, 310))
-				if last := s.keeper.entries[s.of.ID][309]; (last.Fault != nil) != (verdict == watch.VerdictNoLeaf) {
+				checkVerdicts(t, s.keeper, s.watched.ID, verdict)
+				checkEvidence(t, s.keeper, s.watched)
+				checkEntries(t, s.keeper, s.watched.ID, numbers(0, 310))
+				if last := s.keeper.entries[s.watched.ID][309]; (last.Fault != nil) != (verdict == watch.VerdictNoLeaf) {
 					t.Errorf("the last entry has the fault %v", last.Fault)
 				}
 			})
@@ -239,87 +244,88 @@ func TestAccusesByEntries(t *testing.T) {
 // An entry is late only if the accepted head was signed after the entry's maximum merge delay.
 func TestLateByTheMaximumMergeDelay(t *testing.T) {
 	for _, kind := range kinds {
-		for timestamp, due := range map[uint64][]string{begun + 180_000: nil, begun + 179_999: {watch.VerdictLateMerge}} {
-			s := newScene(t, kind, 2*time.Minute) // (its head is of 300 s)
+		for timestamp, expected := range map[uint64][]string{epoch + 180_000: nil,
+			epoch + 179_999: {watch.VerdictLateMerge}} {
+			s := newScene(t, kind, 2*time.Minute) // The timestamp of its head is 300 s after epoch.
 			s.log.Add(testlog.Entry{Timestamp: timestamp, Certificate: []byte{1}})
-			s.log.Publish(301, begun+310_000)
+			s.log.Publish(301, epoch+310_000)
 			if err := s.follower.Pass(context.Background()); err != nil {
 				t.Fatal(err)
 			}
-			wantsVerdicts(t, s.keeper, s.of.ID, due...)
-			// A later head over the same entries moves the time by which an entry must be there.
-			s.log.Publish(301, begun+400_000)
+			checkVerdicts(t, s.keeper, s.watched.ID, expected...)
+			// After a later head over the same entries, an entry with a later timestamp is late too.
+			s.log.Publish(301, epoch+400_000)
 			if err := s.follower.Pass(context.Background()); err != nil {
 				t.Fatal(err)
 			}
 			s.log.Add(testlog.Entry{Timestamp: timestamp + 60_000, Certificate: []byte{2}})
-			s.log.Publish(302, begun+410_000)
+			s.log.Publish(302, epoch+410_000)
 			if err := s.follower.Pass(context.Background()); err != nil {
 				t.Fatal(err)
 			}
-			if found := s.keeper.verdicts(s.of.ID); len(found) != len(due)+1 {
+			if found := s.keeper.verdicts(s.watched.ID); len(found) != len(expected)+1 {
 				t.Errorf("after a later head: %q", found)
 			}
 		}
 	}
 }
 
-// A tile that is not the log's is named, and nothing of it is accepted. After the log gives the right one, it is
-// accepted.
+// The evidence names a data tile whose leaves are not those of the log's tree, and no head is accepted with it. After
+// the log gives the right tile, the head is accepted.
 func TestAccusesDamagedTile(t *testing.T) {
 	s := newScene(t, "tiled", 0)
 	grow(s.log, 500)
-	var damage atomic.Value // the certificate in the place of the log's
+	var damage atomic.Value // the certificate that replaces the one of entry 529; empty for none
 	s.log.Intercept(func(w http.ResponseWriter, r *http.Request) bool {
 		certificate := damage.Load().(string)
 		if certificate == "" || r.URL.Path != "/tile/data/002" {
 			return false
 		}
 		other := s.log.Fork(512)
-		other.Add(entriesOf(9000, 256)...)
+		other.Add(makeEntries(9000, 256)...)
 		recorded := httptest.NewRecorder()
 		forged := other.Fork(512)
-		entries := entriesOf(512, 256)
+		entries := makeEntries(512, 256)
 		entries[17].Certificate = []byte(certificate)
 		forged.Add(entries...)
-		forged.Publish(768, begun+800_000)
+		forged.Publish(768, epoch+800_000)
 		forged.ServeHTTP(recorded, httptest.NewRequest(http.MethodGet, "/tile/data/002", nil))
 		_, err := w.Write(recorded.Body.Bytes())
 		return err == nil
 	})
 	damage.Store("forged")
-	s.wantsAccused(t, watch.VerdictOtherRoot)
-	// What the log hands out in the second pass is searched too, although it is another lie.
+	s.checkAccused(t, watch.VerdictOtherRoot)
+	// The entries that the log gives in the second pass are searched too, although they are another lie.
 	damage.Store("another")
-	s.wantsAccused(t, watch.VerdictDamagedTile)
+	s.checkAccused(t, watch.VerdictDamagedTile)
 	for _, certificate := range []string{"forged", "another"} {
-		if !slices.ContainsFunc(s.keeper.entries[s.of.ID], func(one watch.Entry) bool {
+		if !slices.ContainsFunc(s.keeper.entries[s.watched.ID], func(one watch.Entry) bool {
 			return one.Index == 529 && string(one.Certificate) == certificate
 		}) {
 			t.Errorf("the entry with the certificate %q was not searched", certificate)
 		}
 	}
-	wantsVerdicts(t, s.keeper, s.of.ID, watch.VerdictOtherRoot, watch.VerdictDamagedTile)
-	wantsShown(t, s.keeper, s.of)
-	if text := s.keeper.accused[s.of.ID][1].Text; !strings.Contains(text, "entry 529 ") {
+	checkVerdicts(t, s.keeper, s.watched.ID, watch.VerdictOtherRoot, watch.VerdictDamagedTile)
+	checkEvidence(t, s.keeper, s.watched)
+	if text := s.keeper.accused[s.watched.ID][1].Text; !strings.Contains(text, "entry 529 ") {
 		t.Errorf("the evidence says %q", text)
 	}
 	damage.Store("")
 	if err := s.follower.Pass(context.Background()); err != nil {
 		t.Fatal(err)
 	}
-	if state := s.keeper.states[s.of.ID]; state.Accepted.TreeSize != 800 || state.Accepted.Root != s.log.Root(800) {
+	if state := s.keeper.states[s.watched.ID]; state.Accepted.TreeSize != 800 || state.Accepted.Root != s.log.Root(800) {
 		t.Errorf("%d leaves are accepted", state.Accepted.TreeSize)
 	}
 }
 
-// While the entries of a head cannot be read, the next head is compared with that one, and the evidence has it.
-func TestAccusesByTheHeadThatWaits(t *testing.T) {
+// While the entries of a head cannot be read, the next head is compared with the waiting one, and the evidence has it.
+func TestAccusesByTheWaitingHead(t *testing.T) {
 	for _, kind := range kinds {
 		for verdict, lie := range map[string]func(*testlog.Log){
-			watch.VerdictFork:     func(log *testlog.Log) { log.PublishRoot(320, begun+330_000, [32]byte{1}) },
-			watch.VerdictShrunk:   func(log *testlog.Log) { log.Publish(310, begun+330_000) },
-			watch.VerdictNotLater: func(log *testlog.Log) { log.Add(entriesOf(320, 1)...); log.Publish(321, begun+320_000) },
+			watch.VerdictFork:     func(log *testlog.Log) { log.PublishRoot(320, epoch+330_000, [32]byte{1}) },
+			watch.VerdictShrunk:   func(log *testlog.Log) { log.Publish(310, epoch+330_000) },
+			watch.VerdictNotLater: func(log *testlog.Log) { log.Add(makeEntries(320, 1)...); log.Publish(321, epoch+320_000) },
 		} {
 			t.Run(kind+" "+verdict, func(t *testing.T) {
 				s := newScene(t, kind, 0)
@@ -334,21 +340,21 @@ func TestAccusesByTheHeadThatWaits(t *testing.T) {
 				if err := s.follower.Pass(context.Background()); !errors.Is(err, logclient.ErrStatus) {
 					t.Fatal(err)
 				}
-				waiting := s.keeper.states[s.of.ID].Waiting
+				waiting := s.keeper.states[s.watched.ID].Waiting
 				lie(s.log)
-				s.wantsAccused(t, verdict)
-				wantsVerdicts(t, s.keeper, s.of.ID, verdict)
-				if first := s.keeper.accused[s.of.ID][0].Files[watch.FileFirst]; waiting.TreeSize != 320 ||
+				s.checkAccused(t, verdict)
+				checkVerdicts(t, s.keeper, s.watched.ID, verdict)
+				if first := s.keeper.accused[s.watched.ID][0].Files[watch.FileFirst]; waiting.TreeSize != 320 ||
 					!bytes.Equal(first, waiting.Signed) {
 					t.Errorf("the evidence has %q as the head that was known", first)
 				}
-				wantsShown(t, s.keeper, s.of)
+				checkEvidence(t, s.keeper, s.watched)
 			})
 		}
 	}
 }
 
-// A head that the log's key did not sign is evidence, and no state follows from it.
+// A head that the log's key did not sign is evidence, and does not change the state.
 func TestAccusesOtherSigner(t *testing.T) {
 	for _, kind := range kinds {
 		t.Run(kind, func(t *testing.T) {
@@ -356,11 +362,11 @@ func TestAccusesOtherSigner(t *testing.T) {
 			other := newLog(t, 400)
 			server := httptest.NewServer(other)
 			t.Cleanup(server.Close)
-			s.of.URL = server.URL
-			s.follower = follower(t, s.of, s.keeper, watch.Options{FromStart: true, Client: logclient.Options{Clock: s.clock}})
-			s.wantsAccused(t, watch.VerdictSigner)
-			wantsShown(t, s.keeper, s.of)
-			wantsEntries(t, s.keeper, s.of.ID, count(0, 300))
+			s.watched.URL = server.URL
+			s.follower = newFollower(t, s.watched, s.keeper, s.options())
+			s.checkAccused(t, watch.VerdictSigner)
+			checkEvidence(t, s.keeper, s.watched)
+			checkEntries(t, s.keeper, s.watched.ID, numbers(0, 300))
 		})
 	}
 }
@@ -369,15 +375,15 @@ func TestAccusesOtherSigner(t *testing.T) {
 func TestAccusesOldHead(t *testing.T) {
 	for _, kind := range kinds {
 		s := newScene(t, kind, time.Hour)
-		s.clock.now.Store(begun + 300_000 + 3_600_000)
+		s.clock.now.Store(epoch + 300_000 + 3_600_000)
 		if err := s.follower.Pass(context.Background()); err != nil {
 			t.Errorf("%s: a head of an hour: %v", kind, err)
 		}
-		s.clock.now.Store(begun + 300_000 + 3_600_000 + 60_000)
-		s.wantsAccused(t, watch.VerdictOldHead)
-		wantsShown(t, s.keeper, s.of)
-		s.of.State = "readonly"
-		s.follower = follower(t, s.of, s.keeper, watch.Options{Client: logclient.Options{Clock: s.clock}})
+		s.clock.now.Store(epoch + 300_000 + 3_600_000 + 60_000)
+		s.checkAccused(t, watch.VerdictOldHead)
+		checkEvidence(t, s.keeper, s.watched)
+		s.watched.State = "readonly"
+		s.follower = newFollower(t, s.watched, s.keeper, watch.Options{Client: logclient.Options{Clock: s.clock}})
 		if err := s.follower.Pass(context.Background()); err != nil {
 			t.Errorf("%s: a frozen log: %v", kind, err)
 		}

@@ -13,66 +13,67 @@ import (
 	"wagtenib/internal/signature"
 )
 
-// ErrState means that the state that was kept of a log is damaged.
+// ErrState means that the stored state of a log is damaged.
 var ErrState = errors.New("watch: the state of the log is damaged: restore the store from a copy, or remove the log " +
-	"from it to begin anew")
+	"from it to read the log from the beginning")
 
-// Options say how logs are followed.
+// Options hold the settings for following logs.
 type Options struct {
 	FromStart bool              // a log that was never read is read from its first entry on, and not from its end
-	Pause     time.Duration     // between two passes over a log; one minute if it is 0
-	Limit     time.Duration     // of one pass, after which the next one continues; one hour if it is 0
-	Client    logclient.Options // how each log is asked
+	Pause     time.Duration     // the time between two passes over a log; one minute if it is 0
+	Limit     time.Duration     // the time limit of one pass; the next one continues; one hour if it is 0
+	Client    logclient.Options // the options of the client of each log
 	// Policy returns nil if a tiled log's head meets a policy, such as a quorum of witnesses, and otherwise a
-	// *PolicyError. A head that does not is not judged further. It may be nil.
+	// *PolicyError. A head that does not meet it is not judged further. Policy may be nil.
 	Policy func(head Head) error
-	// Mirror returns what keeps a tiled log so that it can be served. It may be nil, and may return nil.
+	// Mirror returns the mirror of a tiled log. Mirror may be nil, and may return nil: the log then has no mirror.
 	Mirror func(log Log) (Mirror, error)
 }
 
-// A Mirror keeps a tiled log so that it can be served.
+// A Mirror stores a copy of a tiled log that can be served.
 type Mirror interface {
-	// Stage keeps a data tile that was read, and whose head is not accepted yet.
+	// Stage stores a data tile that was read, and whose head is not accepted yet.
 	Stage(tile logclient.DataTile) error
-	// Accept keeps the log up to a head that was accepted.
+	// Accept stores the log up to an accepted head.
 	Accept(ctx context.Context, head Head) error
 }
 
 // Follower follows one log. Its methods must be called by one goroutine at a time.
 type Follower struct {
-	log      Log
-	source   source
-	keeper   Keeper
-	options  Options
-	clock    logclient.Clock
-	mirror   Mirror
-	state    *State // nil if it must be loaded
-	careful  bool   // each data tile is compared with the hash tiles before it is kept
-	accused  accusations
-	progress progress
+	log     Log
+	source  source
+	keeper  Keeper
+	options Options
+	clock   logclient.Clock
+	mirror  Mirror
+	state   *State // nil if it must be loaded
+	// each data tile is compared with the hash tiles before its entries are stored
+	comparesTiles bool
+	accused       accusations
+	progress      progress
 }
 
-// progress is how it goes with the log, and when that was reported last.
+// progress holds the status of the log, and the time of its last report.
 type progress struct {
 	Status
 	reported time.Time
 }
 
-// reportEach is the time between two reports during one pass. A first pass over a large log takes hours.
-const reportEach = 10 * time.Second
+// reportInterval is the minimum time between two reports during one pass. A first pass over a large log takes hours.
+const reportInterval = 10 * time.Second
 
-// accusations are what was accused since the program began.
+// accusations hold the keys of the evidence since the start of the program, and the number for each verdict.
 type accusations struct {
 	seen  map[[sha256.Size]byte]bool
 	count map[string]int
 }
 
-// maxAccusations is the number of accusations of one log by one verdict. A dishonest log must not fill
-// the disk of its monitor.
+// maxAccusations is the maximum number of accusations of one log with one verdict. A dishonest log must not fill the
+// disk of its monitor.
 const maxAccusations = 16
 
-// NewFollower returns a follower of a log. The error says what is wrong with the log's address or key, or why its
-// mirror cannot be opened.
+// NewFollower returns a follower of a log. It returns an error if the log's address or key is wrong, or if its mirror
+// cannot be opened.
 func NewFollower(log Log, keeper Keeper, options Options) (*Follower, error) {
 	if _, err := signature.ParseKey(log.PublicKey); err != nil {
 		return nil, fmt.Errorf("watch: %s: %w", log.Name, err)
@@ -101,13 +102,13 @@ func NewFollower(log Log, keeper Keeper, options Options) (*Follower, error) {
 }
 
 // Pass reads the log's newest head, and all entries up to it. It returns nil if the head is accepted. Otherwise it
-// returns an *AccusedError, or the reason why it cannot go on now; the next pass continues from what was kept. It
-// reports the status of the log in each case.
+// returns an *AccusedError, or the reason why it cannot continue now. The next pass continues from the stored state.
+// Pass reports the status of the log in each case.
 func (f *Follower) Pass(ctx context.Context) error {
 	err := f.pass(ctx)
 	var accused *AccusedError
 	if err != nil && !errors.As(err, &accused) {
-		// (a call of the Keeper may have failed, so what is kept is read again)
+		// A call of the Keeper may have failed, so the next pass loads the stored state again.
 		f.state = nil
 	}
 	f.progress.Fault = err
@@ -115,7 +116,7 @@ func (f *Follower) Pass(ctx context.Context) error {
 	return err
 }
 
-// report reports how it goes with the log.
+// report reports the status of the log to the Keeper.
 func (f *Follower) report() {
 	f.progress.reported = f.clock.Now()
 	f.keeper.Report(f.progress.Status)
@@ -127,7 +128,7 @@ func (f *Follower) pass(ctx context.Context) error {
 	}
 	head, err := f.source.head(ctx)
 	if err != nil {
-		return f.noHead(head, err)
+		return f.headError(head, err)
 	}
 	f.progress.Answered, f.progress.Head = f.clock.Now(), head.TreeHead
 	if err := f.judgePolicy(head); err != nil {
@@ -154,8 +155,8 @@ func (f *Follower) pass(ctx context.Context) error {
 	return old
 }
 
-// follow judges a head, and reads what waits. If another head waited, the new one is judged again after that one is
-// accepted.
+// follow judges a head, and reads the entries up to the waiting head. If an older head was waiting, the new one is
+// judged again after the older one is accepted.
 func (f *Follower) follow(ctx context.Context, head Head) error {
 	for {
 		waited := f.isWaiting()
@@ -176,7 +177,7 @@ func (f *Follower) follow(ctx context.Context, head Head) error {
 
 func (f *Follower) isWaiting() bool { return len(f.state.Waiting.Signed) > 0 }
 
-// load reads what is kept of the log.
+// load loads the stored state of the log, if it is not in memory.
 func (f *Follower) load() error {
 	if f.state != nil {
 		return nil
@@ -190,7 +191,7 @@ func (f *Follower) load() error {
 	return nil
 }
 
-// keep has entries searched and stored together with the next state.
+// keep hands entries and the next state to the Keeper, which searches the entries and stores both together.
 func (f *Follower) keep(next State, entries []Entry) error {
 	if err := f.keeper.Keep(f.log, next, entries); err != nil {
 		return fmt.Errorf("watch: %s: %w", f.log.Name, err)
@@ -199,15 +200,15 @@ func (f *Follower) keep(next State, entries []Entry) error {
 	f.progress.Read, f.progress.Accepted = next.Read, next.Accepted.TreeSize
 	if now := f.clock.Now(); len(entries) > 0 {
 		f.progress.Answered = now
-		if now.Sub(f.progress.reported) >= reportEach {
+		if now.Sub(f.progress.reported) >= reportInterval {
 			f.report()
 		}
 	}
 	return nil
 }
 
-// accuse stores evidence together with the next state, and returns it as an error. What was accused before is only
-// returned.
+// accuse stores evidence together with the next state, and returns an *AccusedError. If the same evidence was stored
+// before, or too much with this verdict, it stores at most the state.
 func (f *Follower) accuse(next State, verdict, text string, files map[string][]byte) error {
 	evidence, err := NewEvidence(f.log, f.clock.Now(), verdict, text, files)
 	if err != nil {
@@ -232,9 +233,9 @@ func (f *Follower) accuse(next State, verdict, text string, files map[string][]b
 	return &AccusedError{verdict, text}
 }
 
-// noHead returns why there is no head. A head that the log's key did not sign is evidence: somebody answers in the
-// log's place, or the log uses another key.
-func (f *Follower) noHead(head Head, err error) error {
+// headError returns why there is no head to judge. A head that the log's key did not sign is evidence: somebody else
+// answers at the log's address, or the log uses another key.
+func (f *Follower) headError(head Head, err error) error {
 	if errors.Is(err, signature.ErrSigner) {
 		return f.accuse(*f.state, VerdictSigner, "the log's address answered with a head that the log's key did not sign: "+
 			err.Error(), map[string][]byte{FileHead: head.Signed})
@@ -242,8 +243,8 @@ func (f *Follower) noHead(head Head, err error) error {
 	return fmt.Errorf("watch: %s: %w", f.log.Name, err)
 }
 
-// judgePolicy accuses a log whose head does not meet the policy: a log that shows it a history of its own cannot have
-// it cosigned.
+// judgePolicy accuses a log whose head does not meet the policy. A log that shows this monitor a history of its own
+// cannot get the cosignatures of the policy for it.
 func (f *Follower) judgePolicy(head Head) error {
 	if f.options.Policy == nil || !f.log.IsTiled() {
 		return nil
@@ -260,7 +261,7 @@ func (f *Follower) judgePolicy(head Head) error {
 	return f.accuse(*f.state, VerdictFewCosigned, missed.Text, files)
 }
 
-// begin makes the first state: that before the first entry, or that after the newest head.
+// begin stores the first state, which is before the first entry or after the newest head.
 func (f *Follower) begin(ctx context.Context, head Head) error {
 	if f.options.FromStart {
 		monitor, err := wagtenib.MonitorBegin()
@@ -280,7 +281,7 @@ func (f *Follower) begin(ctx context.Context, head Head) error {
 	return f.keep(State{Monitor: monitor, Accepted: head, Read: head.TreeSize, Start: head.TreeSize}, nil)
 }
 
-// frozenStates are the states of a log list in which a log needs no new heads.
+// frozenStates holds the states in a log list in which a log need not sign new heads.
 var frozenStates = map[string]bool{"readonly": true, "retired": true, "rejected": true}
 
 // judgeAge accuses a log whose newest head is older than its maximum merge delay. RFC 6962, section 3.5, requires a
@@ -298,7 +299,7 @@ func (f *Follower) judgeAge(head Head) error {
 	return f.accuse(*f.state, VerdictOldHead, text, map[string][]byte{FileHead: head.Signed})
 }
 
-// judgeHead judges a head, and keeps the state before it acts on the verdict.
+// judgeHead judges a head. By the verdict, it stores the next state or accuses the log.
 func (f *Follower) judgeHead(head Head) error {
 	found, monitor, err := wagtenib.MonitorHead(f.state.Monitor, head.TreeHead)
 	if err != nil {
@@ -332,7 +333,7 @@ func (f *Follower) judgeHead(head Head) error {
 	return f.accuseHead(next, head, found)
 }
 
-// accuseHead accuses a log by a head and the one that was known before.
+// accuseHead accuses a log of a head that contradicts the one that was known before.
 func (f *Follower) accuseHead(next State, head Head, found wagtenib.Judgement) error {
 	known := f.state.Accepted
 	if f.isWaiting() && (found.Known == f.state.Waiting.TreeHead || found.Verdict == wagtenib.VerdictShrunk &&
@@ -363,7 +364,7 @@ func (f *Follower) accuseHead(next State, head Head, found wagtenib.Judgement) e
 	return fmt.Errorf("watch: %s: the library has an unexpected verdict on a head: %v", f.log.Name, found.Verdict)
 }
 
-// stateError returns the error of a call over the state.
+// stateError returns the error for a failed call of the library with the state.
 func (f *Follower) stateError(err error) error {
 	if errors.Is(err, wagtenib.ErrState) {
 		err = ErrState

@@ -19,16 +19,16 @@ import (
 // kinds are the kinds of logs.
 var kinds = []string{"tiled", "RFC 6962"}
 
-// watched returns the log of a server as it is watched, by one of its kinds.
+// watched returns the description of a log of this kind at a URL.
 func watched(log *testlog.Log, url, kind string) watch.Log {
-	of := watch.Log{ID: sha256.Sum256(log.PublicKey()), Name: kind, URL: url, PublicKey: log.PublicKey()}
+	description := watch.Log{ID: sha256.Sum256(log.PublicKey()), Name: kind, URL: url, PublicKey: log.PublicKey()}
 	if kind == "tiled" {
-		of.Origin = log.Origin
+		description.Origin = log.Origin
 	}
-	return of
+	return description
 }
 
-// serve serves a log, and returns it as it is watched.
+// serve serves a log, and returns its description.
 func serve(t testing.TB, log *testlog.Log, kind string) watch.Log {
 	t.Helper()
 	server := httptest.NewServer(log)
@@ -36,8 +36,8 @@ func serve(t testing.TB, log *testlog.Log, kind string) watch.Log {
 	return watched(log, server.URL, kind)
 }
 
-// follower returns a follower of a log.
-func follower(t testing.TB, log watch.Log, k watch.Keeper, options watch.Options) *watch.Follower {
+// newFollower returns a follower of a log, or ends the test.
+func newFollower(t testing.TB, log watch.Log, k watch.Keeper, options watch.Options) *watch.Follower {
 	t.Helper()
 	f, err := watch.NewFollower(log, k, options)
 	if err != nil {
@@ -46,59 +46,59 @@ func follower(t testing.TB, log watch.Log, k watch.Keeper, options watch.Options
 	return f
 }
 
-// count returns the numbers from first on, before end.
-func count(first, end uint64) (numbers []uint64) {
+// numbers returns the numbers from first to end-1.
+func numbers(first, end uint64) (all []uint64) {
 	for i := first; i < end; i++ {
-		numbers = append(numbers, i)
+		all = append(all, i)
 	}
-	return numbers
+	return all
 }
 
-func wantsEntries(t testing.TB, k *keeper, id watch.LogID, due []uint64) {
+func checkEntries(t testing.TB, k *keeper, id watch.LogID, expected []uint64) {
 	t.Helper()
-	if found := k.indexes(id); !slices.Equal(found, due) {
-		t.Errorf("%d entries were kept, and %d are due; they begin with %v, and %v", len(found), len(due),
-			found[:min(len(found), 5)], due[:min(len(due), 5)])
+	if found := k.indexes(id); !slices.Equal(found, expected) {
+		t.Errorf("%d entries were stored, which begin with %v, and %d are expected, which begin with %v", len(found),
+			found[:min(len(found), 5)], len(expected), expected[:min(len(expected), 5)])
 	}
 }
 
-func wantsVerdicts(t testing.TB, k *keeper, id watch.LogID, due ...string) {
+func checkVerdicts(t testing.TB, k *keeper, id watch.LogID, expected ...string) {
 	t.Helper()
-	if found := k.verdicts(id); !slices.Equal(found, due) {
-		t.Errorf("the log is accused of %q, and %q is due", found, due)
+	if found := k.verdicts(id); !slices.Equal(found, expected) {
+		t.Errorf("the log is accused of %q, and %q is expected", found, expected)
 	}
 }
 
-// A log is followed over days from its start: each entry comes once, in order, as the log has it.
+// A log that grows is followed from its start: each entry is stored once, in order, and unchanged.
 func TestFollowsFromStart(t *testing.T) {
 	for _, kind := range kinds {
 		t.Run(kind, func(t *testing.T) {
 			log := newLog(t, 0)
-			of := serve(t, log, kind)
+			listed := serve(t, log, kind)
 			k := newKeeper()
-			f := follower(t, of, k, watch.Options{FromStart: true})
+			f := newFollower(t, listed, k, watch.Options{FromStart: true})
 			for _, growth := range []uint64{0, 1, 255, 1, 700, 0, 3000, 44} {
 				grow(log, growth)
 				if growth == 0 {
-					log.Publish(log.Size(), begun+1000*log.Size()+500)
+					log.Publish(log.Size(), epoch+1000*log.Size()+500)
 				}
 				if err := f.Pass(context.Background()); err != nil {
 					t.Fatalf("%d entries: %v", log.Size(), err)
 				}
-				state := k.states[of.ID]
+				state := k.states[listed.ID]
 				if state.Accepted.TreeSize != log.Size() || state.Accepted.Root != log.Root(log.Size()) ||
 					state.Read != log.Size() || len(state.Waiting.Signed) > 0 {
 					t.Fatalf("%d entries are accepted and %d read, and the log has %d", state.Accepted.TreeSize, state.Read,
 						log.Size())
 				}
 			}
-			wantsEntries(t, k, of.ID, count(0, log.Size()))
-			wantsVerdicts(t, k, of.ID)
-			due := entriesOf(0, log.Size())
-			for i, entry := range k.entries[of.ID] {
-				if entry.Fault != nil || entry.Timestamp != due[i].Timestamp ||
-					string(entry.Certificate) != string(due[i].Certificate) ||
-					string(entry.Leaf) != string(due[i].MerkleLeaf(uint64(i))) {
+			checkEntries(t, k, listed.ID, numbers(0, log.Size()))
+			checkVerdicts(t, k, listed.ID)
+			expected := makeEntries(0, log.Size())
+			for i, entry := range k.entries[listed.ID] {
+				if entry.Fault != nil || entry.Timestamp != expected[i].Timestamp ||
+					string(entry.Certificate) != string(expected[i].Certificate) ||
+					string(entry.Leaf) != string(expected[i].MerkleLeaf(uint64(i))) {
 					t.Fatalf("entry %d is %+v", i, entry)
 				}
 			}
@@ -106,7 +106,7 @@ func TestFollowsFromStart(t *testing.T) {
 	}
 }
 
-// A log is begun at its end, whatever its size: nothing before is read, and nothing after is left out.
+// A log of any size is followed from its end: no earlier entry is read, and no later one is left out.
 func TestFollowsFromEnd(t *testing.T) {
 	for _, kind := range kinds {
 		for _, size := range []uint64{0, 1, 2, 3, 255, 256, 257, 300, 1000, 65_536, 65_537} {
@@ -115,43 +115,43 @@ func TestFollowsFromEnd(t *testing.T) {
 			}
 			t.Run(fmt.Sprint(kind, size), func(t *testing.T) {
 				log := newLog(t, size)
-				of := serve(t, log, kind)
+				listed := serve(t, log, kind)
 				k := newKeeper()
-				f := follower(t, of, k, watch.Options{})
+				f := newFollower(t, listed, k, watch.Options{})
 				if err := f.Pass(context.Background()); err != nil {
 					t.Fatal(err)
 				}
-				if state := k.states[of.ID]; state.Start != size || state.Read != size || state.Accepted.TreeSize != size {
+				if state := k.states[listed.ID]; state.Start != size || state.Read != size || state.Accepted.TreeSize != size {
 					t.Fatalf("the state begins at %d and has read %d", state.Start, state.Read)
 				}
 				grow(log, 1300)
 				if err := f.Pass(context.Background()); err != nil {
 					t.Fatal(err)
 				}
-				wantsEntries(t, k, of.ID, count(size, size+1300))
-				wantsVerdicts(t, k, of.ID)
+				checkEntries(t, k, listed.ID, numbers(size, size+1300))
+				checkVerdicts(t, k, listed.ID)
 			})
 		}
 	}
 }
 
-// A monitor that is killed at any call of its Keeper continues from what was kept. Each entry is kept once.
+// A monitor that is killed at any call of its Keeper continues from the stored state. Each entry is stored once.
 func TestKilledAtEachCall(t *testing.T) {
 	for _, kind := range kinds {
 		for _, stores := range []bool{false, true} {
 			t.Run(fmt.Sprint(kind, stores), func(t *testing.T) {
 				log := newLog(t, 10)
-				of := serve(t, log, kind)
+				listed := serve(t, log, kind)
 				kills := 0
 				for at := 1; ; at++ {
 					k := newKeeper()
 					k.killAt, k.stores = at, stores
 					run := log.Fork(10)
-					run.Publish(10, begun+10_000)
+					run.Publish(10, epoch+10_000)
 					server := httptest.NewServer(run)
-					of.URL = server.URL
+					listed.URL = server.URL
 					killed := false
-					f := follower(t, of, k, watch.Options{FromStart: true})
+					f := newFollower(t, listed, k, watch.Options{FromStart: true})
 					for _, growth := range []uint64{0, 600, 1, 2000} {
 						grow(run, growth)
 						for err := f.Pass(context.Background()); err != nil; err = f.Pass(context.Background()) {
@@ -159,19 +159,19 @@ func TestKilledAtEachCall(t *testing.T) {
 								t.Fatal(err)
 							}
 							killed = true
-							f = follower(t, of, k, watch.Options{FromStart: true})
+							f = newFollower(t, listed, k, watch.Options{FromStart: true})
 						}
 					}
 					server.Close()
-					wantsEntries(t, k, of.ID, count(0, run.Size()))
-					wantsVerdicts(t, k, of.ID)
+					checkEntries(t, k, listed.ID, numbers(0, run.Size()))
+					checkVerdicts(t, k, listed.ID)
 					if !killed {
 						break
 					}
 					kills++
 				}
 				if kills < 6 {
-					t.Fatalf("there were %d kills only", kills)
+					t.Fatalf("there were only %d kills", kills)
 				}
 			})
 		}
@@ -182,20 +182,20 @@ func TestKilledAtEachCall(t *testing.T) {
 func TestNewFollowerRefuses(t *testing.T) {
 	log := newLog(t, 1)
 	good := watched(log, "https://log.example", "tiled")
-	for what, change := range map[string]func(of *watch.Log, options *watch.Options){
-		"another ID": func(of *watch.Log, _ *watch.Options) { of.ID[0] ^= 1 },
-		"no key":     func(of *watch.Log, _ *watch.Options) { of.PublicKey = []byte{1} },
-		"no address": func(of *watch.Log, _ *watch.Options) { of.URL = "log.example" },
-		"a file":     func(of *watch.Log, _ *watch.Options) { of.URL = "file:///etc/passwd" },
-		"a query":    func(of *watch.Log, _ *watch.Options) { of.URL = "https://log.example/?a=b" },
+	for what, change := range map[string]func(listed *watch.Log, options *watch.Options){
+		"another ID": func(listed *watch.Log, _ *watch.Options) { listed.ID[0] ^= 1 },
+		"no key":     func(listed *watch.Log, _ *watch.Options) { listed.PublicKey = []byte{1} },
+		"no address": func(listed *watch.Log, _ *watch.Options) { listed.URL = "log.example" },
+		"a file":     func(listed *watch.Log, _ *watch.Options) { listed.URL = "file:///etc/passwd" },
+		"a query":    func(listed *watch.Log, _ *watch.Options) { listed.URL = "https://log.example/?a=b" },
 		"a mirror only": func(_ *watch.Log, options *watch.Options) {
 			options.Mirror = func(watch.Log) (watch.Mirror, error) { return noMirror{}, nil }
 		},
 	} {
-		of, options := good, watch.Options{}
-		change(&of, &options)
-		if _, err := watch.NewFollower(of, newKeeper(), options); err == nil {
-			t.Errorf("%s: a follower", what)
+		listed, options := good, watch.Options{}
+		change(&listed, &options)
+		if _, err := watch.NewFollower(listed, newKeeper(), options); err == nil {
+			t.Errorf("%s: NewFollower returns no error", what)
 		}
 	}
 	if _, err := watch.NewFollower(good, newKeeper(), watch.Options{}); err != nil {
@@ -211,14 +211,14 @@ func (noMirror) Accept(context.Context, watch.Head) error { return nil }
 // During a long pass the status is reported as well, with the fault of the last pass.
 func TestReportsDuringAPass(t *testing.T) {
 	log := newLog(t, 20_000)
-	of := serve(t, log, "tiled")
+	listed := serve(t, log, "tiled")
 	k := newKeeper()
-	at := newClock(begun)
+	at := newClock(epoch)
 	log.Intercept(func(http.ResponseWriter, *http.Request) bool {
-		at.now.Add(1000) // (each answer takes a second)
+		at.now.Add(1000) // Each answer takes a second.
 		return false
 	})
-	f := follower(t, of, k, watch.Options{FromStart: true, Client: logclient.Options{Clock: at}})
+	f := newFollower(t, listed, k, watch.Options{FromStart: true, Client: logclient.Options{Clock: at}})
 	if err := f.Pass(context.Background()); err != nil {
 		t.Fatal(err)
 	}
@@ -227,46 +227,45 @@ func TestReportsDuringAPass(t *testing.T) {
 		status := <-k.reported
 		read = append(read, status.Read)
 	}
-	// (how many entries come at once depends on the machine, but never all of them do)
+	// How many entries arrive at once depends on the machine, but it is never all of them.
 	if len(read) < 2 || !slices.IsSorted(read) || read[0] == 0 || read[0] == 20_000 || read[len(read)-1] != 20_000 {
 		t.Errorf("the reports say that %v entries are read", read)
 	}
 }
 
-// A monitor that is killed at any call of its Keeper loses no evidence: neither that against a head, nor that against
-// an entry, nor an entry.
-func TestKilledWhileAccusing(t *testing.T) {
+// A monitor that is killed at any call of its Keeper loses no evidence against a head or an entry, and no entry.
+func TestLosesNothingWhenKilledWhileAccusing(t *testing.T) {
 	for _, kind := range kinds {
 		for _, stores := range []bool{false, true} {
 			kills := 0
 			for at := 1; ; at++ {
 				log := newLog(t, 300)
 				server := httptest.NewServer(log)
-				of := watched(log, server.URL, kind)
-				of.MaxMergeDelay = 2 * time.Minute
+				listed := watched(log, server.URL, kind)
+				listed.MaxMergeDelay = 2 * time.Minute
 				k := newKeeper()
 				k.killAt, k.stores = at, stores
-				options := watch.Options{FromStart: true, Client: logclient.Options{Clock: newClock(begun + 310_000)}}
-				f, killed := follower(t, of, k, options), false
-				// passes makes passes until one ends as it must, with a new follower after each kill.
-				passes := func(ends func(error) bool) {
-					for err := f.Pass(context.Background()); !ends(err); err = f.Pass(context.Background()) {
+				options := watch.Options{FromStart: true, Client: logclient.Options{Clock: newClock(epoch + 310_000)}}
+				f, killed := newFollower(t, listed, k, options), false
+				// passUntil makes passes until the error of one is the expected one, with a new follower after each kill.
+				passUntil := func(isExpected func(error) bool) {
+					for err := f.Pass(context.Background()); !isExpected(err); err = f.Pass(context.Background()) {
 						if !errors.Is(err, errKilled) {
 							t.Fatal(err)
 						}
-						killed, f = true, follower(t, of, k, options)
+						killed, f = true, newFollower(t, listed, k, options)
 					}
 				}
-				passes(func(err error) bool { return err == nil })
-				log.Add(testlog.Entry{Timestamp: begun + 100, Certificate: []byte("late")})
-				log.Publish(301, begun+305_000)
-				passes(func(err error) bool { return err == nil })
-				log.PublishRoot(301, begun+306_000, [32]byte{1})
+				passUntil(func(err error) bool { return err == nil })
+				log.Add(testlog.Entry{Timestamp: epoch + 100, Certificate: []byte("late")})
+				log.Publish(301, epoch+305_000)
+				passUntil(func(err error) bool { return err == nil })
+				log.PublishRoot(301, epoch+306_000, [32]byte{1})
 				var accused *watch.AccusedError
-				passes(func(err error) bool { return errors.As(err, &accused) })
+				passUntil(func(err error) bool { return errors.As(err, &accused) })
 				server.Close()
-				wantsEntries(t, k, of.ID, count(0, 301))
-				if found := slices.Compact(k.verdicts(of.ID)); !slices.Equal(found, []string{watch.VerdictLateMerge,
+				checkEntries(t, k, listed.ID, numbers(0, 301))
+				if found := slices.Compact(k.verdicts(listed.ID)); !slices.Equal(found, []string{watch.VerdictLateMerge,
 					watch.VerdictFork}) {
 					t.Errorf("killed at %d: the log is accused of %q", at, found)
 				}
@@ -276,7 +275,7 @@ func TestKilledWhileAccusing(t *testing.T) {
 				kills++
 			}
 			if kills < 8 {
-				t.Errorf("%s: there were %d kills only", kind, kills)
+				t.Errorf("%s: there were only %d kills", kind, kills)
 			}
 		}
 	}

@@ -17,28 +17,28 @@ import (
 	"wagtenib/internal/watch"
 )
 
-// damage is how some answers of a log are changed.
+// damage describes how some answers of a log are changed.
 type damage struct {
-	part    string // of the paths of the answers that are changed
-	isWhole bool   // the answer is replaced; otherwise it is overwritten from a byte on, or cut there
-	at      uint32
-	content []byte
+	part    string // answers are changed if their paths contain this; empty for none
+	isWhole bool   // content replaces the answer; otherwise it overwrites the answer from an offset on
+	offset  uint32 // it is reduced modulo the length of the answer plus one
+	content []byte // if it is empty and does not replace the answer, the answer is cut at the offset
 }
 
-// apply returns what is answered instead.
+// apply returns the changed answer.
 func (d damage) apply(answer []byte) []byte {
 	if d.isWhole {
 		return d.content
 	}
-	at := int(d.at) % (len(answer) + 1)
+	offset := int(d.offset) % (len(answer) + 1)
 	if len(d.content) == 0 {
-		return answer[:at]
+		return answer[:offset]
 	}
-	after := answer[min(len(answer), at+len(d.content)):]
-	return slices.Concat(answer[:at], d.content, after)
+	rest := answer[min(len(answer), offset+len(d.content)):]
+	return slices.Concat(answer[:offset], d.content, rest)
 }
 
-// direct asks a log without a network, and changes some of its answers.
+// direct is a transport that asks a log without a network, and changes some of its answers.
 type direct struct {
 	log *testlog.Log
 	damage
@@ -54,11 +54,12 @@ func (d direct) RoundTrip(r *http.Request) (*http.Response, error) {
 	return answer.Result(), nil
 }
 
-// partsOf are parts of paths that a fuzzer chooses from, by the kind of log.
+// partsOf holds the parts of paths from which the fuzzer chooses, by the kind of log.
 var partsOf = map[string][]string{"tiled": {"checkpoint", "tile/data/", "tile/0/", "tile/1/"},
 	"RFC 6962": {"get-sth", "get-entries", "get-sth-consistency", "get-proof-by-hash"}}
 
-// fixedKey returns the same key in each process: a fuzzer has several, and what they sign must be of one log.
+// fixedKey returns the same key in each process. A fuzzer has several processes, and their signatures must be those of
+// one log.
 func fixedKey(t testing.TB) *ecdsa.PrivateKey {
 	t.Helper()
 	scalar, err := ecdh.P256().NewPrivateKey(bytes.Repeat([]byte{7}, 32))
@@ -76,9 +77,9 @@ func fixedKey(t testing.TB) *ecdsa.PrivateKey {
 	return key.(*ecdsa.PrivateKey)
 }
 
-// FuzzLogAnswers changes answers of a log in any way. No answer stops the program, no head is accepted that the log did
-// not sign, and the log is accused of no head that it did not sign. After the log answers as it should, all of its
-// entries are kept.
+// FuzzLogAnswers changes answers of a log in any way. No answer crashes the follower. It accepts no head that the log
+// did not sign, and accuses the log of no head that it did not sign. After the log answers correctly again, all of its
+// entries are stored.
 func FuzzLogAnswers(f *testing.F) {
 	const before, after = 40, 1100
 	log := newLog(f, 0)
@@ -96,9 +97,9 @@ func FuzzLogAnswers(f *testing.F) {
 			if size == before {
 				states[kind] = k.states[id]
 			}
-			of := heads[kind]
-			of[size/after] = k.states[id].Accepted
-			heads[kind] = of
+			accepted := heads[kind]
+			accepted[size/after] = k.states[id].Accepted
+			heads[kind] = accepted
 		}
 	}
 	for i, kind := range kinds {
@@ -106,11 +107,11 @@ func FuzzLogAnswers(f *testing.F) {
 			f.Add(i == 0, number, false, uint32(9), []byte{0})
 			f.Add(i == 0, number, false, uint32(200), []byte(nil))
 			f.Add(i == 0, number, true, uint32(0), []byte(`{"entries":[{}]}`))
-			// (the first part is that of the head)
+			// Part 0 is the path of the head.
 			f.Add(i == 0, uint8(0), true, uint32(number), heads[kind][number%2].Signed)
 		}
 	}
-	f.Fuzz(func(t *testing.T, isTiled bool, part uint8, isWhole bool, at uint32, content []byte) {
+	f.Fuzz(func(t *testing.T, isTiled bool, part uint8, isWhole bool, offset uint32, content []byte) {
 		kind := kinds[1]
 		if isTiled {
 			kind = kinds[0]
@@ -118,8 +119,8 @@ func FuzzLogAnswers(f *testing.F) {
 		k := newKeeper()
 		k.states[id] = states[kind]
 		names := partsOf[kind]
-		// (the error is the answer's fault, or nil if the change does no harm)
-		_ = passOver(t, log, kind, k, damage{names[int(part)%len(names)], isWhole, at, content})
+		// The error is that of the changed answer, or nil if the change does no harm.
+		_ = passOver(t, log, kind, k, damage{names[int(part)%len(names)], isWhole, offset, content})
 		if accepted := k.states[id].Accepted; accepted.TreeHead != heads[kind][0].TreeHead &&
 			accepted.TreeHead != heads[kind][1].TreeHead {
 			t.Fatalf("the head %+v was accepted", accepted)
@@ -135,32 +136,32 @@ func FuzzLogAnswers(f *testing.F) {
 			err = passOver(t, log, kind, k, damage{})
 		}
 		if err != nil || k.states[id].Accepted.TreeHead != heads[kind][1].TreeHead {
-			t.Fatalf("the log is followed no longer: %v", err)
+			t.Fatalf("the log is no longer followed: %v", err)
 		}
-		wantsLeaves(t, k.entries[id], before, after)
+		checkLeaves(t, k.entries[id], before, after)
 	})
 }
 
-// passOver makes a pass over a log of this kind that answers with some damage.
+// passOver makes one pass over a log of this kind, some of whose answers are damaged.
 func passOver(t testing.TB, log *testlog.Log, kind string, k *keeper, d damage) error {
-	options := logclient.Options{Transport: direct{log, d}, Clock: newClock(begun)}
-	return follower(t, watched(log, "http://log.example", kind), k, watch.Options{FromStart: true,
+	options := logclient.Options{Transport: direct{log, d}, Clock: newClock(epoch)}
+	return newFollower(t, watched(log, "http://log.example", kind), k, watch.Options{FromStart: true,
 		Client: options}).Pass(context.Background())
 }
 
-// wantsLeaves sees that the log's own leaf was kept at each of these indexes.
-func wantsLeaves(t testing.TB, kept []watch.Entry, first, end uint64) {
+// checkLeaves checks that the log's own leaf was stored at each of these indexes.
+func checkLeaves(t testing.TB, kept []watch.Entry, first, end uint64) {
 	t.Helper()
-	due := map[uint64]bool{}
+	missing := map[uint64]bool{}
 	for index := first; index < end; index++ {
-		due[index] = true
+		missing[index] = true
 	}
 	for _, entry := range kept {
-		if bytes.Equal(entry.Leaf, entriesOf(entry.Index, 1)[0].MerkleLeaf(entry.Index)) {
-			delete(due, entry.Index)
+		if bytes.Equal(entry.Leaf, makeEntries(entry.Index, 1)[0].MerkleLeaf(entry.Index)) {
+			delete(missing, entry.Index)
 		}
 	}
-	if len(due) > 0 {
-		t.Fatalf("%d entries were never kept", len(due))
+	if len(missing) > 0 {
+		t.Fatalf("%d entries were never stored", len(missing))
 	}
 }

@@ -16,8 +16,8 @@ const (
 	defaultLimit = time.Hour
 )
 
-// Group follows many logs at once. Each log has a goroutine, connections, a time limit and a pace of its own, so a slow
-// or dishonest log does not delay another one.
+// Group follows many logs at once. Each log has its own goroutine, connections, time limit and pace, so a slow or
+// dishonest log does not delay another one.
 type Group struct {
 	keeper  Keeper
 	options Options
@@ -47,9 +47,9 @@ func NewGroup(keeper Keeper, options Options) *Group {
 	return &Group{keeper: keeper, options: options, running: map[LogID]*member{}}
 }
 
-// Follow follows these logs from now on, until the context ends or it is called again. A log that was followed
-// continues, if nothing of it but its name and state has changed. A log that is not among them any more is followed no
-// longer, after the call of the Keeper that runs. A log that cannot be followed is reported to the Keeper with the
+// Follow follows these logs from now on, until the context ends or Follow is called again. A log that was followed
+// before just continues, unless isSame reports a change. A log that is not among them any more is no longer followed,
+// after the Keeper's current call for it has returned. If a log cannot be followed, the Keeper gets a report with the
 // reason.
 func (g *Group) Follow(ctx context.Context, logs []Log) {
 	g.mutex.Lock()
@@ -80,13 +80,13 @@ func (g *Group) Follow(ctx context.Context, logs []Log) {
 	}
 }
 
-// isSame reports whether a log is read in the same way.
+// isSame reports whether two descriptions of a log lead to the same requests and the same verdicts.
 func isSame(a, b Log) bool {
 	return a.URL == b.URL && a.Origin == b.Origin && a.MaxMergeDelay == b.MaxMergeDelay &&
 		frozenStates[a.State] == frozenStates[b.State]
 }
 
-// start follows a log, after another follower has ended.
+// start follows a log. If `after` is not nil, it first waits for the end of the old follower, which closes the channel.
 func (g *Group) start(ctx context.Context, log Log, after <-chan struct{}) {
 	ctx, cancel := context.WithCancel(ctx)
 	one := &member{log, cancel, make(chan struct{})}
@@ -125,8 +125,8 @@ func (g *Group) pass(ctx context.Context, f *Follower) error {
 	return f.Pass(ctx)
 }
 
-// pause returns the time until the next pass. It is random by a tenth, so that many monitors do not ask a log together.
-// A busy log is not asked before the time that it names.
+// pause returns the time until the next pass. It varies at random by a tenth, so that many monitors do not ask a log at
+// the same time. A busy log is not asked before the time that it names.
 func (g *Group) pause(err error) time.Duration {
 	pause := g.options.Pause - g.options.Pause/20 + rand.N(g.options.Pause/10+1)
 	var busy *logclient.BusyError
@@ -136,15 +136,15 @@ func (g *Group) pause(err error) time.Duration {
 	return pause
 }
 
-// maxBusy is the longest time for which a log that is busy is not asked. A log must not get rid of its monitors by
-// naming a day far ahead.
+// maxBusy is the maximum time for which a busy log is not asked. A log must not get rid of its monitors by naming a
+// distant day.
 const maxBusy = 24 * time.Hour
 
-// Wait returns after all logs have ended, which they do after the context of Follow has ended.
+// Wait returns after all followers have ended, which they do after the context of Follow has ended.
 func (g *Group) Wait() { g.ended.Wait() }
 
-// Once makes one pass over each of these logs, all at once, and returns what Follower.Pass returned for each: nil if
-// the log's newest head is accepted. It is for a timer. The limit of the passes is that of the context, too.
+// Once makes one pass over each of these logs, all at once, and returns the result of Follower.Pass for each: nil if
+// the log's newest head is accepted. It is for a program that a timer starts. The context ends the passes too.
 func (g *Group) Once(ctx context.Context, logs []Log) map[LogID]error {
 	results := make(map[LogID]error, len(logs))
 	var mutex sync.Mutex

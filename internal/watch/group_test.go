@@ -18,7 +18,7 @@ import (
 	"wagtenib/internal/watch"
 )
 
-// await returns the next status for which a condition holds.
+// await returns the next reported status for which a condition holds.
 func await(t *testing.T, k *keeper, what string, holds func(watch.Status) bool) watch.Status {
 	t.Helper()
 	late := time.After(within)
@@ -34,8 +34,8 @@ func await(t *testing.T, k *keeper, what string, holds func(watch.Status) bool) 
 	}
 }
 
-// One log of ten drips a byte a second. The other nine are read whole and followed while the tenth has not ended one
-// answer, which it may take a day for in this test.
+// One log of ten sends one byte a second. The other nine are read whole and followed while the tenth has not ended one
+// answer, for which the limits of this test allow a day.
 func TestSlowLogDelaysNoOther(t *testing.T) {
 	k := newKeeper()
 	const day = 24 * time.Hour
@@ -55,11 +55,11 @@ func TestSlowLogDelaysNoOther(t *testing.T) {
 				return true
 			})
 		}
-		of := serve(t, log, kinds[i%2])
-		of.Name = fmt.Sprint(i)
-		logs = append(logs, of)
+		listed := serve(t, log, kinds[i%2])
+		listed.Name = fmt.Sprint(i)
+		logs = append(logs, listed)
 		if i != 3 {
-			served[of.ID] = log
+			served[listed.ID] = log
 		}
 	}
 	group.Follow(ctx, logs)
@@ -80,19 +80,20 @@ func TestSlowLogDelaysNoOther(t *testing.T) {
 		}
 	}
 	if k.hasStatus(logs[3].ID) {
-		t.Error("the log that drips has ended an answer, so this test has seen nothing")
+		t.Error("the slow log has ended an answer, so this test has checked nothing")
 	}
 	cancel()
 	group.Wait()
 	for id := range served {
-		wantsEntries(t, k, id, count(0, 1700))
+		checkEntries(t, k, id, numbers(0, 1700))
 	}
 }
 
-// What a log answers in place of its head or of its entries, and what the reason must say for each.
+// nonsense holds wrong answers that a log gives instead of its head or its entries, and what the reason must contain
+// for each.
 var nonsense = map[string]struct {
 	answer        func(w http.ResponseWriter, r *http.Request)
-	head, entries string
+	head, entries string // the expected part of the reason
 }{
 	"HTML": {func(w http.ResponseWriter, _ *http.Request) { fmt.Fprint(w, "<html><p>404\n\nNot found</p>") }, "not ",
 		"answer"},
@@ -116,7 +117,7 @@ func endless(w http.ResponseWriter, r *http.Request) {
 	}
 }
 
-// drip answers with a byte at each pause, which is the pace of the server, until the client has gone.
+// drip answers with one byte after each pause until the client has closed the connection.
 func drip(w http.ResponseWriter, r *http.Request, pause time.Duration) {
 	for r.Context().Err() == nil {
 		if _, err := w.Write([]byte("a")); err != nil {
@@ -130,11 +131,11 @@ func drip(w http.ResponseWriter, r *http.Request, pause time.Duration) {
 	}
 }
 
-// A log that answers nonsense is reported with the reason, is accused of nothing, and is followed again after it has
-// come back.
-func TestNonsenseIsNamed(t *testing.T) {
+// A log that answers nonsense is reported with the reason, is accused of nothing, and is followed again after it
+// answers correctly.
+func TestReportsWhyAnAnswerIsNonsense(t *testing.T) {
 	for _, kind := range kinds {
-		for what, of := range nonsense {
+		for what, wrong := range nonsense {
 			// Only the drip must be too slow, however slow the machine is.
 			limits := logclient.Limits{Request: testutil.Longest, Grace: testutil.Longest, Attempts: 2}
 			if what == "a drip" {
@@ -143,28 +144,28 @@ func TestNonsenseIsNamed(t *testing.T) {
 			for _, part := range []string{"head", "entries"} {
 				t.Run(kind+" "+part+" "+what, func(t *testing.T) {
 					s := newScene(t, kind, 0)
-					s.follower = follower(t, s.of, s.keeper, watch.Options{FromStart: true, Client: logclient.Options{Clock: s.clock,
-						Limits: limits}})
+					s.follower = newFollower(t, s.watched, s.keeper, watch.Options{FromStart: true,
+						Client: logclient.Options{Clock: s.clock, Limits: limits}})
 					grow(s.log, 20)
 					s.log.Intercept(func(w http.ResponseWriter, r *http.Request) bool {
 						isHead := strings.HasSuffix(r.URL.Path, "checkpoint") || strings.HasSuffix(r.URL.Path, "get-sth")
 						if isHead != (part == "head") {
 							return false
 						}
-						of.answer(w, r)
+						wrong.answer(w, r)
 						return true
 					})
-					due := of.head
+					expected := wrong.head
 					if part == "entries" {
-						due = of.entries
+						expected = wrong.entries
 					}
-					if err := s.follower.Pass(context.Background()); err == nil || !strings.Contains(err.Error(), due) {
-						t.Errorf("the pass ends with %v, and %q is due", err, due)
+					if err := s.follower.Pass(context.Background()); err == nil || !strings.Contains(err.Error(), expected) {
+						t.Errorf("the pass ends with %v, and %q is expected in it", err, expected)
 					}
-					if status := s.keeper.statuses[s.of.ID]; status.Fault == nil || status.Accepted != 300 {
+					if status := s.keeper.statuses[s.watched.ID]; status.Fault == nil || status.Accepted != 300 {
 						t.Errorf("the status is %+v", status)
 					}
-					wantsVerdicts(t, s.keeper, s.of.ID)
+					checkVerdicts(t, s.keeper, s.watched.ID)
 					s.log.Intercept(nil)
 					late := testutil.Limited(t, testutil.Longest)
 					for err := s.follower.Pass(late); err != nil; err = s.follower.Pass(late) {
@@ -172,16 +173,16 @@ func TestNonsenseIsNamed(t *testing.T) {
 							t.Fatal(err)
 						}
 					}
-					wantsEntries(t, s.keeper, s.of.ID, count(0, 320))
+					checkEntries(t, s.keeper, s.watched.ID, numbers(0, 320))
 				})
 			}
 		}
 	}
 }
 
-// Logs come and go: one that is gone is followed no longer, one that is new is followed, and one with another address
+// After the list has changed, a removed log is no longer followed, a new one is followed, and one with another address
 // is read there.
-func TestFollowsAListThatChanges(t *testing.T) {
+func TestFollowsChangedList(t *testing.T) {
 	k := newKeeper()
 	group := watch.NewGroup(k, watch.Options{FromStart: true, Pause: time.Millisecond})
 	ctx, cancel := context.WithCancel(context.Background())
@@ -206,7 +207,7 @@ func TestFollowsAListThatChanges(t *testing.T) {
 	grow(third, 5)
 	sees(c, 35)
 	if after := first.Requests("/checkpoint"); after > before+1 {
-		t.Errorf("the log that is gone was asked %d times", after-before)
+		t.Errorf("the removed log was asked %d times", after-before)
 	}
 	wrong := c
 	wrong.URL = "nowhere"
@@ -217,11 +218,11 @@ func TestFollowsAListThatChanges(t *testing.T) {
 	})
 	cancel()
 	group.Wait()
-	wantsEntries(t, k, b.ID, count(0, 20))
+	checkEntries(t, k, b.ID, numbers(0, 20))
 }
 
-// holding is a keeper whose first call with entries goes on until the log is asked at its other address, or for a
-// while.
+// holding is a keeper whose first call with entries returns only after the log is asked at its other address, or after
+// a while.
 type holding struct {
 	*keeper
 	held, asked chan struct{}
@@ -236,14 +237,15 @@ func (h *holding) Keep(log watch.Log, next watch.State, entries []watch.Entry) e
 			select {
 			case <-h.asked:
 				h.overlaps.Store(true)
-			case <-time.After(200 * time.Millisecond): // (a follower that does not wait has asked by then)
+			case <-time.After(200 * time.Millisecond): // A follower that does not wait has asked by then.
 			}
 		})
 	}
 	return h.keeper.Keep(log, next, entries)
 }
 
-// A log with a new address is followed there after its old follower has ended, so that no two keep its state at once.
+// A log with a new address is followed there after its old follower has ended, so that no two followers store its state
+// at once.
 func TestFollowsALogOnceAtATime(t *testing.T) {
 	log := newLog(t, 10)
 	old, moved := serve(t, log, "tiled"), serve(t, log, "tiled")
@@ -266,13 +268,13 @@ func TestFollowsALogOnceAtATime(t *testing.T) {
 	}
 	cancel()
 	group.Wait()
-	wantsEntries(t, k.keeper, old.ID, count(0, 10))
+	checkEntries(t, k.keeper, old.ID, numbers(0, 10))
 }
 
-// One pass over all logs says for each how it went, and a log that is listed twice is read once.
-func TestOnce(t *testing.T) {
+// Once makes one pass over all logs, and returns the result for each. A log that is listed twice is read once.
+func TestOnceReturnsAResultForEachLog(t *testing.T) {
 	k := newKeeper()
-	group := watch.NewGroup(k, watch.Options{FromStart: true, Client: logclient.Options{Clock: newClock(begun)}})
+	group := watch.NewGroup(k, watch.Options{FromStart: true, Client: logclient.Options{Clock: newClock(epoch)}})
 	good, away := newLog(t, 500), newLog(t, 1)
 	a, b := serve(t, good, "tiled"), serve(t, away, "tiled")
 	away.Intercept(func(w http.ResponseWriter, _ *http.Request) bool {
@@ -283,10 +285,10 @@ func TestOnce(t *testing.T) {
 	if len(results) != 2 || results[a.ID] != nil || !errors.Is(results[b.ID], logclient.ErrBusy) {
 		t.Errorf("%v", results)
 	}
-	wantsEntries(t, k, a.ID, count(0, 500))
-	// The time limit of one pass ends it, and the next one continues.
+	checkEntries(t, k, a.ID, numbers(0, 500))
+	// A pass ends at its time limit, and the next one continues.
 	slow := newLog(t, 3000)
-	of := serve(t, slow, "tiled")
+	listed := serve(t, slow, "tiled")
 	slow.Intercept(func(_ http.ResponseWriter, r *http.Request) bool {
 		if r.URL.Path != "/tile/data/007" {
 			return false
@@ -296,13 +298,13 @@ func TestOnce(t *testing.T) {
 	})
 	for limit := 300 * time.Millisecond; ; limit *= 2 {
 		limited := watch.NewGroup(k, watch.Options{FromStart: true, Limit: limit})
-		if results := limited.Once(context.Background(), []watch.Log{of}); !errors.Is(results[of.ID],
+		if results := limited.Once(context.Background(), []watch.Log{listed}); !errors.Is(results[listed.ID],
 			context.DeadlineExceeded) {
 			t.Fatalf("%v", results)
 		}
-		// (a busy machine may need more than the first limit for what can be read)
-		found := k.indexes(of.ID)
-		if slices.Equal(found, count(0, 7*256)) {
+		// A busy machine may need more than the first limit for the entries that can be read.
+		found := k.indexes(listed.ID)
+		if slices.Equal(found, numbers(0, 7*256)) {
 			break
 		}
 		if limit > within || len(found) > 7*256 {
@@ -311,14 +313,14 @@ func TestOnce(t *testing.T) {
 	}
 	slow.Intercept(nil)
 	limited := watch.NewGroup(k, watch.Options{FromStart: true})
-	if results := limited.Once(context.Background(), []watch.Log{of}); results[of.ID] != nil {
+	if results := limited.Once(context.Background(), []watch.Log{listed}); results[listed.ID] != nil {
 		t.Errorf("%v", results)
 	}
-	wantsEntries(t, k, of.ID, count(0, 3000))
+	checkEntries(t, k, listed.ID, numbers(0, 3000))
 }
 
 // A log with 30,000 entries that refuses one request in five is followed to its head in one pass.
-func TestFollowsBehindRefusals(t *testing.T) {
+func TestFollowsDespiteRefusals(t *testing.T) {
 	for _, kind := range kinds {
 		log := newLog(t, 30_000)
 		asked := make(chan int, 1)
@@ -333,51 +335,51 @@ func TestFollowsBehindRefusals(t *testing.T) {
 			w.WriteHeader(http.StatusTooManyRequests)
 			return true
 		})
-		of := serve(t, log, kind)
+		listed := serve(t, log, kind)
 		k := newKeeper()
-		f := follower(t, of, k, watch.Options{FromStart: true, Client: logclient.Options{Clock: newClock(begun)}})
+		f := newFollower(t, listed, k, watch.Options{FromStart: true, Client: logclient.Options{Clock: newClock(epoch)}})
 		if err := f.Pass(context.Background()); err != nil {
 			t.Fatal(err)
 		}
-		wantsEntries(t, k, of.ID, count(0, 30_000))
+		checkEntries(t, k, listed.ID, numbers(0, 30_000))
 		if n := <-asked; n < 100 {
 			t.Errorf("%d requests were made", n)
 		}
 	}
 }
 
-// waits is a clock that notes each wait, and ends the run after a number of them.
-type waits struct {
+// waitClock is a clock that hands the duration of each wait to the test.
+type waitClock struct {
 	clock
-	seen chan time.Duration
+	waits chan time.Duration
 }
 
-func (w *waits) Wait(ctx context.Context, d time.Duration) error {
+func (w *waitClock) Wait(ctx context.Context, d time.Duration) error {
 	select {
-	case w.seen <- d:
+	case w.waits <- d:
 	case <-ctx.Done():
 	}
 	return w.clock.Wait(ctx, d)
 }
 
-// A log that is busy is not asked before the time that it names, and never left for longer than a day.
-func TestLeavesABusyLogAlone(t *testing.T) {
-	for named, due := range map[string]time.Duration{"7200": 2 * time.Hour, "86400000": 24 * time.Hour} {
+// A busy log is not asked before the time that it names, but after a day at the latest.
+func TestAsksABusyLogLater(t *testing.T) {
+	for retryAfter, expected := range map[string]time.Duration{"7200": 2 * time.Hour, "86400000": 24 * time.Hour} {
 		log := newLog(t, 1)
 		log.Intercept(func(w http.ResponseWriter, _ *http.Request) bool {
-			w.Header().Set("Retry-After", named)
+			w.Header().Set("Retry-After", retryAfter)
 			w.WriteHeader(http.StatusTooManyRequests)
 			return true
 		})
-		of := serve(t, log, "tiled")
-		at := &waits{seen: make(chan time.Duration)}
-		at.now.Store(begun)
+		listed := serve(t, log, "tiled")
+		at := &waitClock{waits: make(chan time.Duration)}
+		at.now.Store(epoch)
 		k := newKeeper()
 		group := watch.NewGroup(k, watch.Options{Pause: time.Minute, Client: logclient.Options{Clock: at}})
 		ctx, cancel := context.WithCancel(context.Background())
-		group.Follow(ctx, []watch.Log{of})
-		if pause := <-at.seen; pause < due-time.Minute || pause > due+time.Minute {
-			t.Errorf("after %s the log is asked again after %v", named, pause)
+		group.Follow(ctx, []watch.Log{listed})
+		if pause := <-at.waits; pause < expected-time.Minute || pause > expected+time.Minute {
+			t.Errorf("after Retry-After: %s, the log is asked again after %v", retryAfter, pause)
 		}
 		var busy *logclient.BusyError
 		status := await(t, k, "the first status", func(watch.Status) bool { return true })

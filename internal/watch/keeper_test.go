@@ -10,21 +10,21 @@ import (
 	"wagtenib/internal/watch"
 )
 
-// errKilled is the error of a call of a keeper that was killed.
+// errKilled is the error of the call at which a keeper is killed.
 var errKilled = errors.New("the keeper was killed")
 
-// keeper keeps what it gets in memory, each call as a whole. It can be killed before or after a call has stored
-// something.
+// keeper implements watch.Keeper in memory. Each call stores all or nothing. A test can let one call fail before or
+// after it has stored something.
 type keeper struct {
 	mutex    sync.Mutex
 	states   map[watch.LogID]watch.State
-	entries  map[watch.LogID][]watch.Entry // all that were handed, and stored with a state
+	entries  map[watch.LogID][]watch.Entry // all entries of the calls of Keep that stored something
 	accused  map[watch.LogID][]watch.Evidence
 	statuses map[watch.LogID]watch.Status
 	reported chan watch.Status
 	calls    int
-	killAt   int // the call that fails; 0 for none
-	stores   bool
+	killAt   int  // the number of the call that fails; 0 for none
+	stores   bool // the call that fails stores first
 }
 
 func newKeeper() *keeper {
@@ -33,7 +33,7 @@ func newKeeper() *keeper {
 		statuses: map[watch.LogID]watch.Status{}, reported: make(chan watch.Status, 1000)}
 }
 
-// store makes one call: it stores, unless the keeper is killed before it does.
+// store counts one call, and stores, unless the keeper is killed before that.
 func (k *keeper) store(put func()) error {
 	k.mutex.Lock()
 	defer k.mutex.Unlock()
@@ -73,7 +73,7 @@ func (k *keeper) Report(status watch.Status) {
 	k.mutex.Unlock()
 	select {
 	case k.reported <- status:
-	default: // (nobody waits for so many)
+	default: // No test waits for so many reports.
 	}
 }
 
@@ -85,7 +85,7 @@ func (k *keeper) hasStatus(id watch.LogID) bool {
 	return ok
 }
 
-// verdicts returns the verdicts of what a log was accused of, in order.
+// verdicts returns the verdicts of the evidence against a log, in order.
 func (k *keeper) verdicts(id watch.LogID) (verdicts []string) {
 	k.mutex.Lock()
 	defer k.mutex.Unlock()
@@ -105,20 +105,21 @@ func (k *keeper) indexes(id watch.LogID) (indexes []uint64) {
 	return indexes
 }
 
-// begun is the time at which the logs of the tests begin, in milliseconds since 1970. Their heads are old by the
-// machine's clock, so a log of a test has no maximum merge delay unless it is about that.
-const begun = 1_800_000_000_000
+// epoch is the time at which the logs of the tests begin, in milliseconds since 1970. Their heads are old by the
+// machine's clock, so a log of a test has a maximum merge delay only if the test is about that.
+const epoch = 1_800_000_000_000
 
-// entriesOf returns entries with made-up certificates, a second apart from the timestamp of an index on.
-func entriesOf(first, count uint64) (entries []testlog.Entry) {
+// makeEntries returns entries with made-up certificates. Their indexes begin with first, and their timestamps are one
+// second apart.
+func makeEntries(first, count uint64) (entries []testlog.Entry) {
 	for i := first; i < first+count; i++ {
-		entries = append(entries, testlog.Entry{Timestamp: begun + 1000*i, Certificate: []byte{0x30, 3, byte(i >> 16),
+		entries = append(entries, testlog.Entry{Timestamp: epoch + 1000*i, Certificate: []byte{0x30, 3, byte(i >> 16),
 			byte(i >> 8), byte(i)}})
 	}
 	return entries
 }
 
-// newLog returns a log with so many entries and a head over all of them.
+// newLog returns a log with this number of entries, and a head that covers them.
 func newLog(t testing.TB, count uint64) *testlog.Log {
 	t.Helper()
 	log, err := testlog.New("log.example/2027")
@@ -129,13 +130,13 @@ func newLog(t testing.TB, count uint64) *testlog.Log {
 	return log
 }
 
-// grow adds entries to a log, and signs a head over all of them.
+// grow adds entries to a log, and signs a head that covers all of them.
 func grow(log *testlog.Log, count uint64) {
-	log.Add(entriesOf(log.Size(), count)...)
-	log.Publish(log.Size(), begun+1000*log.Size())
+	log.Add(makeEntries(log.Size(), count)...)
+	log.Publish(log.Size(), epoch+1000*log.Size())
 }
 
 var _ watch.Keeper = (*keeper)(nil)
 
-// within is the time within which a test must see what it waits for, on a machine that has much else to do.
+// within is the maximum time for which a test waits, on a machine that is busy.
 const within = testutil.Longest

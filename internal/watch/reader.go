@@ -15,13 +15,13 @@ import (
 // ErrAbsent means that a log does not have an entry in the tree of its head.
 var ErrAbsent = errors.New("watch: the log does not have the entry")
 
-// Reader reads single answers of one log, of either kind, for audits.
+// Reader reads single answers of one log of either kind, for audits.
 type Reader struct {
 	Log    Log
 	source source
 }
 
-// NewReader returns a reader of a log. The error says what is wrong with the log's address or key.
+// NewReader returns a reader of a log. It returns an error if the log's address or key is wrong.
 func NewReader(log Log, options logclient.Options) (*Reader, error) {
 	if _, err := signature.ParseKey(log.PublicKey); err != nil {
 		return nil, fmt.Errorf("watch: %s: %w", log.Name, err)
@@ -42,23 +42,23 @@ func (r *Reader) Consistency(ctx context.Context, first, second uint64) ([]wagte
 	return r.source.consistency(ctx, first, second)
 }
 
-// Place returns the index and the audit path of a leaf in a head's tree. They are not checked. A tiled log has the leaf
-// at the index that its timestamp names, or nowhere; the other kind of log knows leaves by their hashes. The error
-// wraps ErrAbsent if the log does not have the leaf.
-func (r *Reader) Place(ctx context.Context, head Head, leafHash wagtenib.Hash, named uint64) (index uint64,
+// FindLeaf returns the index and the audit path of a leaf in a head's tree. They are not checked. namedIndex is the
+// index in the leaf's own extensions: a tiled log has the leaf there, or does not have it. A log of RFC 6962 finds a
+// leaf by its hash. The error wraps ErrAbsent if the log does not have the leaf.
+func (r *Reader) FindLeaf(ctx context.Context, head Head, leafHash wagtenib.Hash, namedIndex uint64) (index uint64,
 	path []wagtenib.Hash, err error) {
-	if of, ok := r.source.(*calls); ok {
-		index, path, err = of.client.ProofByHash(ctx, leafHash, head.TreeSize)
+	if log, ok := r.source.(*calls); ok {
+		index, path, err = log.client.ProofByHash(ctx, leafHash, head.TreeSize)
 		if errors.Is(err, logclient.ErrNotFound) || errors.Is(err, logclient.ErrBadRequest) {
 			err = fmt.Errorf("%w: %w", ErrAbsent, err)
 		}
 		return index, path, err
 	}
-	if named >= head.TreeSize {
-		return 0, nil, fmt.Errorf("%w: index %d of %d", ErrAbsent, named, head.TreeSize)
+	if namedIndex >= head.TreeSize {
+		return 0, nil, fmt.Errorf("%w: index %d of %d", ErrAbsent, namedIndex, head.TreeSize)
 	}
-	path, err = r.source.inclusion(ctx, named, head.TreeSize, leafHash)
-	return named, path, err
+	path, err = r.source.inclusion(ctx, namedIndex, head.TreeSize, leafHash)
+	return namedIndex, path, err
 }
 
 // Entry returns the entry at an index of a head's tree. It is not checked. The error wraps ErrAbsent if the tree has no
@@ -69,7 +69,7 @@ func (r *Reader) Entry(ctx context.Context, head Head, index uint64) (Entry, err
 	}
 	end := index + 1
 	if r.Log.IsTiled() {
-		// (the whole tile, by the name that it has in the head's tree)
+		// This reads the whole tile, by its name in the head's tree.
 		end = min((index/logclient.TileWidth+1)*logclient.TileWidth, head.TreeSize)
 	}
 	var found []Entry
@@ -89,11 +89,11 @@ func (r *Reader) Entry(ctx context.Context, head Head, index uint64) (Entry, err
 // LeafHash returns the hash of the leaf at an index of a tiled log's tree, which is compared with the head's root. The
 // error wraps ErrAbsent for the other kind of log.
 func (r *Reader) LeafHash(ctx context.Context, head Head, index uint64) (wagtenib.Hash, error) {
-	of, ok := r.source.(*tiles)
+	log, ok := r.source.(*tiles)
 	if !ok || index >= head.TreeSize {
 		return wagtenib.Hash{}, ErrAbsent
 	}
-	found, err := of.hashes(ctx, head.TreeHead).ReadHashes([]int64{tlog.StoredHashIndex(0, int64(index))})
+	found, err := log.hashes(ctx, head.TreeHead).ReadHashes([]int64{tlog.StoredHashIndex(0, int64(index))})
 	if err != nil {
 		return wagtenib.Hash{}, fmt.Errorf("%w: %v", errDamaged, err)
 	}
@@ -103,11 +103,11 @@ func (r *Reader) LeafHash(ctx context.Context, head Head, index uint64) (wagteni
 // Root returns the root of the first leaves of a tiled log's tree, which is compared with the head's root. The error
 // wraps ErrAbsent for the other kind of log.
 func (r *Reader) Root(ctx context.Context, head Head, size uint64) (wagtenib.Hash, error) {
-	of, ok := r.source.(*tiles)
+	log, ok := r.source.(*tiles)
 	if !ok || size < 1 || size > head.TreeSize {
 		return wagtenib.Hash{}, ErrAbsent
 	}
-	root, err := tlog.TreeHash(int64(size), of.hashes(ctx, head.TreeHead))
+	root, err := tlog.TreeHash(int64(size), log.hashes(ctx, head.TreeHead))
 	if err != nil {
 		return wagtenib.Hash{}, fmt.Errorf("%w: %v", errDamaged, err)
 	}

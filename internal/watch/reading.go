@@ -12,49 +12,50 @@ import (
 	"wagtenib/internal/logclient"
 )
 
-// The size of a batch. The Keeper stores each batch in one step, so larger ones are faster to read, and smaller ones
-// are found sooner. A batch is larger than one tile or page only if more of them have come already.
+// The maximum size of a batch. The Keeper stores each batch in one step. Larger batches are read faster, and the
+// entries of smaller ones are searched sooner. A batch has more than one tile or page only if the next ones have
+// arrived already.
 const (
 	maxBatch      = 4096     // entries
 	maxBatchBytes = 16 << 20 // bytes
 )
 
-// proofFrom is the number of new entries from which on a consistency proof is asked for before they are read. Fewer
-// entries are read as fast as a proof.
-const proofFrom = 1024
+// minProofEntries is the minimum number of new entries for which a consistency proof is requested before they are read.
+// Fewer entries can be read as fast as a proof.
+const minProofEntries = 1024
 
-// readWaiting reads the entries up to the head that waits.
+// readWaiting reads the entries up to the waiting head.
 func (f *Follower) readWaiting(ctx context.Context) error {
 	if err := f.judgeProof(ctx); err != nil {
 		return err
 	}
-	var due batch
-	var own error
+	var pending batch
+	var batchErr error // of processBatch, and not of the source
 	flush := func() error {
-		if len(due.entries) == 0 {
+		if len(pending.entries) == 0 {
 			return nil
 		}
-		full := due
-		due = batch{}
-		own = f.take(ctx, full)
-		return own
+		full := pending
+		pending = batch{}
+		batchErr = f.processBatch(ctx, full)
+		return batchErr
 	}
 	err := f.source.entries(ctx, f.state.Read, f.state.Waiting.TreeSize, func(b batch, more bool) error {
-		due.add(b)
-		if more && len(due.entries) < maxBatch && due.bytes < maxBatchBytes {
+		pending.add(b)
+		if more && len(pending.entries) < maxBatch && pending.bytes < maxBatchBytes {
 			return nil
 		}
 		return flush()
 	})
-	if own == nil {
-		// (what came before a failure is kept)
+	if batchErr == nil {
+		// The entries that arrived before a failure are stored.
 		if err := flush(); err != nil {
 			return err
 		}
 	}
 	switch {
-	case own != nil:
-		return own
+	case batchErr != nil:
+		return batchErr
 	case err != nil:
 		return fmt.Errorf("watch: %s: %w", f.log.Name, err)
 	case f.isWaiting():
@@ -64,16 +65,16 @@ func (f *Follower) readWaiting(ctx context.Context) error {
 	return nil
 }
 
-// judgeProof judges a consistency proof from the accepted head to the waiting one. It shows a rewritten history
+// judgeProof judges a consistency proof from the accepted head to the waiting one. The proof shows a rewritten history
 // before the entries are read.
 func (f *Follower) judgeProof(ctx context.Context) error {
 	first, second := f.state.Accepted, f.state.Waiting
-	if first.TreeSize == 0 || f.state.Read != first.TreeSize || second.TreeSize-first.TreeSize < proofFrom {
+	if first.TreeSize == 0 || f.state.Read != first.TreeSize || second.TreeSize-first.TreeSize < minProofEntries {
 		return nil
 	}
 	proof, err := f.source.consistency(ctx, first.TreeSize, second.TreeSize)
 	if err != nil {
-		// A log must not keep its entries from being searched by giving no proof. The entries decide without it.
+		// A log must not prevent the search of its entries by giving no proof. The entries decide without it.
 		return ctx.Err()
 	}
 	found, monitor, err := wagtenib.MonitorProof(f.state.Monitor, proof)
@@ -96,12 +97,12 @@ func (f *Follower) judgeProof(ctx context.Context) error {
 	if err := f.accuse(next, VerdictInconsistent, text, files); !errors.As(err, &accused) {
 		return err
 	}
-	// (the entries decide: their root is another one too, if the history was rewritten)
+	// The entries decide. If the history was rewritten, their root differs too.
 	return nil
 }
 
-// stage gives a batch's tiles to the mirror. A full disk of the mirror must not keep entries from being searched, so a
-// fault is not returned: Accept reads a tile again that is not staged, and returns the fault if it is still there.
+// stage gives a batch's tiles to the mirror. It returns no error, because a full disk of the mirror must not prevent
+// the search of entries. Mirror.Accept reads a tile again if it is not staged, and returns the error if it persists.
 func (f *Follower) stage(b batch) {
 	if f.mirror == nil {
 		return
@@ -113,10 +114,10 @@ func (f *Follower) stage(b batch) {
 	}
 }
 
-// take judges entries, and keeps them with the next state. The evidence against the log is kept before the entries,
-// which are read again if that fails.
-func (f *Follower) take(ctx context.Context, b batch) error {
-	if f.careful {
+// processBatch judges entries, and stores them with the next state. It stores evidence against the log before the
+// entries. If that fails, the entries are read again.
+func (f *Follower) processBatch(ctx context.Context, b batch) error {
+	if f.comparesTiles {
 		if err := f.compare(ctx, b); err != nil {
 			return err
 		}
@@ -142,15 +143,15 @@ func (f *Follower) take(ctx context.Context, b batch) error {
 		if err := f.keep(next, b.entries); err != nil {
 			return err
 		}
-		f.careful = false
+		f.comparesTiles = false
 		return nil
 	}
-	// The leaves have another root. They are searched all the same: a log must not hide an entry in this way. The next
+	// The leaves have another root. The Keeper still searches them: a log must not hide an entry in this way. The next
 	// reading begins at the accepted head.
 	if err := f.keep(*f.state, b.entries); err != nil {
 		return err
 	}
-	f.careful = f.log.IsTiled()
+	f.comparesTiles = f.log.IsTiled()
 	next.Waiting = Head{}
 	waiting := f.state.Waiting
 	text := fmt.Sprintf("the %d leaves that were read have the root %x, and the log signed %x", waiting.TreeSize,
@@ -162,7 +163,7 @@ func (f *Follower) take(ctx context.Context, b batch) error {
 	return f.accuse(next, VerdictOtherRoot, text, files)
 }
 
-// judgeEntries accuses the log of entries that it must not have, of each kind once in a batch.
+// judgeEntries accuses the log of entries that it must not have. It accuses at most once of each kind in a batch.
 func (f *Follower) judgeEntries(ctx context.Context, b batch, report wagtenib.EntryReport) error {
 	if report.Later != nil {
 		text := fmt.Sprintf("entry %d has the timestamp %d, and the head that covers it has %d", report.Later.Index,
@@ -193,8 +194,8 @@ func (f *Follower) judgeEntries(ctx context.Context, b batch, report wagtenib.En
 	return nil
 }
 
-// firstLate returns the first entry that the accepted head must have, and has not: that head was signed after the
-// entry's maximum merge delay.
+// firstLate returns the index of the first entry that the accepted head must cover, but does not. That head was signed
+// after the entry's maximum merge delay.
 func (f *Follower) firstLate(b batch) (index uint64, ok bool) {
 	delay, head := uint64(f.log.MaxMergeDelay.Milliseconds()), f.state.Accepted
 	if delay == 0 || len(head.Signed) == 0 {
@@ -209,8 +210,8 @@ func (f *Follower) firstLate(b batch) (index uint64, ok bool) {
 	return 0, false
 }
 
-// accuseEntry accuses the log by an entry, with its audit path if the log gives one that leads to the head that waits.
-// The state stays the same. It returns nil if the entry was accused, so that the reading continues.
+// accuseEntry accuses the log of an entry. The evidence has the entry's audit path if the log gives one that leads to
+// the waiting head. The state stays the same. It returns nil after it has accused the log, so that reading continues.
 func (f *Follower) accuseEntry(ctx context.Context, b batch, index uint64, verdict, text string) error {
 	if f.accused.count[verdict] >= maxAccusations {
 		return nil
@@ -238,9 +239,9 @@ func (f *Follower) accuseEntry(ctx context.Context, b batch, index uint64, verdi
 }
 
 // compare compares each leaf of a batch with the log's hash tiles, which are compared with the root of the head. It is
-// done after leaves had another root, to name the tile.
+// called after the leaves of a reading had another root, and finds the wrong data tile.
 func (f *Follower) compare(ctx context.Context, b batch) error {
-	of, ok := f.source.(*tiles)
+	log, ok := f.source.(*tiles)
 	if !ok {
 		return nil
 	}
@@ -249,26 +250,26 @@ func (f *Follower) compare(ctx context.Context, b batch) error {
 	for i := range indexes {
 		indexes[i] = tlog.StoredHashIndex(0, int64(b.start)+int64(i))
 	}
-	hashes, err := of.hashes(ctx, head.TreeHead).ReadHashes(indexes)
+	hashes, err := log.hashes(ctx, head.TreeHead).ReadHashes(indexes)
 	if err != nil {
-		// Without hash tiles that lead to the root no data tile can be named. The entries are read to the end all the same: a
-		// log must not keep them from being searched.
-		f.careful = false
+		// Without hash tiles that lead to the root, the wrong data tile cannot be found. All entries are still read: a log
+		// must not prevent the search of its entries.
+		f.comparesTiles = false
 		return ctx.Err()
 	}
 	for i, entry := range b.entries {
 		if wagtenib.LeafHash(entry.Leaf) == wagtenib.Hash(hashes[i]) {
 			continue
 		}
-		return f.accuseTile(ctx, of, b, entry, wagtenib.Hash(hashes[i]))
+		return f.accuseTile(ctx, log, b, entry, wagtenib.Hash(hashes[i]))
 	}
 	return nil
 }
 
-// accuseTile accuses the log of a data tile with an entry that has another hash than the log's tree.
-func (f *Follower) accuseTile(ctx context.Context, of *tiles, b batch, entry Entry, hash wagtenib.Hash) error {
+// accuseTile accuses the log of a data tile with an entry whose hash differs from the hash in the log's tree.
+func (f *Follower) accuseTile(ctx context.Context, log *tiles, b batch, entry Entry, hash wagtenib.Hash) error {
 	head := f.state.Waiting
-	path, err := of.inclusion(ctx, entry.Index, head.TreeSize, hash)
+	path, err := log.inclusion(ctx, entry.Index, head.TreeSize, hash)
 	if err != nil {
 		return fmt.Errorf("watch: %s: %w", f.log.Name, err)
 	}
@@ -282,9 +283,9 @@ func (f *Follower) accuseTile(ctx context.Context, of *tiles, b batch, entry Ent
 			files[FileTile] = tile.Bytes
 		}
 	}
-	// The leaves are searched, although they are not the log's: what a log hands out can show what it hides. The next
-	// reading goes to the end, so that a newer head is taken.
-	f.careful = false
+	// The Keeper searches the leaves although they are not those of the log's tree: they can show what the log hides. The
+	// next reading does not compare tiles, so it reaches the end, and then a newer head is judged.
+	f.comparesTiles = false
 	if err := f.keep(*f.state, b.entries); err != nil {
 		return err
 	}

@@ -10,17 +10,17 @@ import (
 	"wagtenib/internal/logclient"
 )
 
-// errDamaged means that an answer of a log is not of the form that it must have, so that there are no leaves to judge.
+// errDamaged means that an answer of a log does not have the required form, so that there are no leaves to judge.
 var errDamaged = errors.New("watch: the answer is damaged")
 
-// batch holds entries of a log that follow each other.
+// batch holds consecutive entries of a log.
 type batch struct {
 	start   uint64
 	entries []Entry
-	tiles   []logclient.DataTile // of a tiled log: the tiles that they are of
+	tiles   []logclient.DataTile // the tiles that hold the entries; only set for a tiled log
 	// the first entry whose extensions are not its own index (leaf_index; C2SP static-ct-api)
 	otherIndex *uint64
-	bytes      int // of the leaves
+	bytes      int // the size of the answers: of the leaves with their extra data, or of the tiles
 }
 
 // add appends the batch that follows.
@@ -43,12 +43,12 @@ func (b *batch) leaves() [][]byte {
 	return leaves
 }
 
-// source reads one log, of either kind. It verifies the signature of a head, and nothing else.
+// source reads one log of either kind. It verifies only the signatures of heads.
 type source interface {
-	// head returns the newest tree head. The error wraps signature.ErrForm or signature.ErrSigner if the answer is none;
-	// the bytes of the answer are in the head then.
+	// head returns the newest tree head. The error wraps signature.ErrForm or signature.ErrSigner if the answer is not a
+	// signed head of the log. The head then holds the bytes of the answer.
 	head(ctx context.Context) (Head, error)
-	// entries hands the entries from `start` on, before size, to use in order. `more` says that the next ones have come
+	// entries calls use with the entries from `start` to size-1, in order. `more` is true if the next ones have arrived
 	// already.
 	entries(ctx context.Context, start, size uint64, use func(b batch, more bool) error) error
 	// consistency returns a proof between two sizes.
@@ -67,7 +67,7 @@ func newSource(log Log, client *logclient.Client) source {
 	return &calls{log, client}
 }
 
-// newEntry reads a leaf. An entry that is no leaf has a fault.
+// newEntry decodes a leaf. If the bytes are not a leaf, the entry has a Fault.
 func newEntry(index uint64, leaf []byte) Entry {
 	entry := Entry{Index: index, Leaf: leaf}
 	read, err := wagtenib.DecodeLeaf(leaf)
@@ -105,8 +105,8 @@ func (c *calls) entries(ctx context.Context, start, size uint64, use func(b batc
 	})
 }
 
-// readExtraData reads the chain of an entry, and before it the precertificate if it is one (RFC 6962, section 4.6). The
-// log does not sign them. An entry whose extra data cannot be read has none of them; its leaf is judged all the same.
+// readExtraData reads the chain of an entry and, for a precertificate, the submitted precertificate before it (RFC
+// 6962, section 4.6). The log does not sign them. If they cannot be read, they stay empty, and only the leaf is judged.
 func readExtraData(entry *Entry, extra []byte) {
 	if entry.Fault != nil {
 		return
@@ -133,7 +133,7 @@ func readExtraData(entry *Entry, extra []byte) {
 	entry.Precertificate, entry.Chain = precertificate, chain
 }
 
-// cutVector cuts a vector whose length has 3 bytes from the beginning of bytes.
+// cutVector cuts a vector with a length of 3 bytes from the beginning of content.
 func cutVector(content []byte) (vector, rest []byte, ok bool) {
 	const header = 3
 	if len(content) < header {
@@ -150,7 +150,7 @@ func (c *calls) consistency(ctx context.Context, first, second uint64) ([]wagten
 	return c.client.Consistency(ctx, first, second)
 }
 
-// subtrees takes the roots out of the path of the last leaf: the hashes to its left are all of them.
+// subtrees returns the roots in the audit path of the last leaf: the hashes to its left are those of all subtrees.
 func (c *calls) subtrees(ctx context.Context, head wagtenib.TreeHead) ([]wagtenib.Hash, error) {
 	if head.TreeSize == 0 {
 		return nil, nil
@@ -170,7 +170,7 @@ func (c *calls) subtrees(ctx context.Context, head wagtenib.TreeHead) ([]wagteni
 		return nil, err
 	}
 	if index != last {
-		// (the same leaf is in the log twice, and the log names the other one)
+		// The same leaf is in the log twice, and the log returned the other index.
 		return nil, fmt.Errorf("%w: get-proof-by-hash gives entry %d for the last one, %d (try again after the log has "+
 			"grown)", errDamaged, index, last)
 	}

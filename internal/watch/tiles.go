@@ -15,12 +15,12 @@ import (
 	"wagtenib/internal/signature"
 )
 
-// maxTreeSize is the largest number of leaves of a head that is taken. The index of a leaf of a tiled log has 40 bits
-// (C2SP static-ct-api), and no log of RFC 6962 comes near.
+// maxTreeSize is the maximum number of leaves of a head that openHead accepts. The index of a leaf of a tiled log has
+// 40 bits (C2SP static-ct-api), and logs of RFC 6962 are much smaller.
 const maxTreeSize = 1 << 48
 
-// openHead reads a log's signed head, of either kind, and verifies its signature. If it is refused, the bytes are in
-// the head all the same.
+// openHead reads a signed head of a log of either kind, and verifies its signature. The returned head holds the bytes
+// even if there is an error.
 func openHead(log Log, signed []byte) (Head, error) {
 	var head wagtenib.TreeHead
 	var err error
@@ -50,7 +50,7 @@ func (t *tiles) head(ctx context.Context) (Head, error) {
 	return openHead(t.log, checkpoint)
 }
 
-// entries reads whole data tiles: the first batch may begin before `start`, and what is before it is cut.
+// entries reads whole data tiles. It leaves out the entries of the first tile that are before `start`.
 func (t *tiles) entries(ctx context.Context, start, size uint64, use func(b batch, more bool) error) error {
 	return t.client.DataTiles(ctx, start, size, func(tile logclient.DataTile, more bool) error {
 		first := tile.Index * logclient.TileWidth
@@ -60,20 +60,22 @@ func (t *tiles) entries(ctx context.Context, start, size uint64, use func(b batc
 		}
 		b := batch{start: max(first, start), otherIndex: otherIndex, tiles: []logclient.DataTile{tile},
 			bytes: len(tile.Bytes)}
-		for i, of := range entries {
+		for i, entry := range entries {
 			index := first + uint64(i)
 			if index < start {
 				continue
 			}
-			b.entries = append(b.entries, Entry{Index: index, Timestamp: of.Timestamp, Type: of.Type, Leaf: of.Leaf,
-				Certificate: of.Certificate, Precertificate: of.Precertificate, Fingerprints: of.Issuers})
+			b.entries = append(b.entries, Entry{Index: index, Timestamp: entry.Timestamp, Type: entry.Type,
+				Leaf: entry.Leaf, Certificate: entry.Certificate, Precertificate: entry.Precertificate,
+				Fingerprints: entry.Issuers})
 		}
 		return use(b, more)
 	})
 }
 
-// readDataTile reads a data tile, and returns the first index from next on whose entry names another one in its
-// extensions. A full tile may be in the place of a partial one, so the entries after those of the name are left out.
+// readDataTile reads a data tile. otherIndex is the first index from next on whose entry names another index in its
+// extensions; nil if there is none. A log may answer with a full tile for a partial one, so only the first tile.Width
+// entries are read.
 func readDataTile(tile logclient.DataTile, next uint64) (entries []wagtenib.TileEntry, otherIndex *uint64, err error) {
 	content := firstEntries(tile.Bytes, tile.Width)
 	index, err := wagtenib.CompareDataTile(tile.Name, next, content)
@@ -91,9 +93,9 @@ func readDataTile(tile logclient.DataTile, next uint64) (entries []wagtenib.Tile
 	return entries, otherIndex, nil
 }
 
-// firstEntries cuts a data tile after its first entries (C2SP static-ct-api, "Log Entries"). A log can put millions of
-// tiny ones into the bytes of a tile, and those that were not asked for must take no memory. If an entry cannot be
-// read, nothing is cut: the library decides on the form, and reads no further than to that entry.
+// firstEntries cuts a data tile after its first count entries (C2SP static-ct-api, "Log Entries"). A log can put
+// millions of tiny entries into a tile, and those that were not requested must take no memory. If an entry cannot be
+// read, nothing is cut: the library then judges the form, and stops at that entry.
 func firstEntries(tile []byte, count int) []byte {
 	rest := cryptobyte.String(tile)
 	for range count {
@@ -114,7 +116,7 @@ func firstEntries(tile []byte, count int) []byte {
 	return tile[:len(tile)-len(rest)]
 }
 
-// read reads tiles by their names.
+// read returns the contents of the hash tiles with these names.
 func (t *tiles) read(ctx context.Context, names []string) ([][]byte, error) {
 	contents := make([][]byte, len(names))
 	for i, name := range names {
@@ -151,7 +153,8 @@ func (t *tiles) inclusion(ctx context.Context, index, size uint64, _ wagtenib.Ha
 	return wagtenib.PathOfTiles(index, size, contents)
 }
 
-// subtrees takes the roots out of the path of the last leaf. Both come from tiles that are compared with the root.
+// subtrees returns the roots in the audit path of the last leaf. They are not checked: wagtenib.MonitorStart compares
+// them with the head's root.
 func (t *tiles) subtrees(ctx context.Context, head wagtenib.TreeHead) ([]wagtenib.Hash, error) {
 	if head.TreeSize == 0 {
 		return nil, nil
@@ -168,42 +171,42 @@ func (t *tiles) subtrees(ctx context.Context, head wagtenib.TreeHead) ([]wagteni
 	return wagtenib.LastSubtrees(wagtenib.Hash(leaf[0]), head.TreeSize, path)
 }
 
-// hashes returns a reader of the hashes of a head's tree. It compares each with the root.
+// hashes returns a reader of the hashes of a head's tree. It compares each hash with the root.
 func (t *tiles) hashes(ctx context.Context, head wagtenib.TreeHead) tlog.HashReader {
 	tree := tlog.Tree{N: int64(head.TreeSize), Hash: tlog.Hash(head.Root)}
 	return tlog.TileHashReader(tree, &tileReader{ctx, t.client, map[string][]byte{}})
 }
 
-// maxTilesKept is the number of hash tiles that a reader keeps, of 8 KiB each.
-const maxTilesKept = 256
+// maxCachedTiles is the maximum number of hash tiles in a tileReader's cache, of 8 KiB each.
+const maxCachedTiles = 256
 
-// tileReader reads tiles for tlog. It keeps some of them.
+// tileReader reads tiles for tlog, and caches some of them.
 type tileReader struct {
 	ctx    context.Context
 	client *logclient.Client
-	read   map[string][]byte
+	cache  map[string][]byte
 }
 
 // Height returns the height of a tile (C2SP tlog-tiles).
 func (*tileReader) Height() int { return 8 }
 
-// SaveTiles does nothing: what was read is kept by ReadTiles.
+// SaveTiles does nothing: ReadTiles caches the tiles.
 func (*tileReader) SaveTiles([]tlog.Tile, [][]byte) {}
 
-// ReadTiles reads tiles.
+// ReadTiles returns the contents of tiles, from the cache or from the log.
 func (r *tileReader) ReadTiles(wanted []tlog.Tile) (contents [][]byte, err error) {
 	for _, tile := range wanted {
-		// (tlog writes the height into the name, and C2SP leaves it out)
+		// tlog's names include the height, and C2SP's names do not.
 		name := "tile/" + strings.TrimPrefix(tile.Path(), "tile/8/")
-		content, ok := r.read[name]
+		content, ok := r.cache[name]
 		if !ok {
 			if content, err = r.client.HashTile(r.ctx, name); err != nil {
 				return nil, err
 			}
-			if len(r.read) >= maxTilesKept {
-				clear(r.read)
+			if len(r.cache) >= maxCachedTiles {
+				clear(r.cache)
 			}
-			r.read[name] = content
+			r.cache[name] = content
 		}
 		contents = append(contents, content)
 	}

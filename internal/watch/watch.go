@@ -1,9 +1,9 @@
-// Package watch follows Certificate Transparency logs: it reads their tree heads and entries, and has the proved
-// library judge each answer.
+// Package watch follows Certificate Transparency logs: it reads their tree heads and entries. The proved library judges
+// each answer.
 //
 // A monitor reads every entry of a log, and compares the hash of all of them with the root that the log signed. This
-// package does this for tiled logs (C2SP static-ct-api) and for logs of RFC 6962, for many logs at once. What it reads
-// goes to a Keeper, which searches it and stores it.
+// package does this for tiled logs (C2SP static-ct-api) and for logs of RFC 6962, for many logs at once. It hands the
+// entries to a Keeper, which searches and stores them.
 package watch
 
 import (
@@ -19,20 +19,20 @@ type LogID [32]byte
 type Log struct {
 	ID            LogID
 	Name          string // for people: the description in a log list, or the host
-	Origin        string // of the checkpoints of a tiled log (C2SP static-ct-api); empty for one of RFC 6962
+	Origin        string // the origin of a tiled log's checkpoints (C2SP static-ct-api); empty for a log of RFC 6962
 	URL           string // the monitoring prefix of a tiled log, or the base of "ct/v1/"; without a slash at its end
 	PublicKey     []byte // SubjectPublicKeyInfo, in DER
 	MaxMergeDelay time.Duration
 	State         string // of the log list: "usable", "readonly" and so on; empty if the log is in none
 }
 
-// IsTiled reports whether the log is read by tiles (C2SP static-ct-api), and not by the interface of RFC 6962.
+// IsTiled reports whether the log is read by tiles (C2SP static-ct-api). Otherwise it is read by the calls of RFC 6962.
 func (l Log) IsTiled() bool { return l.Origin != "" }
 
 // Head is a tree head with the bytes that prove to others that the log signed it.
 type Head struct {
 	wagtenib.TreeHead
-	Signed []byte // the signed note of a tiled log, or the JSON answer of get-sth, as it came
+	Signed []byte // the signed note of a tiled log, or the JSON answer of get-sth, as received
 }
 
 // Entry is an entry of a log.
@@ -41,15 +41,15 @@ type Entry struct {
 	Timestamp      uint64 // milliseconds since 1970
 	Type           wagtenib.EntryType
 	Leaf           []byte     // MerkleTreeLeaf (RFC 6962, section 3.4)
-	Certificate    []byte     // DER: the certificate, or the TBSCertificate that stands for a precertificate
+	Certificate    []byte     // DER: the certificate, or the TBSCertificate of a precertificate
 	Precertificate []byte     // DER of the precertificate as it was submitted; nil for a certificate
-	Chain          [][]byte   // DER of the issuers, of a log of RFC 6962
-	Fingerprints   [][32]byte // the SHA-256 hashes of the issuers, of a tiled log
-	Fault          error      // why the leaf cannot be read; nothing but Index and Leaf is set then
+	Chain          [][]byte   // DER of the issuers; only set for a log of RFC 6962
+	Fingerprints   [][32]byte // the SHA-256 hashes of the issuers; only set for a tiled log
+	Fault          error      // why the leaf cannot be read; only Index and Leaf are set then
 }
 
-// State is what is known of a log. It is stored with what was found in the entries up to it, so that a monitor that is
-// killed goes on where it was.
+// State describes how far a log was read and judged. It is stored together with what was found in the entries up to it,
+// so that a monitor that is killed continues there.
 type State struct {
 	Monitor  []byte // the state of the library's monitor
 	Accepted Head   // the newest head whose leaves were all read and have its root
@@ -58,7 +58,7 @@ type State struct {
 	Start    uint64 // the index at which reading began: 0, or the size of the log when the log was added
 }
 
-// Evidence shows that a log did wrong. Others can check it without this monitor.
+// Evidence shows that a log did something wrong. Others can check it without this monitor.
 type Evidence struct {
 	Time    time.Time
 	Verdict string            // "forked", "shrunk", "late merge" and so on
@@ -66,26 +66,26 @@ type Evidence struct {
 	Files   map[string][]byte // by file names: the signed heads, the proof, the entries
 }
 
-// Status says how it goes with a log. It is not stored.
+// Status describes the progress of one log, and its last fault. It is not stored.
 type Status struct {
 	Log      Log
 	Head     wagtenib.TreeHead // the newest head that the log signed
-	Read     uint64            // entries
-	Accepted uint64            // entries
-	Answered time.Time         // when the log answered last as it should
-	Fault    error             // why it does not go on now; nil if it does
+	Read     uint64            // the number of entries up to which the log was read
+	Accepted uint64            // the number of entries of the accepted head
+	Answered time.Time         // when the log last gave a correct answer
+	Fault    error             // why reading cannot continue now; nil if it can
 }
 
-// A Keeper keeps what is read of logs. Its methods are called by one goroutine for each log. It searches entries
-// before their head is accepted: a finding must not wait for a log to be read whole.
+// A Keeper stores what is read of logs. One goroutine for each log calls its methods. It searches entries before their
+// head is accepted: a finding must not wait until the whole log was read.
 type Keeper interface {
-	// Load returns the state of a log that was kept last. It is the zero State if there is none.
+	// Load returns the state of a log that was stored last. It is the zero State if there is none.
 	Load(id LogID) (State, error)
-	// Keep searches the entries, which follow those of the last call, and stores what is found together with the next
-	// state. After it has returned nil, nothing of it is lost by a kill. If it returns an error, nothing of it is stored.
+	// Keep searches the entries, which follow those of the last call. It stores what it finds together with the next
+	// state. After it has returned nil, a kill loses none of this. If it returns an error, it has stored nothing.
 	Keep(log Log, next State, entries []Entry) error
 	// Accuse stores the evidence against a log together with the next state, and has an alert sent.
 	Accuse(log Log, next State, evidence Evidence) error
-	// Report tells how it goes with a log.
+	// Report receives the newest status of a log, which it may show.
 	Report(status Status)
 }

@@ -1,11 +1,10 @@
-// Package alert reports to an owner the certificates that were found in logs: on the terminal, as JSON lines, by
-// mail, by a webhook or by a command.
+// Package alert reports certificates that were found in logs to their owner: on the terminal, as JSON lines, by mail,
+// by a webhook or by a command.
 //
-// Alerts come from a Queue, which the store keeps. Each Output gets each alert once. If ctwatch is killed between a
-// sending and its mark in the store, the alert is sent a second time, and says so ("again").
+// Alerts come from a Queue, which is in the store. Each Output gets each alert once. If ctwatch is killed after it has
+// sent an alert and before it has marked this in the store, the alert is sent a second time, with the mark "again".
 //
-// Every text that comes from a certificate or from a log goes through Safe, so no output has to escape it for a
-// terminal.
+// Safe escapes every text that comes from a certificate or from a log, so an output need not escape it for a terminal.
 package alert
 
 import (
@@ -23,30 +22,30 @@ type Kind string
 const (
 	Found    Kind = "found"    // a certificate has a watched name
 	Unread   Kind = "unread"   // the names of a certificate cannot be read
-	Evidence Kind = "evidence" // a log did wrong, and the evidence is kept
-	Silent   Kind = "silent"   // nothing of a log, or no log list, could be read for long
+	Evidence Kind = "evidence" // a log did something wrong, and the evidence is stored
+	Silent   Kind = "silent"   // a log, or the log list, could not be read for too long
 )
 
 // Alert is one message to an owner.
 type Alert struct {
-	ID          int64        `json:"id"` // in the order of alerts, from 1 on
+	ID          int64        `json:"id"` // alerts are numbered from 1 on
 	Kind        Kind         `json:"kind"`
 	Time        time.Time    `json:"time"`            // when it was found
 	Again       bool         `json:"again,omitempty"` // it may have been sent before
 	Certificate *Certificate `json:"certificate,omitempty"`
-	Log         *Log         `json:"log,omitempty"` // of the kinds evidence and silent
+	Log         *Log         `json:"log,omitempty"` // only set for the kinds evidence and silent
 }
 
 // Certificate is an issuance: a certificate, or its precertificate, in any number of logs.
 type Certificate struct {
 	Matches     []Match    `json:"matches"`
 	Names       []string   `json:"names"`      // at most MaxNames
-	NameCount   int        `json:"name_count"` // of all names
+	NameCount   int        `json:"name_count"` // the number of all names
 	Fields      Fields     `json:"fields"`
-	SHA256      string     `json:"sha256"`     // of what was found first, in hexadecimal digits
-	TBSSHA256   string     `json:"tbs_sha256"` // of the TBSCertificate without poison and SCTs: the same for both
+	SHA256      string     `json:"sha256"`     // of the one that was stored first, in hexadecimal digits
+	TBSSHA256   string     `json:"tbs_sha256"` // of the TBSCertificate without poison and SCTs; both have the same
 	Sightings   []Sighting `json:"sightings"`
-	Kept        string     `json:"kept"` // how to get the certificate
+	Kept        string     `json:"kept"` // says how to get the certificate
 	Fault       string     `json:"fault,omitempty"`
 	IsFromStore bool       `json:"from_store,omitempty"` // found in the store for a name that was added later
 }
@@ -55,11 +54,11 @@ type Certificate struct {
 type Match struct {
 	Name   string   `json:"name"`
 	Place  string   `json:"place"`  // san, cn, like-san, like-cn, bytes or everything
-	Proved bool     `json:"proved"` // the proved library says so
+	Proved bool     `json:"proved"` // whether the proved library found the match
 	Hosts  []string `json:"hosts"`  // the names of the certificate that match, at most MaxNames
 }
 
-// Fields are fields of the certificate. A field that cannot be read is empty.
+// Fields holds fields of a certificate. A field that cannot be read is empty.
 type Fields struct {
 	Subject      string    `json:"subject"`
 	Issuer       string    `json:"issuer"`
@@ -69,7 +68,7 @@ type Fields struct {
 	KeySHA256    string    `json:"key_sha256"` // of the SubjectPublicKeyInfo, in hexadecimal digits
 }
 
-// Sighting is an entry of a log.
+// Sighting is a log entry with the certificate or precertificate.
 type Sighting struct {
 	Log       string    `json:"log"`
 	URL       string    `json:"url"`
@@ -78,24 +77,25 @@ type Sighting struct {
 	Type      string    `json:"type"` // certificate or precertificate
 }
 
-// Log is a log that did wrong, or that does not answer.
+// Log describes a log that did something wrong or does not answer, or the log list.
 type Log struct {
 	Name    string `json:"name"`
 	URL     string `json:"url"`
 	Verdict string `json:"verdict"`
 	Text    string `json:"text"`
-	Kept    string `json:"kept,omitempty"` // how to get the evidence
+	Kept    string `json:"kept,omitempty"` // says how to get the evidence
 }
 
-// The bounds of an alert: how many names and how many entries it has, and how many bytes of each text.
+// The bounds of an alert: the maximum number of names, of entries, and of bytes of each text.
 const (
 	MaxNames     = 20
 	MaxSightings = 20
 	maxText      = 300
 )
 
-// Safe returns a text as it may be shown on a terminal, in a mail and in a variable of a command: each character that
-// is not printable, and each byte that is not UTF-8, by its number, and a backslash as two. A long text is cut.
+// Safe returns a text in a form that is safe on a terminal, in a mail and in a variable of a command. It replaces each
+// character that is not printable, and each byte that is not UTF-8, with its number, and doubles each backslash. It
+// cuts a long text.
 func Safe(text string) string {
 	var safe strings.Builder
 	for i := 0; i < len(text); {
@@ -119,7 +119,7 @@ func Safe(text string) string {
 	return safe.String()
 }
 
-// SafeAll returns each text as of Safe, and at most limit of them.
+// SafeAll returns the result of Safe for the first texts, at most limit of them.
 func SafeAll(texts []string, limit int) []string {
 	safe := make([]string, 0, min(len(texts), limit))
 	for _, text := range texts[:min(len(texts), limit)] {

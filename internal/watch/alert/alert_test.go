@@ -25,8 +25,8 @@ import (
 	"wagtenib/internal/watch/alert"
 )
 
-// hostile are texts that a certificate may have, and that must not reach a terminal, a mail, a shell or HTML as they
-// are.
+// hostile holds texts that a certificate may have, and that must not reach a terminal, a mail, a shell or HTML
+// unchanged.
 var hostile = []string{
 	"\x1b]0;owned\x07\x1b[2J", "a\r\nBcc: victim@example.net\r\n\r\nbody", "\n.\n",
 	"$(touch owned)`touch owned`;touch owned", "<script>alert(1)</script>",
@@ -34,7 +34,7 @@ var hostile = []string{
 	"\u0085\u009b31m", "%s%n", "-oQ/tmp", "",
 }
 
-// certificateOf returns an alert with a text wherever a certificate has one.
+// certificateOf returns an alert about a certificate that has this text in each of its fields that can have a text.
 func certificateOf(text string) alert.Alert {
 	safe := alert.Safe(text)
 	return alert.Alert{ID: 7, Kind: alert.Found, Time: time.Unix(1_770_000_000, 0).UTC(),
@@ -49,8 +49,8 @@ func certificateOf(text string) alert.Alert {
 			Kept: "ctwatch certificate bb prints it"}}
 }
 
-// TestSafeTexts: the result of Safe can be printed, has no line end, is UTF-8 and has a bound.
-func TestSafeTexts(t *testing.T) {
+// TestSafe: the result of Safe is printable, has no line end, is UTF-8 and has a bounded length.
+func TestSafe(t *testing.T) {
 	for _, text := range hostile {
 		checkSafe(t, text, alert.Safe(text))
 	}
@@ -70,7 +70,7 @@ func checkSafe(t *testing.T, text, safe string) {
 	}
 }
 
-// FuzzSafe does the same with any bytes.
+// FuzzSafe checks the result of Safe for any bytes.
 func FuzzSafe(f *testing.F) {
 	for _, text := range hostile {
 		f.Add(text)
@@ -78,7 +78,7 @@ func FuzzSafe(f *testing.F) {
 	f.Fuzz(func(t *testing.T, text string) { checkSafe(t, text, alert.Safe(text)) })
 }
 
-// TestLineIsOneLine: whatever a certificate has, its alert is one line that a terminal shows.
+// TestLineIsOneLine: whatever a certificate contains, its alert is one line of printable characters.
 func TestLineIsOneLine(t *testing.T) {
 	for _, text := range hostile {
 		var out bytes.Buffer
@@ -95,12 +95,12 @@ func TestLineIsOneLine(t *testing.T) {
 	}
 }
 
-// TestMailIsPlainText: net/mail reads one mail, to the owner only, whose text has the names and no line of a
-// certificate's own.
+// TestMailIsPlainText: net/mail reads one mail, only to the addresses of the owner. Its text has the names, and no line
+// that a certificate has put there.
 func TestMailIsPlainText(t *testing.T) {
 	for _, text := range hostile {
 		folder := t.TempDir()
-		path := program(t, folder, "sendmail", `echo "$@" > "`+folder+`/words"; cat > "`+folder+`/mail"`)
+		path := program(t, folder, "sendmail", `echo "$@" > "`+folder+`/arguments"; cat > "`+folder+`/mail"`)
 		output, err := alert.NewMail("owner@example.org", []string{"owner@example.org", "other@example.org"},
 			alert.Carrier{Place: path})
 		must(t, err)
@@ -108,9 +108,9 @@ func TestMailIsPlainText(t *testing.T) {
 			certificateOf(text)}); sent != 2 || err != nil {
 			t.Fatal(sent, err)
 		}
-		if words := read(t, folder, "words"); words != "-oi -f owner@example.org -- owner@example.org "+
+		if arguments := read(t, folder, "arguments"); arguments != "-oi -f owner@example.org -- owner@example.org "+
 			"other@example.org\n" {
-			t.Errorf("sendmail is called with %q", words)
+			t.Errorf("sendmail is called with %q", arguments)
 		}
 		checkMail(t, read(t, folder, "mail"))
 	}
@@ -152,7 +152,7 @@ func checkMail(t *testing.T, content string) {
 	}
 }
 
-// TestRefusesMailAddresses: a word that is no address, or that sendmail would take for an option, is refused.
+// TestRefusesMailAddresses: NewMail refuses a text that is not an address, or that sendmail would take for an option.
 func TestRefusesMailAddresses(t *testing.T) {
 	for _, address := range []string{"", "owner", "-oQ@example.org", "a@example.org\nBcc: b@example.org",
 		"A <a@example.org>", "a@example.org, b@example.org"} {
@@ -168,7 +168,8 @@ func TestRefusesMailAddresses(t *testing.T) {
 	}
 }
 
-// TestCommandGetsVariables: the program gets the alert in its environment and on its input, and nothing of it is run.
+// TestCommandGetsVariables: the program gets the alert in its environment and on its standard input, and no part of the
+// alert is run.
 func TestCommandGetsVariables(t *testing.T) {
 	for _, text := range hostile {
 		folder := t.TempDir()
@@ -193,13 +194,14 @@ func TestCommandGetsVariables(t *testing.T) {
 			t.Errorf("%v: %+v", err, given)
 		}
 		if files, err := os.ReadDir(folder); err != nil || len(files) != 3 {
-			t.Errorf("%v %v: a certificate ran something", files, err)
+			t.Errorf("%v %v: a part of the alert was run", files, err)
 		}
 	}
 }
 
-// TestCommandThatReadsNothing: a program that ends without its input, of more bytes than a pipe holds, took the alert.
-func TestCommandThatReadsNothing(t *testing.T) {
+// TestCommandNeedNotReadItsInput: an alert counts as sent even if the program ends without reading its input, which has
+// more bytes than a pipe holds.
+func TestCommandNeedNotReadItsInput(t *testing.T) {
 	output, err := alert.NewCommand([]string{program(t, t.TempDir(), "tell", "exit 0")})
 	must(t, err)
 	large := certificateOf("a")
@@ -209,8 +211,8 @@ func TestCommandThatReadsNothing(t *testing.T) {
 	}
 }
 
-// TestManyMatchesDoNotStopAnOutput: a log can have a certificate with every watched name. Its alert is sent to a
-// command, whose variables have a bound in Linux, and it has a line and a mail that people can read.
+// TestManyMatchesDoNotStopAnOutput: a log can have a certificate with every watched name. A command gets its alert
+// although Linux bounds the length of variables, and its line and its mail stay short enough for people.
 func TestManyMatchesDoNotStopAnOutput(t *testing.T) {
 	one := certificateOf("a")
 	one.Certificate.Matches = nil
@@ -233,8 +235,8 @@ func TestManyMatchesDoNotStopAnOutput(t *testing.T) {
 	}
 }
 
-// TestEndsALineThatWasCutOff: after a kill in the middle of a line the next alert has a line of its own, and a whole
-// line gets no empty one after it.
+// TestEndsALineThatWasCutOff: after a kill in the middle of a line, the next alert has its own line. There is no empty
+// line after a complete one.
 func TestEndsALineThatWasCutOff(t *testing.T) {
 	path := filepath.Join(t.TempDir(), "alerts")
 	for _, before := range []string{"", `{"id":6}` + "\n", `{"id":6,"ki`} {
@@ -254,8 +256,9 @@ func TestEndsALineThatWasCutOff(t *testing.T) {
 	}
 }
 
-// TestCommandThatFails: a program that fails, or is not there, sends nothing, and says why.
-func TestCommandThatFails(t *testing.T) {
+// TestReportsFailedCommand: if a program fails or does not exist, the alert does not count as sent, and the error says
+// why.
+func TestReportsFailedCommand(t *testing.T) {
 	path := program(t, t.TempDir(), "tell", "echo no disk >&2; exit 7")
 	output, err := alert.NewCommand([]string{path})
 	must(t, err)
@@ -264,8 +267,8 @@ func TestCommandThatFails(t *testing.T) {
 		!strings.Contains(err.Error(), "no disk") {
 		t.Errorf("%d sent, %d tried: %v", sent, tried, err)
 	}
-	// Those after the tenth run until the tenth has ended. There are so many that Send has taken its status long before
-	// the last of them.
+	// The programs after the tenth run until the tenth has ended. There are so many alerts that Send sees the tenth's
+	// failure long before it starts the last program.
 	folder := t.TempDir()
 	path = program(t, folder, "tell", `case "$CTWATCH_ISSUER" in
 no) echo $$ > "$1/failing"; exit 1;;
@@ -286,12 +289,13 @@ esac`)
 		t.Error(err)
 	}
 	if _, err := alert.NewCommand(nil); err == nil {
-		t.Error("an empty command is taken")
+		t.Error("an empty command is accepted")
 	}
 }
 
-// TestWebhook: each alert is posted as JSON; another status stops the sending, and a redirect is not followed.
-func TestWebhook(t *testing.T) {
+// TestPostsToAWebhook: each alert is posted as JSON. Sending stops at a status that is not 200 to 299, and a redirect
+// is not followed.
+func TestPostsToAWebhook(t *testing.T) {
 	var posted []alert.Alert
 	statuses := []int{http.StatusNoContent, http.StatusOK, http.StatusFound}
 	server := httptest.NewServer(http.HandlerFunc(func(w http.ResponseWriter, r *http.Request) {
@@ -308,7 +312,7 @@ func TestWebhook(t *testing.T) {
 	output, err := alert.NewWebhook(server.URL+"/hook?token=secret", "ctwatch/test")
 	must(t, err)
 	if strings.Contains(output.Name(), "secret") {
-		t.Errorf("the name %q has a secret", output.Name())
+		t.Errorf("the name %q contains a secret", output.Name())
 	}
 	sent, tried, err := output.Send(context.Background(), []alert.Alert{certificateOf("a"), certificateOf("b"),
 		certificateOf("c"), certificateOf("d")})
@@ -318,16 +322,16 @@ func TestWebhook(t *testing.T) {
 	server.Close()
 	if _, _, err := output.Send(context.Background(), []alert.Alert{certificateOf("a")}); err == nil ||
 		strings.Contains(err.Error(), "secret") {
-		t.Errorf("a webhook that is gone: %v", err)
+		t.Errorf("a webhook that does not answer: %v", err)
 	}
 	for _, address := range []string{"", "hook.example", "ftp://hook.example", "https://"} {
 		if _, err := alert.NewWebhook(address, "a"); err == nil {
-			t.Errorf("%q is taken", address)
+			t.Errorf("%q is accepted", address)
 		}
 	}
 }
 
-// queue is a Queue in memory.
+// queue implements alert.Queue in memory, for one output.
 type queue struct {
 	alerts      []alert.Alert
 	done, begun int64
@@ -352,17 +356,17 @@ func (q *queue) Failed(_ string, last int64, fault error) error {
 	return nil
 }
 
-// output is an Output that takes so many alerts and then fails.
+// output is an alert.Output that fails after `capacity` alerts.
 type output struct {
-	takes int
-	got   []alert.Alert
+	capacity int
+	got      []alert.Alert
 }
 
 func (o *output) Name() string { return "test" }
 func (o *output) Batch() int   { return 3 }
 func (o *output) Send(_ context.Context, alerts []alert.Alert) (sent, tried int, err error) {
 	for i, one := range alerts {
-		if len(o.got) == o.takes {
+		if len(o.got) == o.capacity {
 			return i, i + 1, errors.New("it is full")
 		}
 		o.got = append(o.got, one)
@@ -370,17 +374,17 @@ func (o *output) Send(_ context.Context, alerts []alert.Alert) (sent, tried int,
 	return len(alerts), len(alerts), nil
 }
 
-// TestDeliversEachOnce: an output that fails in between gets the rest later. Only the alert that failed says "again".
+// TestDeliversEachOnce: an output that fails gets the other alerts later. Again is set only in the alert that failed.
 func TestDeliversEachOnce(t *testing.T) {
 	q := &queue{}
 	for id := int64(1); id <= 10; id++ {
 		q.alerts = append(q.alerts, alert.Alert{ID: id, Kind: alert.Silent, Log: &alert.Log{}})
 	}
-	o := &output{takes: 4}
+	o := &output{capacity: 4}
 	if err := alert.Deliver(context.Background(), q, o); err == nil || q.done != 4 || q.fault == nil {
 		t.Fatalf("%v: done %d, fault %v", err, q.done, q.fault)
 	}
-	o.takes = 100
+	o.capacity = 100
 	must(t, alert.Deliver(context.Background(), q, o))
 	for i, one := range o.got {
 		if one.ID != int64(i+1) || one.Again != (one.ID == 5) {
@@ -392,24 +396,24 @@ func TestDeliversEachOnce(t *testing.T) {
 	}
 }
 
-// idle is an Output that fails before it tries anything.
-type idle struct{ output }
+// unreachable is an alert.Output that fails before it tries anything.
+type unreachable struct{ output }
 
-func (*idle) Send(context.Context, []alert.Alert) (sent, tried int, err error) {
+func (*unreachable) Send(context.Context, []alert.Alert) (sent, tried int, err error) {
 	return 0, 0, errors.New("it cannot be reached")
 }
 
-// TestOutputThatTriesNothing: if an output says that it tried no alert, the first one counts as tried.
-func TestOutputThatTriesNothing(t *testing.T) {
+// TestFirstAlertAlwaysCountsAsTried: the first alert counts as tried even if the output reports that it tried none.
+func TestFirstAlertAlwaysCountsAsTried(t *testing.T) {
 	q := &queue{alerts: []alert.Alert{{ID: 7, Kind: alert.Silent, Log: &alert.Log{}},
 		{ID: 8, Kind: alert.Silent, Log: &alert.Log{}}}}
-	err := alert.Deliver(context.Background(), q, &idle{})
+	err := alert.Deliver(context.Background(), q, &unreachable{})
 	if err == nil || q.done != 0 || q.begun != 7 || q.fault == nil {
 		t.Errorf("%v: done %d, begun %d, fault %v", err, q.done, q.begun, q.fault)
 	}
 }
 
-// program writes a shell script that a test runs as a program.
+// program writes a shell script that a test runs as a program, and returns its path.
 func program(t *testing.T, folder, name, script string) string {
 	t.Helper()
 	path := filepath.Join(folder, name)

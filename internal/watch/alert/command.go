@@ -18,48 +18,48 @@ import (
 
 // The bounds of a command.
 const (
-	batchOfCommands = 50
-	commandTime     = time.Minute
-	endTime         = 5 * time.Second
-	maxComplaint    = 300
+	commandsPerBatch = 50
+	commandTimeout   = time.Minute
+	waitDelay        = 5 * time.Second
+	maxStderr        = 300 // bytes of the program's standard error that a message shows
 )
 
-// Command runs a program for each alert. The alert is in variables of its environment (CTWATCH_..), and as a line of
-// JSON on its standard input. No shell is run, and no argument comes from a certificate.
+// Command runs a program for each alert. The program gets the alert in variables of its environment (CTWATCH_..), and
+// as a line of JSON on its standard input. No shell is run, and no argument comes from a certificate.
 type Command struct {
-	words []string
-	time  time.Duration
+	arguments []string // the first one is the program
+	timeout   time.Duration
 }
 
-// NewCommand returns an output that runs a program with these arguments. Its first word is the program.
-func NewCommand(words []string) (*Command, error) {
-	if len(words) == 0 {
+// NewCommand returns an output that runs a program. The first argument is the program.
+func NewCommand(arguments []string) (*Command, error) {
+	if len(arguments) == 0 {
 		return nil, errors.New("command is empty (write a program, for example /usr/local/bin/tell)")
 	}
-	path, err := exec.LookPath(words[0])
+	path, err := exec.LookPath(arguments[0])
 	if err != nil {
-		return nil, fmt.Errorf("command %q cannot be run: %w (write the path of a program)", words[0], err)
+		return nil, fmt.Errorf("command %q cannot be run: %w (write the path of a program)", arguments[0], err)
 	}
-	return &Command{append([]string{path}, words[1:]...), commandTime}, nil
+	return &Command{append([]string{path}, arguments[1:]...), commandTimeout}, nil
 }
 
 // Name returns the name of this output, which no other output has.
-func (c *Command) Name() string { return "command " + strings.Join(c.words, " ") }
+func (c *Command) Name() string { return "command " + strings.Join(c.arguments, " ") }
 
-// Batch returns how many alerts are sent before they are marked.
-func (c *Command) Batch() int { return batchOfCommands }
+// Batch returns the maximum number of alerts that are sent before they are marked.
+func (c *Command) Batch() int { return commandsPerBatch }
 
-// atOnce is how many programs run at a time. Most of a program's time is its start, so one after the other would be
-// slow.
-const atOnce = 4
+// maxRunning is the maximum number of programs that run at a time. Most of a program's time is its start, so one
+// program after the other would be slow.
+const maxRunning = 4
 
-// Send runs the program for each alert, a few at a time. Status 0 means that it took the alert. If one fails, no other
-// one is begun, and those after the one that failed do not count as sent.
+// Send runs the program for each alert, a few at a time. Status 0 means that the program has handled the alert. After a
+// failure, Send starts no other program, and the alerts after the one that failed do not count as sent.
 func (c *Command) Send(ctx context.Context, alerts []Alert) (sent, tried int, err error) {
 	faults := make([]error, len(alerts))
 	var running sync.WaitGroup
 	var failed atomic.Bool
-	slots := make(chan struct{}, atOnce)
+	slots := make(chan struct{}, maxRunning)
 	for ; tried < len(alerts) && !failed.Load(); tried++ {
 		slots <- struct{}{}
 		running.Add(1)
@@ -85,26 +85,26 @@ func (c *Command) run(ctx context.Context, alert Alert) error {
 	if err != nil {
 		return err
 	}
-	limited, cancel := context.WithTimeout(ctx, c.time)
+	limited, cancel := context.WithTimeout(ctx, c.timeout)
 	defer cancel()
-	command := exec.CommandContext(limited, c.words[0], c.words[1:]...)
+	command := exec.CommandContext(limited, c.arguments[0], c.arguments[1:]...)
 	command.Stdin = bytes.NewReader(append(input, '\n'))
 	command.Env = append(os.Environ(), Environment(alert)...)
-	// The program and its children end together, so none of them outlives its time.
+	// The program and its children are killed together, so that none of them runs after the timeout.
 	command.SysProcAttr = &syscall.SysProcAttr{Setpgid: true}
 	command.Cancel = func() error { return syscall.Kill(-command.Process.Pid, syscall.SIGKILL) }
-	command.WaitDelay = endTime
-	complaint := &bounded{left: maxComplaint}
-	command.Stderr = complaint
-	// (a program need not read its input: Run returns no error for that)
+	command.WaitDelay = waitDelay
+	stderr := &bounded{left: maxStderr}
+	command.Stderr = stderr
+	// Run returns no error if the program does not read its input.
 	if err := command.Run(); err != nil {
-		return fmt.Errorf("%s: %w: %s (it must end with status 0 within %v)", c.words[0], err,
-			Safe(complaint.text.String()), c.time)
+		return fmt.Errorf("%s: %w: %s (it must end with status 0 within %v)", c.arguments[0], err,
+			Safe(stderr.text.String()), c.timeout)
 	}
 	return nil
 }
 
-// bounded keeps the first bytes of what is written.
+// bounded is a writer that keeps only the first bytes.
 type bounded struct {
 	text bytes.Buffer
 	left int
@@ -117,7 +117,7 @@ func (b *bounded) Write(data []byte) (int, error) {
 	return len(data), nil
 }
 
-// Environment returns the variables of an alert. No value has a NUL or a line end.
+// Environment returns the environment variables for an alert. No value contains a NUL or a line end.
 func Environment(a Alert) []string {
 	found := []string{"CTWATCH_KIND=" + string(a.Kind), "CTWATCH_SUMMARY=" + Line(a), "CTWATCH_ID=" +
 		strconv.FormatInt(a.ID, 10)}
@@ -130,7 +130,7 @@ func Environment(a Alert) []string {
 		return found
 	}
 	c := a.Certificate
-	// (Linux runs no program with a variable of more than 128 KiB)
+	// Linux runs no program with a variable of more than 128 KiB.
 	matches := c.Matches[:min(len(c.Matches), MaxNames)]
 	add("CTWATCH_WATCHED", strings.Join(watched(matches), " "))
 	hostNames := hosts(c)

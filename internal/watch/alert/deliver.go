@@ -7,30 +7,30 @@ import (
 	"time"
 )
 
-// Queue keeps the alerts that each output must still get, in their order.
+// Queue holds the alerts that each output must still get, in their order.
 type Queue interface {
-	// Next returns the next alerts of an output, at most limit. Those that were begun before have Again set.
+	// Next returns the next alerts for an output, at most limit. Again is set in those that Begin named before.
 	Next(output string, limit int) ([]Alert, error)
 	// Begin stores that the alerts up to this one are about to be sent.
 	Begin(output string, last int64) error
 	// Done stores that the alerts up to this one were sent.
 	Done(output string, last int64) error
-	// Failed stores why an output failed, and that the alerts after this one were not tried: they are not sent again.
+	// Failed stores why an output failed, and that the alerts after this one were not tried: they do not get Again.
 	Failed(output string, last int64, fault error) error
 }
 
-// Output is where alerts go.
+// Output is a destination of alerts.
 type Output interface {
-	// Name returns the name of this output, which no other output has, and which is the same after a restart.
+	// Name returns the name of this output. No other output has it, and it is the same after a restart.
 	Name() string
-	// Batch returns how many alerts the output takes at a time.
+	// Batch returns the maximum number of alerts in one call of Send.
 	Batch() int
-	// Send sends alerts, of which there is at least one. It returns how many of them, from the first on, were sent,
-	// and the error of the next one. The alerts up to tried may have arrived, although they do not count as sent.
+	// Send sends alerts, of which there is at least one. The first `sent` of them were sent, and err is the error of the
+	// next one. The first `tried` of them may have arrived, although only those that were sent count.
 	Send(ctx context.Context, alerts []Alert) (sent, tried int, err error)
 }
 
-// Deliver sends all alerts that wait for an output. It returns at the first alert that cannot be sent: it and all
+// Deliver sends all waiting alerts to an output. It returns at the first alert that cannot be sent. This alert and all
 // later ones stay in the queue.
 func Deliver(ctx context.Context, queue Queue, output Output) error {
 	for ctx.Err() == nil {
@@ -51,21 +51,21 @@ func Deliver(ctx context.Context, queue Queue, output Output) error {
 		if err != nil {
 			err = fmt.Errorf("%s: alert %d could not be sent, and stays in the queue: %w", output.Name(),
 				alerts[sent].ID, err)
-			// Only what was tried may say "again" later.
+			// Only the alerts that were tried may have Again set later.
 			return errors.Join(err, queue.Failed(output.Name(), alerts[max(tried, 1)-1].ID, err))
 		}
 	}
 	return ctx.Err()
 }
 
-// The pauses before an output that failed is tried again.
+// The pauses before the next attempt after a failure of an output.
 const (
 	minPause = time.Second
 	maxPause = 5 * time.Minute
 )
 
-// Run delivers to an output until the context ends: at once, each time that wake gets a value, and after a failure
-// again after a pause. It calls report after each delivery, with its error or nil.
+// Run delivers alerts to an output until the context ends: at once, each time that wake gets a value, and after a pause
+// if the last delivery failed. It calls report after each delivery, with its error or nil.
 func Run(ctx context.Context, queue Queue, output Output, wake <-chan struct{}, report func(error)) {
 	pause := minPause
 	for {

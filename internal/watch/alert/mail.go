@@ -17,11 +17,11 @@ import (
 
 // The bounds of a mail.
 const (
-	alertsOfMail = 50
-	mailTime     = 2 * time.Minute
+	alertsPerMail = 50
+	mailTimeout   = 2 * time.Minute
 )
 
-// Mail sends alerts as plain text: several in one mail if several wait.
+// Mail sends alerts as plain text. One mail has all alerts of a batch.
 type Mail struct {
 	from  string
 	to    []string
@@ -29,14 +29,14 @@ type Mail struct {
 	now   func() time.Time
 }
 
-// Carrier says how mail leaves this machine.
+// Carrier describes how mail leaves this machine.
 type Carrier struct {
 	// Place is the path of a program with the interface of sendmail, smtp://HOST:PORT or smtps://HOST:PORT.
 	Place string
-	// User and PasswordFile are those of the mail server. Both are empty if it wants no authentication.
+	// User and PasswordFile are for the mail server. Both are empty if it requires no authentication.
 	User, PasswordFile string
-	// RootsFile has the certificates of CAs, in PEM, that may have issued the mail server's certificate. If it is
-	// empty, those of the system are used.
+	// RootsFile contains the certificates of the CAs, in PEM, that may issue the mail server's certificate. If RootsFile
+	// is empty, the CAs of the system may.
 	RootsFile string
 }
 
@@ -72,8 +72,8 @@ func NewMail(from string, to []string, carrier Carrier) (*Mail, error) {
 // Name returns the name of this output, which no other output has.
 func (m *Mail) Name() string { return "mail " + strings.Join(m.to, " ") }
 
-// Batch returns how many alerts are in one mail.
-func (m *Mail) Batch() int { return alertsOfMail }
+// Batch returns the maximum number of alerts in one mail.
+func (m *Mail) Batch() int { return alertsPerMail }
 
 // Send sends the alerts in one mail.
 func (m *Mail) Send(ctx context.Context, alerts []Alert) (sent, tried int, err error) {
@@ -81,7 +81,7 @@ func (m *Mail) Send(ctx context.Context, alerts []Alert) (sent, tried int, err e
 	if err != nil {
 		return 0, 0, err
 	}
-	limited, cancel := context.WithTimeout(ctx, mailTime)
+	limited, cancel := context.WithTimeout(ctx, mailTimeout)
 	defer cancel()
 	if err := m.carry(limited, m.from, m.to, message); err != nil {
 		return 0, len(alerts), err
@@ -89,8 +89,8 @@ func (m *Mail) Send(ctx context.Context, alerts []Alert) (sent, tried int, err e
 	return len(alerts), len(alerts), nil
 }
 
-// message returns a mail (RFC 5322) whose text is quoted-printable: no byte of a certificate can end a line or a
-// header.
+// message returns a mail (RFC 5322) whose text is quoted-printable, so that no byte of a certificate can end a line or
+// a header.
 func (m *Mail) message(alerts []Alert) ([]byte, error) {
 	var text bytes.Buffer
 	random := make([]byte, 16)
@@ -124,17 +124,17 @@ func (m *Mail) message(alerts []Alert) ([]byte, error) {
 	return text.Bytes(), nil
 }
 
-// bySendmail hands a mail to a program with the interface of sendmail.
+// bySendmail returns a function that hands a mail to a program with the interface of sendmail.
 func bySendmail(path string) func(context.Context, string, []string, []byte) error {
 	return func(ctx context.Context, from string, to []string, message []byte) error {
 		// A line with only a dot does not end the mail (-oi), and no address is taken for an option (--).
 		command := exec.CommandContext(ctx, path, append([]string{"-oi", "-f", from, "--"}, to...)...)
-		// Programs with the interface of sendmail want the line ends of the system.
+		// Programs with the interface of sendmail expect the line ends of the system.
 		command.Stdin = bytes.NewReader(bytes.ReplaceAll(message, []byte("\r\n"), []byte("\n")))
-		complaint := &bounded{left: maxComplaint}
-		command.Stderr, command.WaitDelay = complaint, endTime
+		stderr := &bounded{left: maxStderr}
+		command.Stderr, command.WaitDelay = stderr, waitDelay
 		if err := command.Run(); err != nil {
-			return fmt.Errorf("%s: %w: %s", path, err, Safe(complaint.text.String()))
+			return fmt.Errorf("%s: %w: %s", path, err, Safe(stderr.text.String()))
 		}
 		return nil
 	}

@@ -14,19 +14,19 @@ import (
 	"strings"
 )
 
-// maxSecretFile is the largest number of bytes of the file of a password, and of a file of CAs.
+// maxSecretFile is the maximum number of bytes that are read of a password file and of a file of CAs.
 const maxSecretFile = 1 << 20
 
-// server is a mail server (RFC 5321).
+// server describes a mail server (RFC 5321).
 type server struct {
 	address, host string
-	isTLS         bool // from the first byte on (RFC 8314, section 3.3)
+	isTLS         bool // the connection uses TLS from the first byte on (RFC 8314, section 3.3)
 	user          string
 	password      string
-	roots         *x509.CertPool // nil for those of the system
+	roots         *x509.CertPool // nil for the CAs of the system
 }
 
-// newServer returns the mail server of a carrier. found is false if the carrier is a program.
+// newServer returns the mail server that a carrier names. found is false if the carrier is a program.
 func newServer(carrier Carrier) (s *server, found bool, err error) {
 	address, isPlain := strings.CutPrefix(carrier.Place, "smtp://")
 	address, isTLS := strings.CutPrefix(address, "smtps://")
@@ -130,7 +130,7 @@ func (s *server) carry(ctx context.Context, from string, to []string, message []
 
 func (s *server) tls() *tls.Config { return &tls.Config{ServerName: s.host, RootCAs: s.roots} }
 
-// greet turns on TLS if the server offers it, and logs in if there is a user. A password is only sent by TLS.
+// greet starts TLS if the server offers it, and logs in if there is a user. The password is sent only over TLS.
 func (s *server) greet(client *smtp.Client) error {
 	if offered, _ := client.Extension("STARTTLS"); offered && !s.isTLS {
 		if err := client.StartTLS(s.tls()); err != nil {
@@ -144,7 +144,8 @@ func (s *server) greet(client *smtp.Client) error {
 		return fmt.Errorf("%s offers no TLS, so the password was not sent (write smtps://HOST:465, or the port of a "+
 			"server with STARTTLS)", s.address)
 	}
-	if offered, ways := client.Extension("AUTH"); !offered || !slices.Contains(strings.Fields(ways), "PLAIN") {
+	if offered, mechanisms := client.Extension("AUTH"); !offered ||
+		!slices.Contains(strings.Fields(mechanisms), "PLAIN") {
 		return fmt.Errorf("%s offers no AUTH PLAIN, and ctwatch knows no other way to log in (leave the user out, or "+
 			"use a program with the interface of sendmail)", s.address)
 	}
@@ -171,7 +172,7 @@ func send(client *smtp.Client, from string, to []string, message []byte) error {
 	if _, err := body.Write(message); err != nil {
 		return err
 	}
-	// The server takes the mail when it answers to its end, so a failure of QUIT must not have it sent again.
+	// The server has accepted the mail after it has answered to its end. So the mail must not be sent again if QUIT fails.
 	if err := body.Close(); err != nil {
 		return err
 	}

@@ -11,7 +11,8 @@ import (
 	"wagtenib/internal/watch/alert"
 )
 
-// mailServer takes one mail by SMTP (RFC 5321), and returns the lines that it got.
+// mailServer serves one client by SMTP (RFC 5321), and sends its lines to a channel. It refuses a line that begins with
+// `refuses`, unless that is empty.
 func mailServer(t *testing.T, refuses string) (address string, got <-chan []string) {
 	t.Helper()
 	listener, err := net.Listen("tcp", "127.0.0.1:0")
@@ -29,7 +30,7 @@ func mailServer(t *testing.T, refuses string) (address string, got <-chan []stri
 	return listener.Addr().String(), lines
 }
 
-// talk answers as a mail server, and returns the lines of its client.
+// talk answers a client as a mail server does, and returns the client's lines.
 func talk(connection net.Conn, refuses string) []string {
 	var got []string
 	fmt.Fprint(connection, "220 mail.example\r\n")
@@ -61,8 +62,9 @@ func talk(connection net.Conn, refuses string) []string {
 	}
 }
 
-// TestMailBySMTP: a mail server gets the mail for both addresses, and a certificate's line with a dot does not end it.
-func TestMailBySMTP(t *testing.T) {
+// TestSendsMailBySMTP: a mail server gets the mail for both addresses. A line with a dot in a certificate does not end
+// the mail.
+func TestSendsMailBySMTP(t *testing.T) {
 	address, got := mailServer(t, "")
 	output, err := alert.NewMail("owner@example.org", []string{"owner@example.org", "other@example.org"},
 		alert.Carrier{Place: "smtp://" + address})
@@ -83,8 +85,9 @@ func TestMailBySMTP(t *testing.T) {
 	}
 }
 
-// TestMailThatIsRefused: if the server refuses the sender, an address, or the mail at its end, nothing is sent.
-func TestMailThatIsRefused(t *testing.T) {
+// TestReportsRefusedMail: if the server refuses the sender, an address, or the mail at its end, no alert counts as
+// sent.
+func TestReportsRefusedMail(t *testing.T) {
 	for _, refuses := range []string{"MAIL", "RCPT", "DATA", "."} {
 		address, _ := mailServer(t, refuses)
 		output, err := alert.NewMail("owner@example.org", []string{"owner@example.org"},

@@ -19,12 +19,12 @@ import (
 
 // secureServer is a mail server with TLS (RFC 3207, RFC 8314) and authentication (RFC 4954).
 type secureServer struct {
-	offers   []string // what its answer to EHLO has, before TLS
-	offersIn []string // and in TLS
-	isTLS    bool     // from the first byte on
-	password string   // the argument of AUTH PLAIN that is right
-	config   *tls.Config
-	got      chan []string // the lines of the client, with "TLS" in front of those in TLS
+	offers    []string // the extensions in its answer to EHLO without TLS
+	tlsOffers []string // the extensions in its answer to EHLO over TLS
+	isTLS     bool     // the connection uses TLS from the first byte on
+	password  string   // the correct argument of AUTH PLAIN
+	config    *tls.Config
+	got       chan []string // the lines of the client; those over TLS begin with "TLS "
 }
 
 // serve answers one client, and returns the server's address.
@@ -52,7 +52,7 @@ func (s *secureServer) serve(t *testing.T) string {
 func (s *secureServer) talk(connection net.Conn) (got []string) {
 	offers, mark := s.offers, ""
 	if s.isTLS {
-		offers, mark = s.offersIn, "TLS "
+		offers, mark = s.tlsOffers, "TLS "
 	}
 	fmt.Fprint(connection, "220 mail.example\r\n")
 	reader, inData := bufio.NewReader(connection), false
@@ -75,7 +75,7 @@ func (s *secureServer) talk(connection net.Conn) (got []string) {
 		case word == "STARTTLS":
 			fmt.Fprint(connection, "220 go on\r\n")
 			connection = tls.Server(connection, s.config)
-			reader, offers, mark = bufio.NewReader(connection), s.offersIn, "TLS "
+			reader, offers, mark = bufio.NewReader(connection), s.tlsOffers, "TLS "
 			continue
 		case word == "AUTH" && rest != "PLAIN "+s.password:
 			fmt.Fprint(connection, "535 no\r\n")
@@ -101,50 +101,51 @@ func secret(t *testing.T, content string) string {
 	return path
 }
 
-// TestMailBySecureSMTP: the password goes to a mail server by TLS, and to no other server. The argument of AUTH was
-// made by `printf '\0user\0secret' | base64` (RFC 4616).
-func TestMailBySecureSMTP(t *testing.T) {
+// TestSendsMailBySecureSMTP: the password is sent only over TLS, and only to a server with a trusted certificate. The
+// argument of AUTH was made by `printf '\0user\0secret' | base64` (RFC 4616).
+func TestSendsMailBySecureSMTP(t *testing.T) {
 	const argument = "AHVzZXIAc2VjcmV0"
-	tlsServer := httptest.NewTLSServer(nil) // (its certificate is for 127.0.0.1)
+	tlsServer := httptest.NewTLSServer(nil) // Its certificate is for 127.0.0.1.
 	defer tlsServer.Close()
 	roots := filepath.Join(t.TempDir(), "roots")
 	must(t, os.WriteFile(roots, pem.EncodeToMemory(&pem.Block{Type: "CERTIFICATE", Bytes: tlsServer.Certificate().Raw}),
 		0o600))
 	plain, starts := []string{"AUTH LOGIN PLAIN"}, []string{"STARTTLS"}
-	for what, of := range map[string]struct {
-		offers, offersIn []string
-		isTLS            bool
-		password, roots  string
-		due              string // a part of the error; empty if the mail is sent
+	for what, test := range map[string]struct {
+		offers, tlsOffers []string
+		isTLS             bool
+		password, roots   string
+		expected          string // a part of the error; empty if the mail is sent
 	}{
-		"STARTTLS":           {offers: starts, offersIn: plain, password: "secret\n", roots: roots},
-		"TLS from the start": {offersIn: plain, isTLS: true, password: "secret", roots: roots},
-		"no TLS":             {offers: plain, password: "secret", roots: roots, due: "offers no TLS"},
-		"no AUTH":            {offers: starts, password: "secret", roots: roots, due: "offers no AUTH PLAIN"},
-		"only LOGIN": {offers: starts, offersIn: []string{"AUTH LOGIN"}, password: "secret", roots: roots,
-			due: "offers no AUTH PLAIN"},
-		"another password":      {offers: starts, offersIn: plain, password: "guess", roots: roots, due: "refuses the user"},
-		"an unknown CA":         {offers: starts, offersIn: plain, password: "secret", due: "certificate"},
-		"an unknown CA, in TLS": {offersIn: plain, isTLS: true, password: "secret", due: "certificate"},
+		"STARTTLS":           {offers: starts, tlsOffers: plain, password: "secret\n", roots: roots},
+		"TLS from the start": {tlsOffers: plain, isTLS: true, password: "secret", roots: roots},
+		"no TLS":             {offers: plain, password: "secret", roots: roots, expected: "offers no TLS"},
+		"no AUTH":            {offers: starts, password: "secret", roots: roots, expected: "offers no AUTH PLAIN"},
+		"only LOGIN": {offers: starts, tlsOffers: []string{"AUTH LOGIN"}, password: "secret", roots: roots,
+			expected: "offers no AUTH PLAIN"},
+		"another password": {offers: starts, tlsOffers: plain, password: "guess", roots: roots,
+			expected: "refuses the user"},
+		"an unknown CA":         {offers: starts, tlsOffers: plain, password: "secret", expected: "certificate"},
+		"an unknown CA, in TLS": {tlsOffers: plain, isTLS: true, password: "secret", expected: "certificate"},
 	} {
 		t.Run(what, func(t *testing.T) {
-			server := &secureServer{offers: of.offers, offersIn: of.offersIn, isTLS: of.isTLS, password: argument,
+			server := &secureServer{offers: test.offers, tlsOffers: test.tlsOffers, isTLS: test.isTLS, password: argument,
 				config: &tls.Config{Certificates: tlsServer.TLS.Certificates}}
 			place := "smtp://" + server.serve(t)
-			if of.isTLS {
+			if test.isTLS {
 				place = strings.Replace(place, "smtp:", "smtps:", 1)
 			}
 			output, err := alert.NewMail("owner@example.org", []string{"owner@example.org"}, alert.Carrier{Place: place,
-				User: "user", PasswordFile: secret(t, of.password), RootsFile: of.roots})
+				User: "user", PasswordFile: secret(t, test.password), RootsFile: test.roots})
 			must(t, err)
 			sent, _, err := output.Send(context.Background(), []alert.Alert{certificateOf("shop.example.org")})
-			if (err == nil) != (of.due == "") || (sent == 1) != (err == nil) ||
-				err != nil && !strings.Contains(err.Error(), of.due) {
+			if (err == nil) != (test.expected == "") || (sent == 1) != (err == nil) ||
+				err != nil && !strings.Contains(err.Error(), test.expected) {
 				t.Fatalf("%d sent: %v", sent, err)
 			}
 			lines := <-server.got
 			isSent := slices.Contains(lines, "TLS MAIL FROM:<owner@example.org>") && slices.Contains(lines, "TLS .")
-			if isSent != (of.due == "") || isSent && !slices.Contains(lines, "TLS AUTH PLAIN "+argument) {
+			if isSent != (test.expected == "") || isSent && !slices.Contains(lines, "TLS AUTH PLAIN "+argument) {
 				t.Errorf("the server got %q", lines)
 			}
 			for _, line := range lines {
@@ -157,12 +158,12 @@ func TestMailBySecureSMTP(t *testing.T) {
 	}
 }
 
-// TestRefusesMailServers: settings of a mail server that do not fit, or a password that others may read, are refused
-// with the remedy.
+// TestRefusesMailServers: NewMail refuses contradictory settings of a mail server, and a password that others may read.
+// The error names the remedy.
 func TestRefusesMailServers(t *testing.T) {
 	open := secret(t, "secret")
 	must(t, os.Chmod(open, 0o640))
-	for due, carrier := range map[string]alert.Carrier{
+	for expected, carrier := range map[string]alert.Carrier{
 		"chmod 600":          {Place: "smtp://mail.example:587", User: "user", PasswordFile: open},
 		"no such file":       {Place: "smtp://mail.example:587", User: "user", PasswordFile: open + "2"},
 		"that only its":      {Place: "smtps://mail.example:465", User: "user", PasswordFile: t.TempDir()},
@@ -176,8 +177,8 @@ func TestRefusesMailServers(t *testing.T) {
 		"no host or no port": {Place: "smtp://:25"},
 	} {
 		_, err := alert.NewMail("owner@example.org", []string{"owner@example.org"}, carrier)
-		if err == nil || !strings.Contains(err.Error(), due) {
-			t.Errorf("%+v: %v, and %q is due", carrier, err, due)
+		if err == nil || !strings.Contains(err.Error(), expected) {
+			t.Errorf("%+v: %v, and %q is expected in it", carrier, err, expected)
 		}
 	}
 }

@@ -7,7 +7,7 @@ import (
 	"time"
 )
 
-// maxLineNames is the number of names in a line of the terminal.
+// maxLineNames is the maximum number of host names in a line of the terminal.
 const maxLineNames = 5
 
 // Line returns an alert as one line, without a line end.
@@ -37,8 +37,8 @@ func watched(matches []Match) []string {
 	return names
 }
 
-// first returns the first names of a list, at most MaxNames, and the number of the others. A certificate of a dishonest
-// log can have every watched name.
+// first returns the first names of a list, at most MaxNames, and the number of the others. A dishonest log can have a
+// certificate with every watched name.
 func first(names []string) string {
 	shown := names[:min(len(names), MaxNames)]
 	text := strings.Join(shown, ", ")
@@ -48,7 +48,7 @@ func first(names []string) string {
 	return text
 }
 
-// hosts returns the host names to show first: those that match, or if there are none, those of the certificate.
+// hosts returns the host names to show: those that match or, if none does, those of the certificate.
 func hosts(c *Certificate) []string {
 	var found []string
 	seen := map[string]bool{}
@@ -76,8 +76,8 @@ func Describe(c *Certificate) string {
 	parts := []string{fmt.Sprintf("%s (%s)", shown, Count(int64(c.NameCount), "name"))}
 	parts = append(parts, "issued by "+orUnread(c.Fields.Issuer), "valid "+validity(c.Fields))
 	parts = append(parts, "serial number "+orUnread(c.Fields.SerialNumber))
-	if places := placesThatAreNotProved(c); places != "" {
-		parts = append(parts, places)
+	if matches := unprovedMatches(c); matches != "" {
+		parts = append(parts, matches)
 	}
 	for _, sighting := range c.Sightings[:min(len(c.Sightings), 1)] {
 		parts = append(parts, fmt.Sprintf("%s %d of %s", sighting.Type, sighting.Index, sighting.Log))
@@ -93,8 +93,8 @@ func Count(number int64, noun string) string {
 	return fmt.Sprintf("%d %ss", number, noun)
 }
 
-// placesThatAreNotProved says of which watched names the library did not decide.
-func placesThatAreNotProved(c *Certificate) string {
+// unprovedMatches returns a text with the watched names whose matches the proved library did not decide.
+func unprovedMatches(c *Certificate) string {
 	var names []string
 	for _, match := range c.Matches {
 		if !match.Proved {

@@ -12,14 +12,14 @@ import (
 	"time"
 )
 
-// The bounds of a request of a webhook.
+// The bounds of requests to a webhook.
 const (
-	batchOfRequests = 50
-	webhookTime     = 30 * time.Second
-	maxAnswer       = 64 << 10
+	requestsPerBatch = 50
+	webhookTimeout   = 30 * time.Second
+	maxAnswer        = 64 << 10 // bytes
 )
 
-// Webhook posts each alert to a URL, as JSON. A status of 200 to 299 means that it was taken.
+// Webhook posts each alert to a URL, as JSON. A status of 200 to 299 means that the alert was accepted.
 type Webhook struct {
 	url    string
 	client *http.Client
@@ -33,14 +33,14 @@ func NewWebhook(address, agent string) (*Webhook, error) {
 	if err != nil || parsed.Host == "" || parsed.Scheme != "http" && parsed.Scheme != "https" {
 		return nil, fmt.Errorf("webhook %q is no URL (write https://HOST/PATH)", address)
 	}
-	client := &http.Client{Timeout: webhookTime, CheckRedirect: func(*http.Request,
+	client := &http.Client{Timeout: webhookTimeout, CheckRedirect: func(*http.Request,
 		[]*http.Request) error {
 		return http.ErrUseLastResponse
 	}}
 	return &Webhook{address, client, agent}, nil
 }
 
-// Name returns the name of this output, which no other output has. It has no password of the URL.
+// Name returns the name of this output, which no other output has. It does not contain the URL's password and query.
 func (w *Webhook) Name() string {
 	parsed, err := url.Parse(w.url)
 	if err != nil {
@@ -50,8 +50,8 @@ func (w *Webhook) Name() string {
 	return "webhook " + parsed.Redacted()
 }
 
-// Batch returns how many alerts are posted before they are marked.
-func (w *Webhook) Batch() int { return batchOfRequests }
+// Batch returns the maximum number of alerts that are posted before they are marked.
+func (w *Webhook) Batch() int { return requestsPerBatch }
 
 // Send posts the alerts, one after the other.
 func (w *Webhook) Send(ctx context.Context, alerts []Alert) (sent, tried int, err error) {
@@ -76,15 +76,15 @@ func (w *Webhook) post(ctx context.Context, alert Alert) error {
 	request.Header.Set("User-Agent", w.agent)
 	response, err := w.client.Do(request)
 	if err != nil {
-		// The text of a url.Error has the whole URL, which may have a password.
-		var of *url.Error
-		if errors.As(err, &of) {
-			err = of.Err
+		// The text of a url.Error contains the whole URL, which may contain a password.
+		var fault *url.Error
+		if errors.As(err, &fault) {
+			err = fault.Err
 		}
 		return err
 	}
 	defer response.Body.Close()
-	// The connection can be used again only if the answer was read. If reading fails, the status counts all the same.
+	// The connection can be used again only if the answer was read. If reading fails, the status still counts.
 	_, _ = io.Copy(io.Discard, io.LimitReader(response.Body, maxAnswer))
 	if response.StatusCode < 200 || response.StatusCode > 299 {
 		return fmt.Errorf("the webhook answered %s (it must answer 200 to 299)", response.Status)

@@ -9,28 +9,28 @@ import (
 	"os"
 )
 
-// batchOfLines is how many alerts are written at a time.
-const batchOfLines = 500
+// linesPerBatch is the maximum number of alerts that are written at a time.
+const linesPerBatch = 500
 
 // Lines writes a line for each alert.
 type Lines struct {
 	name   string
-	to     io.Writer
+	writer io.Writer
 	format func(Alert) ([]byte, error)
 }
 
 // NewTerminal returns an output that writes each alert as a line for people.
-func NewTerminal(to io.Writer) *Lines {
-	return &Lines{"terminal", to, func(a Alert) ([]byte, error) { return []byte(Line(a)), nil }}
+func NewTerminal(writer io.Writer) *Lines {
+	return &Lines{"terminal", writer, func(a Alert) ([]byte, error) { return []byte(Line(a)), nil }}
 }
 
 // NewJSON returns an output of this name that writes each alert as a line of JSON.
-func NewJSON(name string, to io.Writer) *Lines {
-	return &Lines{name, to, func(a Alert) ([]byte, error) { return json.Marshal(a) }}
+func NewJSON(name string, writer io.Writer) *Lines {
+	return &Lines{name, writer, func(a Alert) ([]byte, error) { return json.Marshal(a) }}
 }
 
 // OpenJSON returns an output that appends each alert as a line of JSON to a file, and the file, which the caller must
-// close. A line that a kill cut off ends there: the next one does not continue it.
+// close. If a kill has cut off the last line, OpenJSON ends that line, so that the next alert has its own line.
 func OpenJSON(path string) (*Lines, *os.File, error) {
 	file, err := os.OpenFile(path, os.O_APPEND|os.O_CREATE|os.O_RDWR, 0o640)
 	if err != nil {
@@ -42,7 +42,7 @@ func OpenJSON(path string) (*Lines, *os.File, error) {
 	return NewJSON("json "+path, file), file, nil
 }
 
-// endLine writes a line end to a regular file whose last byte is none.
+// endLine appends a line end to a regular file that does not end with one.
 func endLine(file *os.File) error {
 	info, err := file.Stat()
 	if err != nil || !info.Mode().IsRegular() || info.Size() == 0 {
@@ -59,8 +59,8 @@ func endLine(file *os.File) error {
 // Name returns the name of this output, which no other output has.
 func (l *Lines) Name() string { return l.name }
 
-// Batch returns how many alerts are written at a time.
-func (l *Lines) Batch() int { return batchOfLines }
+// Batch returns the maximum number of alerts that are written at a time.
+func (l *Lines) Batch() int { return linesPerBatch }
 
 // Send writes a line for each alert, and syncs them if they go to a file.
 func (l *Lines) Send(_ context.Context, alerts []Alert) (sent, tried int, err error) {
@@ -72,10 +72,10 @@ func (l *Lines) Send(_ context.Context, alerts []Alert) (sent, tried int, err er
 		}
 		text.Write(append(line, '\n'))
 	}
-	if _, err := l.to.Write(text.Bytes()); err != nil {
+	if _, err := l.writer.Write(text.Bytes()); err != nil {
 		return 0, len(alerts), err
 	}
-	if file, ok := l.to.(*os.File); ok {
+	if file, ok := l.writer.(*os.File); ok {
 		if info, err := file.Stat(); err == nil && info.Mode().IsRegular() {
 			if err := file.Sync(); err != nil {
 				return 0, len(alerts), err

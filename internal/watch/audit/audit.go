@@ -17,15 +17,15 @@ import (
 	"wagtenib/internal/watch"
 )
 
-// Outcome is what an audit of a timestamp comes to, from the best to the gravest.
+// Outcome is the outcome of the audit of a timestamp, from the best to the gravest.
 type Outcome int
 
 // The outcomes.
 const (
-	Included   Outcome = iota // the log has the very leaf that it promised
-	NotYet                    // the log does not have it, and may take longer
-	UnknownLog                // no log that was given has this key
-	NoAnswer                  // the log does not answer, or not with what it was asked for
+	Included   Outcome = iota // the log has the leaf that it promised
+	NotYet                    // the log does not have the leaf, but may still add it
+	UnknownLog                // none of the given logs has this key
+	NoAnswer                  // the log gives no answer, or a wrong one
 	Unreadable                // the certificate or the timestamp cannot be read
 	Never                     // the log broke its promise, or did not sign it
 )
@@ -35,14 +35,14 @@ func (o Outcome) String() string {
 	return [...]string{"included", "not yet", "unknown log", "no answer", "unreadable", "never"}[o]
 }
 
-// Result is the outcome of one timestamp.
+// Result holds the outcome of the audit of one timestamp.
 type Result struct {
 	SCT      SCT
 	Log      watch.Log // zero for UnknownLog
 	Outcome  Outcome
-	Index    uint64 // of the leaf, for Included
-	TreeSize uint64 // leaves of the head that the log answered with
-	Text     string // what was found, in a sentence
+	Index    uint64 // the index of the leaf, for Included
+	TreeSize uint64 // the number of leaves of the log's newest head
+	Text     string // what was found, in one sentence
 	Evidence *watch.Evidence
 }
 
@@ -64,9 +64,9 @@ func New(logs []watch.Log, options logclient.Options) *Auditor {
 	return a
 }
 
-// Certificate audits the timestamps in a certificate, in DER, against their logs, all at once. The issuer is the
-// certificate of its issuer. The library makes the leaf that each timestamp promises, and decides whether the log's
-// path leads from it to the root that the log signed. The error is one of CertificateSCTs.
+// Certificate audits the timestamps in a certificate against their logs, all at once. The certificate and the one of
+// its issuer are in DER. The library makes the leaf that each timestamp promises, and decides whether the log's path
+// leads from it to the root that the log signed. The error is one of CertificateSCTs.
 func (a *Auditor) Certificate(ctx context.Context, certificate, issuer []byte) ([]Result, error) {
 	scts, err := CertificateSCTs(certificate)
 	if err != nil {
@@ -78,9 +78,9 @@ func (a *Auditor) Certificate(ctx context.Context, certificate, issuer []byte) (
 	}), nil
 }
 
-// SCTs audits timestamps that one holds for a certificate that was submitted, in DER, against their logs, all at once.
-// A certificate with the poison extension is a precertificate, whose final issuer must be given. Otherwise the
-// certificate itself is the entry, and the issuer is not looked at. The error wraps ErrCertificate.
+// SCTs audits timestamps that a log returned for a submitted certificate, all at once. The certificate is in DER. If it
+// has the poison extension, it is a precertificate, and the certificate of its final issuer must be given. Otherwise
+// the certificate itself is the entry, and the issuer is ignored. The error wraps ErrCertificate.
 func (a *Auditor) SCTs(ctx context.Context, scts []SCT, certificate, issuer []byte) ([]Result, error) {
 	_, tbs, isPrecertificate, err := extension(certificate, poison)
 	if err != nil {
@@ -101,9 +101,9 @@ func (a *Auditor) SCTs(ctx context.Context, scts []SCT, certificate, issuer []by
 	return a.each(ctx, scts, func(sct SCT) ([]byte, error) { return Leaf(sct, header, content) }), nil
 }
 
-// Leaf returns the MerkleTreeLeaf of an entry (RFC 6962, section 3.4), which is also what its timestamp signs. The
-// header has the entry's type, and the hash of its issuer's key if it is of a precertificate. The error says which of
-// the parts is too long.
+// Leaf returns the MerkleTreeLeaf of an entry (RFC 6962, section 3.4), which is also the text that its SCT signs. The
+// header is the entry's type and, for a precertificate, the hash of its issuer's key. It returns an error if a part is
+// too long.
 func Leaf(sct SCT, header, content []byte) ([]byte, error) {
 	leaf := cryptobyte.NewBuilder([]byte{0, 0})
 	leaf.AddUint64(sct.Timestamp)
@@ -113,7 +113,7 @@ func Leaf(sct SCT, header, content []byte) ([]byte, error) {
 	return leaf.Bytes()
 }
 
-// each audits timestamps at once, so that a log that is slow does not delay another one.
+// each audits timestamps at the same time, so that a slow log does not delay the others.
 func (a *Auditor) each(ctx context.Context, scts []SCT, leafOf func(SCT) ([]byte, error)) []Result {
 	results := make([]Result, len(scts))
 	var running sync.WaitGroup
@@ -128,34 +128,34 @@ func (a *Auditor) each(ctx context.Context, scts []SCT, leafOf func(SCT) ([]byte
 	return results
 }
 
-// one audits a timestamp.
+// one audits one timestamp.
 func (a *Auditor) one(ctx context.Context, sct SCT, leafOf func(SCT) ([]byte, error)) Result {
 	result := Result{SCT: sct}
-	says := func(outcome Outcome, form string, words ...any) Result {
-		result.Outcome, result.Text = outcome, fmt.Sprintf(form, words...)
+	finish := func(outcome Outcome, format string, values ...any) Result {
+		result.Outcome, result.Text = outcome, fmt.Sprintf(format, values...)
 		return result
 	}
 	var ok bool
 	if result.Log, ok = a.logs[sct.LogID]; !ok {
-		return says(UnknownLog, "no log that was given has the ID %x", sct.LogID)
+		return finish(UnknownLog, "no log that was given has the ID %x", sct.LogID)
 	}
 	leaf, err := leafOf(sct)
 	if err != nil {
-		return says(Unreadable, "%v", err)
+		return finish(Unreadable, "%v", err)
 	}
 	if err := signature.Verify(result.Log.PublicKey, leaf, sct.Signature); err != nil {
-		return says(Never, "the log's key did not sign the timestamp over this certificate: %v", err)
+		return finish(Never, "the log's key did not sign the timestamp over this certificate: %v", err)
 	}
 	reader, err := watch.NewReader(result.Log, a.options)
 	if err != nil {
-		return says(NoAnswer, "%v", err)
+		return finish(NoAnswer, "%v", err)
 	}
 	head, err := reader.Head(ctx)
 	if errors.Is(err, signature.ErrSigner) {
-		return says(Never, "the log's key did not sign the head: %v", err)
+		return finish(Never, "the log's key did not sign the head: %v", err)
 	}
 	if err != nil {
-		return says(NoAnswer, "%v", err)
+		return finish(NoAnswer, "%v", err)
 	}
 	result.TreeSize = head.TreeSize
 	found := promise{reader, sct, leaf, head}
@@ -164,14 +164,14 @@ func (a *Auditor) one(ctx context.Context, sct SCT, leafOf func(SCT) ([]byte, er
 	if files != nil {
 		evidence, err := watch.NewEvidence(result.Log, a.options.Clock.Now(), watch.VerdictPromise, text, files)
 		if err != nil {
-			return says(NoAnswer, "%v", err)
+			return finish(NoAnswer, "%v", err)
 		}
 		result.Evidence = &evidence
 	}
-	return says(outcome, "%s", text)
+	return finish(outcome, "%s", text)
 }
 
-// promise is what a log promised by a timestamp that it signed, and the head that it answers with.
+// promise holds a timestamp that a log signed, the leaf that it promises, and the log's newest head.
 type promise struct {
 	reader *watch.Reader
 	sct    SCT
@@ -179,14 +179,15 @@ type promise struct {
 	head   watch.Head
 }
 
-// judge says whether the log keeps its promise. The files are those of evidence if it does not.
+// judge decides whether the log keeps its promise. If it does not, and this can be shown to others, it returns the
+// files of evidence.
 func (p promise) judge(ctx context.Context) (outcome Outcome, index uint64, text string, files map[string][]byte) {
 	named, isNamed := p.sct.Index()
 	if p.reader.Log.IsTiled() && !isNamed {
 		return Never, 0, "the timestamp of a tiled log names no index (leaf_index)", nil
 	}
 	hash := wagtenib.LeafHash(p.leaf)
-	index, path, err := p.reader.Place(ctx, p.head, hash, named)
+	index, path, err := p.reader.FindLeaf(ctx, p.head, hash, named)
 	switch {
 	case errors.Is(err, watch.ErrAbsent):
 		delay := uint64(p.reader.Log.MaxMergeDelay.Milliseconds())
@@ -208,8 +209,8 @@ func (p promise) judge(ctx context.Context) (outcome Outcome, index uint64, text
 	return Included, index, fmt.Sprintf("the leaf is at %d of %d", index, p.head.TreeSize), nil
 }
 
-// judgeOther judges a leaf to which the log's path does not lead. Of a tiled log it shows that another leaf is at the
-// index.
+// judgeOther judges a promise after the log's path did not lead from the leaf to the root. For a tiled log, its files
+// show that another leaf is at the index.
 func (p promise) judgeOther(ctx context.Context, index uint64, why error) (Outcome, uint64, string, map[string][]byte) {
 	text := fmt.Sprintf("the log's path does not lead from the leaf at %d to the root of %d: %v", index, p.head.TreeSize,
 		why)
@@ -220,7 +221,7 @@ func (p promise) judgeOther(ctx context.Context, index uint64, why error) (Outco
 	if err != nil {
 		return NoAnswer, index, err.Error(), nil
 	}
-	_, path, err := p.reader.Place(ctx, p.head, other, index)
+	_, path, err := p.reader.FindLeaf(ctx, p.head, other, index)
 	if err != nil {
 		return NoAnswer, index, err.Error(), nil
 	}

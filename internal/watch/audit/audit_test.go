@@ -30,13 +30,13 @@ import (
 	"wagtenib/internal/watch/audit"
 )
 
-// begun is the timestamp of the promises, in milliseconds since 1970; day is the maximum merge delay of the logs.
+// epoch is the timestamp of the promises, in milliseconds since 1970. day is the maximum merge delay of the logs.
 const (
-	begun = 1_800_000_000_000
+	epoch = 1_800_000_000_000
 	day   = 86_400_000
 )
 
-// authority issues certificates by crypto/x509.
+// authority is a CA that issues certificates with crypto/x509.
 type authority struct {
 	t    testing.TB
 	key  *ecdsa.PrivateKey
@@ -52,7 +52,7 @@ func newAuthority(t testing.TB) *authority {
 	a := &authority{t: t, key: key}
 	template := &x509.Certificate{SerialNumber: big.NewInt(1), Subject: pkix.Name{CommonName: "Test CA"}, IsCA: true,
 		BasicConstraintsValid: true,
-		NotBefore:             time.UnixMilli(begun), NotAfter: time.UnixMilli(begun + 365*day)}
+		NotBefore:             time.UnixMilli(epoch), NotAfter: time.UnixMilli(epoch + 365*day)}
 	der, err := x509.CreateCertificate(rand.Reader, template, template, &key.PublicKey, key)
 	if err == nil {
 		a.cert, err = x509.ParseCertificate(der)
@@ -63,12 +63,12 @@ func newAuthority(t testing.TB) *authority {
 	return a
 }
 
-// issue returns a certificate with these extensions after the others.
+// issue returns a certificate that has these extensions after its others.
 func (a *authority) issue(extensions ...pkix.Extension) *x509.Certificate {
 	a.t.Helper()
 	template := &x509.Certificate{SerialNumber: big.NewInt(7), Subject: pkix.Name{CommonName: "www.example.org"},
 		DNSNames:  []string{"www.example.org"},
-		NotBefore: time.UnixMilli(begun), NotAfter: time.UnixMilli(begun + 90*day), ExtraExtensions: extensions}
+		NotBefore: time.UnixMilli(epoch), NotAfter: time.UnixMilli(epoch + 90*day), ExtraExtensions: extensions}
 	der, err := x509.CreateCertificate(rand.Reader, template, a.cert, &a.key.PublicKey, a.key)
 	if err != nil {
 		a.t.Fatal(err)
@@ -80,15 +80,15 @@ func (a *authority) issue(extensions ...pkix.Extension) *x509.Certificate {
 	return cert
 }
 
-// entry returns the entry of the certificate that issue returns: its TBSCertificate has no list of timestamps yet.
+// entry returns the log entry of the certificate that issue returns. Its TBSCertificate has no list of timestamps yet.
 func (a *authority) entry() testlog.Entry {
 	key := sha256.Sum256(a.cert.RawSubjectPublicKeyInfo)
-	return testlog.Entry{Timestamp: begun, Certificate: a.issue().RawTBSCertificate, IssuerKeyHash: key[:],
+	return testlog.Entry{Timestamp: epoch, Certificate: a.issue().RawTBSCertificate, IssuerKeyHash: key[:],
 		Precertificate: []byte("precertificate")}
 }
 
-// with returns the certificate with a list of timestamps (RFC 6962, section 3.3).
-func (a *authority) with(scts ...[]byte) []byte {
+// issueWith returns the certificate with a list of timestamps (RFC 6962, section 3.3).
+func (a *authority) issueWith(scts ...[]byte) []byte {
 	var list []byte
 	for _, sct := range scts {
 		list = append(binary.BigEndian.AppendUint16(list, uint16(len(sct))), sct...)
@@ -100,7 +100,7 @@ func (a *authority) with(scts ...[]byte) []byte {
 	return a.issue(pkix.Extension{Id: asn1.ObjectIdentifier{1, 3, 6, 1, 4, 1, 11129, 2, 4, 2}, Value: value}).Raw
 }
 
-// newLog returns a log with so many entries, and a head of a time.
+// newLog returns a log with these entries, and a head with this timestamp.
 func newLog(t testing.TB, entries []testlog.Entry, timestamp uint64) *testlog.Log {
 	t.Helper()
 	log, err := testlog.New("log.example/2027")
@@ -112,10 +112,10 @@ func newLog(t testing.TB, entries []testlog.Entry, timestamp uint64) *testlog.Lo
 	return log
 }
 
-// others returns made-up entries.
+// others returns entries with made-up certificates.
 func others(count int) (entries []testlog.Entry) {
 	for i := range count {
-		entries = append(entries, testlog.Entry{Timestamp: begun, Certificate: []byte{0x30, 2, byte(i >> 8), byte(i)}})
+		entries = append(entries, testlog.Entry{Timestamp: epoch, Certificate: []byte{0x30, 2, byte(i >> 8), byte(i)}})
 	}
 	return entries
 }
@@ -126,19 +126,19 @@ func serve(t testing.TB, log *testlog.Log, kind string) watch.Log {
 	t.Helper()
 	server := httptest.NewServer(log)
 	t.Cleanup(server.Close)
-	of := watch.Log{ID: sha256.Sum256(log.PublicKey()), Name: kind, URL: server.URL, PublicKey: log.PublicKey(),
+	watched := watch.Log{ID: sha256.Sum256(log.PublicKey()), Name: kind, URL: server.URL, PublicKey: log.PublicKey(),
 		MaxMergeDelay: day * time.Millisecond}
 	if kind == "tiled" {
-		of.Origin = log.Origin
+		watched.Origin = log.Origin
 	}
-	return of
+	return watched
 }
 
-// quick are options by which a log that is away is given up soon.
+// quick holds client options with one attempt, so that a test does not wait for a log that fails.
 var quick = logclient.Options{Limits: logclient.Limits{Attempts: 1}}
 
-// wantsShown has the independent judge look at evidence.
-func wantsShown(t *testing.T, evidence *watch.Evidence, key []byte) {
+// checkEvidence checks that the independent judge confirms evidence, and refuses it without the head.
+func checkEvidence(t *testing.T, evidence *watch.Evidence, key []byte) {
 	t.Helper()
 	if evidence == nil {
 		t.Error("there is no evidence")
@@ -161,43 +161,44 @@ func wantsShown(t *testing.T, evidence *watch.Evidence, key []byte) {
 	}
 }
 
-// A certificate's timestamps are audited against logs that keep their promise, may still, and do not.
+// The timestamps of a certificate are audited against logs that keep their promise, that may still keep it, and that
+// broke it.
 func TestAuditsCertificates(t *testing.T) {
 	a := newAuthority(t)
 	promised := a.entry()
 	before, after := others(300), others(40)
 	with := append(append(append([]testlog.Entry{}, before...), promised), after...)
 	for _, kind := range kinds {
-		for what, of := range map[string]struct {
+		for what, test := range map[string]struct {
 			entries   []testlog.Entry
 			timestamp uint64
-			due       audit.Outcome
+			expected  audit.Outcome
 			evidence  bool
 		}{
-			"is there":                  {with, begun + 1000, audit.Included, false},
-			"is there late":             {with, begun + 3*day, audit.Included, false},
-			"may come":                  {before, begun + day, audit.NotYet, false},
-			"has not come":              {before, begun + day + 1, audit.Never, true},
-			"has another in its place":  {append(others(301), after...), begun + 2*day, audit.Never, true},
-			"has another for the while": {append(others(301), after...), begun + 1, audit.Never, true},
+			"is there":                  {with, epoch + 1000, audit.Included, false},
+			"is there late":             {with, epoch + 3*day, audit.Included, false},
+			"may come":                  {before, epoch + day, audit.NotYet, false},
+			"has not come":              {before, epoch + day + 1, audit.Never, true},
+			"has another in its place":  {append(others(301), after...), epoch + 2*day, audit.Never, true},
+			"has another for the while": {append(others(301), after...), epoch + 1, audit.Never, true},
 		} {
 			if kind == "RFC 6962" && what == "has another for the while" {
-				of.due, of.evidence = audit.NotYet, false // (it has no place yet)
+				test.expected, test.evidence = audit.NotYet, false // Only a tiled log fixes the leaf's index before it adds it.
 			}
 			t.Run(kind+" "+what, func(t *testing.T) {
-				log := newLog(t, of.entries, of.timestamp)
-				certificate := a.with(log.SCT(promised, 300))
+				log := newLog(t, test.entries, test.timestamp)
+				certificate := a.issueWith(log.SCT(promised, 300))
 				watched := serve(t, log, kind)
 				results, err := audit.New([]watch.Log{watched}, quick).Certificate(context.Background(), certificate, a.cert.Raw)
 				if err != nil || len(results) != 1 {
 					t.Fatalf("%d results, %v", len(results), err)
 				}
-				if r := results[0]; r.Outcome != of.due || r.Outcome == audit.Included &&
+				if r := results[0]; r.Outcome != test.expected || r.Outcome == audit.Included &&
 					(r.Index != 300 || r.TreeSize != log.Size()) {
-					t.Errorf("%v (%s) at %d of %d, and %v is due", r.Outcome, r.Text, r.Index, r.TreeSize, of.due)
+					t.Errorf("%v (%s) at %d of %d, and %v is expected", r.Outcome, r.Text, r.Index, r.TreeSize, test.expected)
 				}
-				if of.evidence {
-					wantsShown(t, results[0].Evidence, log.PublicKey())
+				if test.evidence {
+					checkEvidence(t, results[0].Evidence, log.PublicKey())
 				} else if results[0].Evidence != nil {
 					t.Errorf("there is evidence: %s", results[0].Evidence.Text)
 				}
@@ -206,29 +207,29 @@ func TestAuditsCertificates(t *testing.T) {
 	}
 }
 
-// A log that has the leaf at another index than its timestamp names has broken its promise, wherever the leaf is.
+// A log has broken its promise if the leaf is at another index than the one that its timestamp names.
 func TestAuditsAnotherIndex(t *testing.T) {
 	a := newAuthority(t)
 	named := uint64(300)
 	promised := a.entry()
 	promised.Index = &named
-	for at, due := range map[int]audit.Outcome{299: audit.Never, 300: audit.Included, 301: audit.Never} {
-		log := newLog(t, append(others(at), promised), begun+1000)
-		certificate, watched := a.with(log.SCT(promised, named)), serve(t, log, "RFC 6962")
+	for index, expected := range map[int]audit.Outcome{299: audit.Never, 300: audit.Included, 301: audit.Never} {
+		log := newLog(t, append(others(index), promised), epoch+1000)
+		certificate, watched := a.issueWith(log.SCT(promised, named)), serve(t, log, "RFC 6962")
 		results, err := audit.New([]watch.Log{watched}, quick).Certificate(context.Background(), certificate, a.cert.Raw)
-		if err != nil || len(results) != 1 || results[0].Outcome != due || results[0].Index != uint64(at) {
-			t.Errorf("the leaf is at %d: %+v, %v", at, results, err)
+		if err != nil || len(results) != 1 || results[0].Outcome != expected || results[0].Index != uint64(index) {
+			t.Errorf("the leaf is at %d: %+v, %v", index, results, err)
 		}
 	}
 }
 
-// Each timestamp of a certificate is audited by itself: one of a stranger, one that is damaged, and a log that is away
-// change nothing about the others.
+// Each timestamp of a certificate is audited independently. One of an unknown log, a damaged one, and a log that does
+// not answer do not change the outcomes of the others.
 func TestAuditsEachTimestamp(t *testing.T) {
 	a := newAuthority(t)
 	promised := a.entry()
-	good := newLog(t, append(others(5), promised), begun+1)
-	away, stranger, busy := newLog(t, nil, begun), newLog(t, nil, begun), newLog(t, nil, begun)
+	good := newLog(t, append(others(5), promised), epoch+1)
+	away, stranger, busy := newLog(t, nil, epoch), newLog(t, nil, epoch), newLog(t, nil, epoch)
 	logs := []watch.Log{serve(t, good, "tiled"), serve(t, away, "RFC 6962"), serve(t, busy, "tiled")}
 	away.Intercept(func(w http.ResponseWriter, _ *http.Request) bool {
 		_, err := w.Write([]byte("<html>"))
@@ -240,20 +241,20 @@ func TestAuditsEachTimestamp(t *testing.T) {
 	})
 	damaged := bytes.Clone(good.SCT(promised, 5))
 	damaged[len(damaged)-1] ^= 1
-	other := good.SCT(testlog.Entry{Timestamp: begun, Certificate: []byte("another certificate")}, 5)
-	certificate := a.with(good.SCT(promised, 5), away.SCT(promised, 5), stranger.SCT(promised, 5), damaged, other,
+	other := good.SCT(testlog.Entry{Timestamp: epoch, Certificate: []byte("another certificate")}, 5)
+	certificate := a.issueWith(good.SCT(promised, 5), away.SCT(promised, 5), stranger.SCT(promised, 5), damaged, other,
 		busy.SCT(promised, 5))
 	results, err := audit.New(logs, quick).Certificate(context.Background(), certificate, a.cert.Raw)
 	if err != nil {
 		t.Fatal(err)
 	}
-	for i, due := range []audit.Outcome{audit.Included, audit.NoAnswer, audit.UnknownLog, audit.Never, audit.Never,
+	for i, expected := range []audit.Outcome{audit.Included, audit.NoAnswer, audit.UnknownLog, audit.Never, audit.Never,
 		audit.NoAnswer} {
-		if results[i].Outcome != due {
-			t.Errorf("timestamp %d: %v (%s), and %v is due", i, results[i].Outcome, results[i].Text, due)
+		if results[i].Outcome != expected {
+			t.Errorf("timestamp %d: %v (%s), and %v is expected", i, results[i].Outcome, results[i].Text, expected)
 		}
 	}
-	// By another issuer the leaf is another one, so no signature is right.
+	// With another issuer, the leaf differs, so no signature is valid.
 	results, err = audit.New(logs, quick).Certificate(context.Background(), certificate, newAuthority(t).cert.Raw)
 	if err != nil || results[0].Outcome != audit.Never {
 		t.Errorf("another issuer: %v, %v", results[0].Outcome, err)
@@ -264,61 +265,63 @@ func TestAuditsEachTimestamp(t *testing.T) {
 	}
 }
 
-// What has no timestamps, or none that can be read, is refused by name.
+// Bytes without timestamps, or without readable ones, are refused with an error that says why.
 func TestRefusesCertificates(t *testing.T) {
 	a := newAuthority(t)
 	auditor := audit.New(nil, quick)
-	for what, of := range map[string]struct {
+	for what, test := range map[string]struct {
 		certificate []byte
-		due         error
+		expected    error
 	}{
 		"no timestamps": {a.issue().Raw, audit.ErrNoSCTs},
 		"no list": {a.issue(pkix.Extension{Id: asn1.ObjectIdentifier{1, 3, 6, 1, 4, 1, 11129, 2, 4, 2},
 			Value: []byte{4, 2, 0, 9}}).Raw, audit.ErrSCT},
-		"a cut one": {a.with(make([]byte, 40)), audit.ErrSCT},
-		"version 2": {a.with(append([]byte{1}, make([]byte, 60)...)), audit.ErrSCT},
-		"no bytes":  {nil, audit.ErrCertificate},
-		"text":      {[]byte("certificate"), audit.ErrCertificate},
-		"cut off":   {a.issue().Raw[:100], audit.ErrCertificate},
+		"a short one": {a.issueWith(make([]byte, 40)), audit.ErrSCT},
+		"version 2":   {a.issueWith(append([]byte{1}, make([]byte, 60)...)), audit.ErrSCT},
+		"no bytes":    {nil, audit.ErrCertificate},
+		"text":        {[]byte("certificate"), audit.ErrCertificate},
+		"cut off":     {a.issue().Raw[:100], audit.ErrCertificate},
 	} {
-		if _, err := auditor.Certificate(context.Background(), of.certificate, a.cert.Raw); !errors.Is(err, of.due) {
-			t.Errorf("%s: %v, and %v is due", what, err, of.due)
+		_, err := auditor.Certificate(context.Background(), test.certificate, a.cert.Raw)
+		if !errors.Is(err, test.expected) {
+			t.Errorf("%s: %v, and %v is expected", what, err, test.expected)
 		}
 	}
 }
 
-// A timestamp that was answered is audited with what was submitted, in each form in which one can hold it.
-func TestAuditsHeldTimestamps(t *testing.T) {
+// A timestamp that a log returned is audited with the submitted certificate, in each form that ReadSCTs reads.
+func TestAuditsReturnedTimestamps(t *testing.T) {
 	a := newAuthority(t)
 	final := a.issue()
 	poison := pkix.Extension{Id: asn1.ObjectIdentifier{1, 3, 6, 1, 4, 1, 11129, 2, 4, 3}, Critical: true,
 		Value: []byte{5, 0}}
 	precertificate := a.issue(poison)
-	plain := testlog.Entry{Timestamp: begun, Certificate: final.Raw}
-	log := newLog(t, append(others(3), plain, a.entry()), begun+1)
+	plain := testlog.Entry{Timestamp: epoch, Certificate: final.Raw}
+	log := newLog(t, append(others(3), plain, a.entry()), epoch+1)
 	watched := serve(t, log, "tiled")
-	for what, of := range map[string]struct {
+	for what, test := range map[string]struct {
 		sct         []byte
 		certificate []byte
-		due         audit.Outcome
+		expected    audit.Outcome
 	}{
-		"a certificate":      {log.SCT(plain, 3), final.Raw, audit.Included},
-		"a precertificate":   {log.SCT(a.entry(), 4), precertificate.Raw, audit.Included},
-		"another one":        {log.SCT(plain, 3), a.issue().Raw, audit.Never},
-		"at another place":   {log.SCT(plain, 2), final.Raw, audit.Never},
-		"at a place to come": {log.SCT(plain, 9), final.Raw, audit.NotYet},
+		"a certificate":    {log.SCT(plain, 3), final.Raw, audit.Included},
+		"a precertificate": {log.SCT(a.entry(), 4), precertificate.Raw, audit.Included},
+		"another one":      {log.SCT(plain, 3), a.issue().Raw, audit.Never},
+		"at another index": {log.SCT(plain, 2), final.Raw, audit.Never},
+		"at a later index": {log.SCT(plain, 9), final.Raw, audit.NotYet},
 	} {
-		for form, content := range forms(t, of.sct) {
+		for form, content := range forms(t, test.sct) {
 			scts, err := audit.ReadSCTs(content)
 			if err != nil || len(scts) != 1 {
 				t.Fatalf("%s %s: %d timestamps, %v", what, form, len(scts), err)
 			}
-			results, err := audit.New([]watch.Log{watched}, quick).SCTs(context.Background(), scts, of.certificate, a.cert.Raw)
+			results, err := audit.New([]watch.Log{watched}, quick).SCTs(context.Background(), scts, test.certificate,
+				a.cert.Raw)
 			if err != nil {
 				t.Fatalf("%s %s: %v", what, form, err)
 			}
-			if results[0].Outcome != of.due {
-				t.Errorf("%s %s: %v (%s), and %v is due", what, form, results[0].Outcome, results[0].Text, of.due)
+			if results[0].Outcome != test.expected {
+				t.Errorf("%s %s: %v (%s), and %v is expected", what, form, results[0].Outcome, results[0].Text, test.expected)
 			}
 		}
 	}
@@ -333,7 +336,7 @@ func TestAuditsHeldTimestamps(t *testing.T) {
 	}
 }
 
-// forms are the forms of a timestamp.
+// forms returns a timestamp in each form that ReadSCTs reads.
 func forms(t *testing.T, sct []byte) map[string][]byte {
 	t.Helper()
 	one := append(binary.BigEndian.AppendUint16(nil, uint16(len(sct))), sct...)
@@ -347,8 +350,8 @@ func forms(t *testing.T, sct []byte) map[string][]byte {
 		"answer": answer}
 }
 
-// The certificates of a file are read in PEM and in DER.
-func TestCertificates(t *testing.T) {
+// Certificates reads a file in PEM or in DER.
+func TestReadsCertificates(t *testing.T) {
 	a := newAuthority(t)
 	text := append([]byte("a comment\n"), pem.EncodeToMemory(&pem.Block{Type: "CERTIFICATE", Bytes: a.issue().Raw})...)
 	text = append(text, pem.EncodeToMemory(&pem.Block{Type: "CERTIFICATE", Bytes: a.cert.Raw})...)

@@ -15,28 +15,29 @@ import (
 	"wagtenib/internal/witness"
 )
 
-// The reasons for which a witness does not cosign. Each is found by errors.Is.
+// The reasons why a witness does not cosign, for errors.Is.
 var (
-	// ErrWitnessBusy means that the witness cannot cosign now, or that others ask it at the same time.
+	// ErrWitnessBusy means that the witness cannot cosign now, or that it cosigns other heads at the same time.
 	ErrWitnessBusy = errors.New("audit: the witness cannot cosign now")
-	// ErrWitnessRefuses means that the witness refuses, or that its answer is no cosignature of its key.
+	// ErrWitnessRefuses means that the witness refuses, or that its answer has no cosignature of its key.
 	ErrWitnessRefuses = errors.New("audit: the witness does not cosign")
 	// ErrWitnessSaw means that the witness cosigned another history of the log.
 	ErrWitnessSaw = errors.New("audit: the witness cosigned another tree than this one began with")
 )
 
-// maxAsked is how often a witness is asked for one head. Others may ask it meanwhile.
-const maxAsked = 4
+// maxAttempts is the maximum number of requests to a witness for one head. Others may ask it at the same time, so the
+// size from which it needs a proof can change.
+const maxAttempts = 4
 
-// Cosign has a witness cosign a head of a tiled log that was accepted (add-checkpoint; C2SP tlog-witness). It returns
-// the checkpoint with the witness's line. If the checkpoint has that line, the witness is not asked.
+// Cosign asks a witness to cosign an accepted head of a tiled log (add-checkpoint; C2SP tlog-witness). It returns the
+// checkpoint with the witness's signature line. If the checkpoint has that line already, it does not ask the witness.
 func Cosign(ctx context.Context, reader *watch.Reader, head watch.Head, client witness.Client) ([]byte, error) {
 	verifier := client.Verifier()
 	if _, err := note.Open(head.Signed, note.VerifierList(verifier)); err == nil {
 		return head.Signed, nil
 	}
 	var old uint64
-	for range maxAsked {
+	for range maxAttempts {
 		proof, err := proofFrom(ctx, reader, old, head)
 		if err != nil {
 			return nil, err
@@ -58,7 +59,8 @@ func Cosign(ctx context.Context, reader *watch.Reader, head watch.Head, client w
 	return nil, fmt.Errorf("%w: %s names another size each time", ErrWitnessBusy, client.Name)
 }
 
-// refused reads the answer of a witness that did not cosign, and returns the size from which the proof must start.
+// refused reads the answer of a witness that did not cosign. It returns the size from which the next proof must start,
+// or the reason why the witness cannot cosign.
 func refused(status int, answer string, old uint64, head watch.Head) (uint64, error) {
 	switch {
 	case status == http.StatusConflict:
@@ -81,8 +83,8 @@ func refused(status int, answer string, old uint64, head watch.Head) (uint64, er
 	return 0, fmt.Errorf("%w: status %d: %.80q", ErrWitnessRefuses, status, answer)
 }
 
-// proofFrom returns the proof from an older size to a head. A proof that does not lead to the head's root is not sent:
-// the witness would accuse the log of what may be a damaged tile.
+// proofFrom returns the proof from an older size to a head. It returns an error if the proof does not lead to the
+// head's root: the witness would accuse the log, although a tile may only be damaged.
 func proofFrom(ctx context.Context, reader *watch.Reader, old uint64, head watch.Head) ([][32]byte, error) {
 	if old == 0 || old >= head.TreeSize {
 		return nil, nil
@@ -101,7 +103,7 @@ func proofFrom(ctx context.Context, reader *watch.Reader, old uint64, head watch
 	return proof, nil
 }
 
-// withLine returns a checkpoint with the line of its answer that is the witness's cosignature.
+// withLine returns a checkpoint with the line of a witness's answer that is its cosignature.
 func withLine(signed []byte, answer string, verifier note.Verifier) ([]byte, error) {
 	text, _, _ := strings.Cut(string(signed), "\n\n")
 	for _, line := range strings.Split(answer, "\n") {

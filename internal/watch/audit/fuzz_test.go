@@ -8,7 +8,7 @@ import (
 	"wagtenib/internal/watch/audit"
 )
 
-// Timestamps in any form are read to their end or not at all, and each is the same when it is read again by itself.
+// ReadSCTs reads timestamps of any form completely or not at all. Each of them is the same when it is parsed again.
 func FuzzReadSCTs(f *testing.F) {
 	log, err := testlog.New("log.example/2027")
 	if err != nil {
@@ -31,7 +31,7 @@ func FuzzReadSCTs(f *testing.F) {
 			again, err := audit.ParseSCT(sct.Raw)
 			if err != nil || again.LogID != sct.LogID || again.Timestamp != sct.Timestamp ||
 				!bytes.Equal(again.Extensions, sct.Extensions) || !bytes.Equal(again.Signature, sct.Signature) {
-				t.Fatalf("%x is read as another timestamp the second time: %v", sct.Raw, err)
+				t.Fatalf("%x is a different timestamp when it is parsed again: %v", sct.Raw, err)
 			}
 			if index, ok := sct.Index(); ok && index >= 1<<40 {
 				t.Fatalf("the index %d has more than 40 bits", index)
@@ -40,7 +40,7 @@ func FuzzReadSCTs(f *testing.F) {
 	})
 }
 
-// What a file of heads is split into are parts of it, in order, whatever the file has.
+// The heads that SplitHeads returns are parts of the file, in their order, whatever the file contains.
 func FuzzSplitHeads(f *testing.F) {
 	log, err := testlog.New("log.example/2027")
 	if err != nil {
@@ -54,16 +54,17 @@ func FuzzSplitHeads(f *testing.F) {
 	f.Fuzz(func(t *testing.T, content []byte) {
 		rest := content
 		for _, head := range audit.SplitHeads(content) {
-			at := bytes.Index(rest, head)
-			if at < 0 {
-				t.Fatalf("%q is no part of what is left, %q", head, rest)
+			offset := bytes.Index(rest, head)
+			if offset < 0 {
+				t.Fatalf("%q is not a part of the rest of the file, %q", head, rest)
 			}
-			rest = rest[at+len(head):]
+			rest = rest[offset+len(head):]
 		}
 	})
 }
 
-// No bytes crash the reading of certificates, and a list of timestamps is read again as it was.
+// No bytes crash the reading of certificates and of their timestamps. CertificateSCTs returns an error if there are no
+// timestamps.
 func FuzzCertificates(f *testing.F) {
 	f.Add([]byte("certificate"))
 	f.Add([]byte{0x30, 0x03, 0x30, 0x01, 0x00})

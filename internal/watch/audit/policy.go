@@ -16,15 +16,16 @@ import (
 // ErrPolicy means that a policy of witnesses cannot be read, or can never be met.
 var ErrPolicy = errors.New("audit: not a policy of witnesses")
 
-// Policy says which witnesses must have cosigned a checkpoint (C2SP tlog-cosignature).
+// Policy holds witnesses, and how many of them must have cosigned a checkpoint (C2SP tlog-cosignature).
 type Policy struct {
 	verifiers []note.Verifier
-	keys      []byte // a verifier key a line
+	keys      []byte // one verifier key in each line
 	quorum    int
 }
 
-// NewPolicy reads the verifier keys of witnesses, one a line (NAME+ID+KEY). Empty lines and those that begin with # are
-// passed over. So many of the witnesses must have cosigned a checkpoint. The error is nil or wraps ErrPolicy.
+// NewPolicy reads the verifier keys of witnesses (NAME+ID+KEY), one in each line. It ignores empty lines and lines that
+// begin with #. The quorum is the number of witnesses that must have cosigned a checkpoint. The error is nil or wraps
+// ErrPolicy.
 func NewPolicy(keys []byte, quorum int) (*Policy, error) {
 	p := &Policy{quorum: quorum}
 	seen := map[string]bool{}
@@ -39,7 +40,7 @@ func NewPolicy(keys []byte, quorum int) (*Policy, error) {
 				"prints it): %v", ErrPolicy, number+1, err)
 		}
 		if seen[name] || seen[string(key)] {
-			return nil, fmt.Errorf("%w: line %d: the witness %q stands there twice", ErrPolicy, number+1, name)
+			return nil, fmt.Errorf("%w: line %d: the witness %q is there twice", ErrPolicy, number+1, name)
 		}
 		seen[name], seen[string(key)] = true, true
 		p.verifiers = append(p.verifiers, witness.OfCosigner(name, key))
@@ -68,19 +69,19 @@ func (p *Policy) Check(head watch.Head) error {
 	if len(names) >= p.quorum {
 		return nil
 	}
-	text := fmt.Sprintf("the head of %d leaves is cosigned by %d witnesses (%s), and the policy wants %d of %d",
+	text := fmt.Sprintf("the head of %d leaves is cosigned by %d witnesses (%s), and the policy requires %d of %d",
 		head.TreeSize, len(names), strings.Join(names, ", "), p.quorum, len(p.verifiers))
 	keys := fmt.Appendf(nil, "# quorum %d\n%s", p.quorum, p.keys)
 	return &watch.PolicyError{Text: text, Files: map[string][]byte{watch.FileKeys: keys}}
 }
 
-// SplitHeads returns the heads in the bytes of a file: one checkpoint, several after each other, or answers to get-sth,
-// one a line. Other text is left out.
+// SplitHeads returns the heads in the bytes of a file: checkpoints after each other, or answers to get-sth, one in each
+// line. It leaves out other text between checkpoints.
 func SplitHeads(content []byte) (heads [][]byte) {
 	if trimmed := bytes.TrimSpace(content); bytes.HasPrefix(trimmed, []byte("{")) {
 		return bytes.Split(trimmed, []byte("\n"))
 	}
-	// A checkpoint has a text, an empty line, and lines of signatures. The text of the next one begins after those.
+	// A checkpoint has a text, an empty line, and lines with signatures. The text of the next checkpoint follows them.
 	signature := []byte("— ")
 	var one []byte
 	inSignatures := false

@@ -1,5 +1,5 @@
-// Package audit compares what a log promised and showed with what it has: the timestamps in a certificate, timestamps
-// that one holds, the cosignatures of witnesses, and the heads that others saw.
+// Package audit compares the promises and heads of a log with its tree: the timestamps in a certificate, other
+// timestamps that the log returned, the cosignatures of witnesses, and the heads that others saw.
 package audit
 
 import (
@@ -18,13 +18,13 @@ import (
 	"wagtenib/internal/watch"
 )
 
-// The reasons for which there is nothing to audit. Each is found by errors.Is.
+// The reasons why there is nothing to audit, for errors.Is.
 var (
 	// ErrCertificate means that a certificate cannot be read.
 	ErrCertificate = errors.New("audit: the certificate cannot be read")
 	// ErrNoSCTs means that a certificate has no timestamps.
 	ErrNoSCTs = errors.New("audit: the certificate has no timestamps (SCTs)")
-	// ErrSCT means that bytes are no timestamp of a log.
+	// ErrSCT means that bytes are not a timestamp of a log.
 	ErrSCT = errors.New("audit: not a signed certificate timestamp of version 1")
 )
 
@@ -34,10 +34,10 @@ type SCT struct {
 	Timestamp  uint64 // milliseconds since 1970
 	Extensions []byte // the CtExtensions, without their length
 	Signature  []byte // DigitallySigned
-	Raw        []byte // all of it
+	Raw        []byte // the whole SignedCertificateTimestamp
 }
 
-// Index returns the index that the extension leaf_index names (C2SP static-ct-api), if there is one.
+// Index returns the index in the extension leaf_index (C2SP static-ct-api). ok is false if there is no such extension.
 func (s SCT) Index() (index uint64, ok bool) {
 	const leafIndex, bytes = 0, 5
 	for rest := cryptobyte.String(s.Extensions); !rest.Empty(); {
@@ -92,9 +92,9 @@ func ParseSCTList(content []byte) (scts []SCT, err error) {
 	return scts, nil
 }
 
-// ReadSCTs reads timestamps that one holds: one in the encoding of TLS, a list of them (RFC 6962, section 3.3), either
-// in base64, or the answer of a log to add-chain or add-pre-chain in JSON (section 4.1). The error is nil or wraps
-// ErrSCT.
+// ReadSCTs reads timestamps in one of these forms: one in the encoding of TLS, a list of them (RFC 6962, section 3.3),
+// the base64 of either, or the answer of a log to add-chain or add-pre-chain in JSON (section 4.1). The error is nil or
+// wraps ErrSCT.
 func ReadSCTs(content []byte) ([]SCT, error) {
 	var answer struct {
 		Version    int    `json:"sct_version"`
@@ -121,7 +121,7 @@ func ReadSCTs(content []byte) ([]SCT, error) {
 	return nil, fmt.Errorf("%w, no list of them, and no answer to add-chain", ErrSCT)
 }
 
-// fromBase64 returns the bytes of a text, or none if it is not base64.
+// fromBase64 returns the bytes that a text encodes, or nil if it is not base64.
 func fromBase64(text []byte) []byte {
 	content, err := base64.StdEncoding.DecodeString(string(text))
 	if err != nil {
@@ -136,9 +136,9 @@ var (
 	sctList = asn1.ObjectIdentifier{1, 3, 6, 1, 4, 1, 11129, 2, 4, 2}
 )
 
-// extension returns the value of an extension of a certificate in DER, and the bytes of its TBSCertificate. Only what
-// is on the way to the extension is read, so a certificate with odd names is audited as well. That the timestamps are
-// of this certificate, their signatures decide.
+// extension returns the value of an extension of a certificate in DER, and the bytes of its TBSCertificate. It reads
+// only the fields that lead to the extension, so a certificate with odd names can be audited too. The signatures of the
+// timestamps decide whether they belong to this certificate.
 func extension(certificate []byte, id asn1.ObjectIdentifier) (value, tbs []byte, found bool, err error) {
 	der := cryptobyte.String(certificate)
 	var whole, element cryptobyte.String
@@ -152,12 +152,12 @@ func extension(certificate []byte, id asn1.ObjectIdentifier) (value, tbs []byte,
 	}
 	for !list.Empty() {
 		var one, content cryptobyte.String
-		var of asn1.ObjectIdentifier
-		if !list.ReadASN1(&one, cryptobyte_asn1.SEQUENCE) || !one.ReadASN1ObjectIdentifier(&of) ||
+		var oneID asn1.ObjectIdentifier
+		if !list.ReadASN1(&one, cryptobyte_asn1.SEQUENCE) || !one.ReadASN1ObjectIdentifier(&oneID) ||
 			!one.SkipOptionalASN1(cryptobyte_asn1.BOOLEAN) || !one.ReadASN1(&content, cryptobyte_asn1.OCTET_STRING) {
 			return nil, nil, false, ErrCertificate
 		}
-		if of.Equal(id) {
+		if oneID.Equal(id) {
 			return content, element, true, nil
 		}
 	}
@@ -205,8 +205,8 @@ func CertificateSCTs(certificate []byte) ([]SCT, error) {
 	return ParseSCTList(list)
 }
 
-// Certificates returns the certificates of a file, in DER: those of PEM, or one in DER. The error is nil or wraps
-// ErrCertificate.
+// Certificates returns the certificates of a file, in DER. The file contains certificates in PEM, or one in DER. The
+// error is nil or wraps ErrCertificate.
 func Certificates(content []byte) (certificates [][]byte, err error) {
 	for rest := content; ; {
 		var block *pem.Block

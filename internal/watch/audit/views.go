@@ -14,22 +14,22 @@ import (
 	"wagtenib/internal/watch"
 )
 
-// The bounds of what other observers saw.
+// The bounds of the heads that other observers saw.
 const (
 	maxHeads     = 8 << 20 // bytes of a file or an answer
 	maxHeadFiles = 10_000
 )
 
-// View is what a comparison with a head that somebody else saw comes to.
+// View holds the outcome of a comparison with a head that somebody else saw.
 type View struct {
 	Head     watch.Head
-	Where    string // the file or address
-	Err      error  // why the head is not compared, or why it speaks against the log; nil if both are consistent
+	Where    string // the file or address of the head
+	Err      error  // why the head cannot be compared, or shows a fault of the log; nil if both are consistent
 	Evidence *watch.Evidence
 }
 
-// ReadHeads reads the heads that others saw at a place: a file, a folder of files, or an address with http:// or
-// https://. They are returned by their places. The error says what cannot be read.
+// ReadHeads reads the heads that others saw from a place: a file, a folder of files, or an address with http:// or
+// https://. It returns them by their files or address.
 func ReadHeads(ctx context.Context, place string, options logclient.Options) (map[string][][]byte, error) {
 	found := map[string][][]byte{}
 	if strings.HasPrefix(place, "https://") || strings.HasPrefix(place, "http://") {
@@ -71,7 +71,7 @@ func ReadHeads(ctx context.Context, place string, options logclient.Options) (ma
 	return found, nil
 }
 
-// readFile returns the bytes of a file that is not too long.
+// readFile returns the bytes of a file, or an error if it is too long.
 func readFile(name string) ([]byte, error) {
 	file, err := os.Open(name)
 	if err != nil {
@@ -88,9 +88,9 @@ func readFile(name string) ([]byte, error) {
 	return content, nil
 }
 
-// CompareViews compares a head of a log, which was accepted or which the log just gave, with those that others saw, by
-// their places. A head that the log's key did not sign is refused by name. Two roots of one size, and a proof of the
-// log that does not lead from one head to the other, are evidence.
+// CompareViews compares a head of a log, which was accepted or which the log just returned, with the heads that others
+// saw, by their files or addresses. The view of a head that the log's key did not sign has an error. Two roots of one
+// size, and a proof of the log that does not lead from one head to the other, are evidence.
 func CompareViews(ctx context.Context, reader *watch.Reader, mine watch.Head, seen map[string][][]byte,
 	options logclient.Options) (views []View) {
 	clock := options.Clock
@@ -117,7 +117,7 @@ func CompareViews(ctx context.Context, reader *watch.Reader, mine watch.Head, se
 	return views
 }
 
-// compare compares two heads of a log. The files are those of evidence if they are not of one history.
+// compare compares two heads of a log. If they do not belong to one history, it returns the files of evidence.
 func compare(ctx context.Context, reader *watch.Reader, a, b watch.Head) (text string, files map[string][]byte,
 	err error) {
 	if a.TreeSize > b.TreeSize {
@@ -131,7 +131,7 @@ func compare(ctx context.Context, reader *watch.Reader, a, b watch.Head) (text s
 		return fmt.Sprintf("the log signed two roots of %d leaves: %x and %x", a.TreeSize, a.Root, b.Root), files, nil
 	}
 	if a.TreeSize == 0 {
-		return "", nil, nil // (every tree begins with the empty one)
+		return "", nil, nil // Every tree begins with the empty one.
 	}
 	proof, err := reader.Consistency(ctx, a.TreeSize, b.TreeSize)
 	if err != nil {

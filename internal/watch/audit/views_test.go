@@ -27,7 +27,7 @@ import (
 	"wagtenib/internal/witness"
 )
 
-// cosigner is a witness's key.
+// cosigner is a witness with its key.
 type cosigner struct {
 	name string
 	key  ed25519.PrivateKey
@@ -42,7 +42,7 @@ func newCosigner(t testing.TB, name string) cosigner {
 	return cosigner{name, key}
 }
 
-// public returns the algorithm and the public key (C2SP tlog-cosignature).
+// public returns the bytes of the algorithm and the public key (C2SP tlog-cosignature).
 func (c cosigner) public() []byte { return append([]byte{4}, c.key.Public().(ed25519.PublicKey)...) }
 
 func (c cosigner) id() []byte {
@@ -55,7 +55,7 @@ func (c cosigner) verifierKey() string {
 	return fmt.Sprintf("%s+%x+%s", c.name, c.id(), base64.StdEncoding.EncodeToString(c.public()))
 }
 
-// line returns a cosignature of a checkpoint.
+// line returns the signature line with a cosignature of a checkpoint.
 func (c cosigner) line(checkpoint []byte) string {
 	text, _, _ := strings.Cut(string(checkpoint), "\n\n")
 	const time = 1_800_000_000
@@ -64,13 +64,13 @@ func (c cosigner) line(checkpoint []byte) string {
 	return "— " + c.name + " " + base64.StdEncoding.EncodeToString(content) + "\n"
 }
 
-// A policy counts each of its witnesses once, and no stranger.
-func TestPolicy(t *testing.T) {
+// A policy counts each of its witnesses once, and counts no other witness.
+func TestPolicyCountsEachWitnessOnce(t *testing.T) {
 	a, b, c, stranger := newCosigner(t, "a.example"), newCosigner(t, "b.example"), newCosigner(t,
 		"c.example"), newCosigner(t, "a.example")
 	keys := "# the witnesses\n" + a.verifierKey() + "\n\n" + b.verifierKey() + "\n" + c.verifierKey() + "\n"
-	log := newLog(t, others(10), begun)
-	of := serve(t, log, "tiled")
+	log := newLog(t, others(10), epoch)
+	watched := serve(t, log, "tiled")
 	plain := log.Checkpoint()
 	damaged := strings.Replace(b.line(plain), "A", "B", 1)
 	for what, lines := range map[string][]string{
@@ -84,7 +84,7 @@ func TestPolicy(t *testing.T) {
 		}
 		head := watch.Head{Signed: []byte(string(plain) + strings.Join(lines, ""))}
 		if names := policy.Cosigners(head.Signed); strings.Join(names, " ") != what {
-			t.Errorf("%q cosigned, and %q is due", names, what)
+			t.Errorf("%q cosigned, and %q is expected", names, what)
 		}
 		err = policy.Check(head)
 		var missed *watch.PolicyError
@@ -98,7 +98,7 @@ func TestPolicy(t *testing.T) {
 			t.Fatalf("%s: %v", what, err)
 		}
 		log.SetCheckpoint(head.Signed)
-		wantsFewCosigned(t, of, policy)
+		checkFewCosigned(t, watched, policy)
 	}
 	for _, wrong := range []struct {
 		keys   string
@@ -111,7 +111,7 @@ func TestPolicy(t *testing.T) {
 	}
 }
 
-// accuser is a Keeper that keeps the last evidence.
+// accuser implements watch.Keeper, and keeps only the last evidence.
 type accuser struct{ evidence watch.Evidence }
 
 func (*accuser) Load(watch.LogID) (watch.State, error)            { return watch.State{}, nil }
@@ -122,13 +122,13 @@ func (k *accuser) Accuse(_ watch.Log, _ watch.State, e watch.Evidence) error {
 }
 func (*accuser) Report(watch.Status) {}
 
-// wantsFewCosigned follows a log under a policy that it does not meet, and has the independent judge look at the
-// evidence.
-func wantsFewCosigned(t *testing.T, of watch.Log, policy *audit.Policy) {
+// checkFewCosigned follows a log under a policy that it does not meet, and checks that the independent judge confirms
+// the evidence.
+func checkFewCosigned(t *testing.T, watched watch.Log, policy *audit.Policy) {
 	t.Helper()
 	k := &accuser{}
-	of.MaxMergeDelay = 0
-	f, err := watch.NewFollower(of, k, watch.Options{FromStart: true, Policy: policy.Check})
+	watched.MaxMergeDelay = 0
+	f, err := watch.NewFollower(watched, k, watch.Options{FromStart: true, Policy: policy.Check})
 	if err != nil {
 		t.Fatal(err)
 	}
@@ -136,16 +136,15 @@ func wantsFewCosigned(t *testing.T, of watch.Log, policy *audit.Policy) {
 	if err := f.Pass(context.Background()); !errors.As(err, &accused) || accused.Verdict != watch.VerdictFewCosigned {
 		t.Fatalf("the pass ends with %v", err)
 	}
-	wantsShown(t, &k.evidence, of.PublicKey)
+	checkEvidence(t, &k.evidence, watched.PublicKey)
 }
 
-// Heads that others saw are compared with a log's own, in each kind of log.
+// CompareViews compares the heads that others saw with the newest head, for each kind of log.
 func TestComparesViews(t *testing.T) {
 	for _, kind := range kinds {
 		t.Run(kind, func(t *testing.T) {
-			log := newLog(t, others(500), begun+500)
-			of := serve(t, log, kind)
-			reader, err := watch.NewReader(of, quick)
+			log := newLog(t, others(500), epoch+500)
+			reader, err := watch.NewReader(serve(t, log, kind), quick)
 			if err != nil {
 				t.Fatal(err)
 			}
@@ -154,12 +153,12 @@ func TestComparesViews(t *testing.T) {
 				t.Fatal(err)
 			}
 			earlier, forked, longer := log.Fork(300), log.Fork(300), log.Fork(300)
-			earlier.Publish(300, begun+300)
+			earlier.Publish(300, epoch+300)
 			forked.Add(others(7)...)
-			forked.Publish(307, begun+307)
+			forked.Publish(307, epoch+307)
 			longer.Add(others(200)...)
-			longer.PublishRoot(500, begun+600, [32]byte{1})
-			stranger := newLog(t, others(300), begun)
+			longer.PublishRoot(500, epoch+600, [32]byte{1})
+			stranger := newLog(t, others(300), epoch)
 			folder := t.TempDir()
 			for name, seen := range map[string]func() []byte{"earlier": head(t, earlier, kind), "forked": head(t, forked, kind),
 				"longer":   head(t, longer, kind),
@@ -178,14 +177,14 @@ func TestComparesViews(t *testing.T) {
 				t.Errorf("%d views", len(views))
 			}
 			for _, view := range views {
-				wantsView(t, log, view)
+				checkView(t, log, view)
 			}
 		})
 	}
 }
 
-// wantsView compares what came of a view with what its file has.
-func wantsView(t *testing.T, log *testlog.Log, view audit.View) {
+// checkView checks the outcome of a view by the name of its file.
+func checkView(t *testing.T, log *testlog.Log, view audit.View) {
 	t.Helper()
 	name := filepath.Base(view.Where)
 	var accused *watch.AccusedError
@@ -195,16 +194,16 @@ func wantsView(t *testing.T, log *testlog.Log, view audit.View) {
 			t.Errorf("%s: %v", name, view.Err)
 			return
 		}
-		wantsShown(t, view.Evidence, log.PublicKey())
+		checkEvidence(t, view.Evidence, log.PublicKey())
 	default:
-		due := map[string]error{"stranger": signature.ErrSigner, "nonsense": signature.ErrForm}[name]
-		if !errors.Is(view.Err, due) {
-			t.Errorf("%s: %v, and %v is due", name, view.Err, due)
+		expected := map[string]error{"stranger": signature.ErrSigner, "nonsense": signature.ErrForm}[name]
+		if !errors.Is(view.Err, expected) {
+			t.Errorf("%s: %v, and %v is expected", name, view.Err, expected)
 		}
 	}
 }
 
-// head returns what a log answers with as its head.
+// head returns a function that returns the bytes of a log's newest head.
 func head(t *testing.T, log interface {
 	ServeHTTP(http.ResponseWriter, *http.Request)
 }, kind string) func() []byte {
@@ -220,10 +219,10 @@ func head(t *testing.T, log interface {
 	return recorded.Body.Bytes
 }
 
-// Several heads in one file, or at one address, are read apart.
+// ReadHeads separates several heads in one file or at one address.
 func TestSplitsHeads(t *testing.T) {
 	a := newCosigner(t, "a.example")
-	log := newLog(t, others(3), begun)
+	log := newLog(t, others(3), epoch)
 	first := log.Checkpoint()
 	second := []byte(string(first) + a.line(first))
 	for what, content := range map[string]string{"one after the other": string(first) + string(second),
@@ -236,7 +235,7 @@ func TestSplitsHeads(t *testing.T) {
 	if found := audit.SplitHeads([]byte("{\"a\":1}\n{\"b\":2}\n")); len(found) != 2 {
 		t.Errorf("%q", found)
 	}
-	// (a client that is gone sees nothing)
+	// The error of Write is ignored: it means that the client has closed the connection, and the test sees that.
 	server := httptest.NewServer(http.HandlerFunc(func(w http.ResponseWriter, _ *http.Request) { _, _ = w.Write(second) }))
 	defer server.Close()
 	if found, err := audit.ReadHeads(context.Background(), server.URL+"/heads.txt", quick); err != nil ||
@@ -249,11 +248,10 @@ func TestSplitsHeads(t *testing.T) {
 	}
 }
 
-// A witness that cosigned an earlier tree gets a proof from there, and its line is taken only if it is its key's.
+// A witness that cosigned an earlier tree gets a proof from that tree. Its line is accepted only if its key signed it.
 func TestCosigns(t *testing.T) {
-	log := newLog(t, others(700), begun)
-	of := serve(t, log, "tiled")
-	reader, err := watch.NewReader(of, quick)
+	log := newLog(t, others(700), epoch)
+	reader, err := watch.NewReader(serve(t, log, "tiled"), quick)
 	if err != nil {
 		t.Fatal(err)
 	}
@@ -261,41 +259,43 @@ func TestCosigns(t *testing.T) {
 	if err != nil {
 		t.Fatal(err)
 	}
-	signs, other := newCosigner(t, "w.example"), newCosigner(t, "w.example")
-	for what, of := range map[string]struct {
-		has    uint64
-		root   [32]byte
-		signer cosigner
-		due    error
+	own, other := newCosigner(t, "w.example"), newCosigner(t, "w.example")
+	for what, test := range map[string]struct {
+		size     uint64 // of the tree that the witness cosigned last
+		root     [32]byte
+		signer   cosigner
+		expected error
 	}{
-		"at first":           {0, [32]byte{}, signs, nil},
-		"from an older tree": {300, log.Root(300), signs, nil},
-		"the same again":     {700, log.Root(700), signs, nil},
-		"another history":    {300, [32]byte{1}, signs, audit.ErrWitnessSaw},
-		"another root":       {700, [32]byte{1}, signs, audit.ErrWitnessSaw},
-		"more than this":     {800, log.Root(700), signs, audit.ErrWitnessRefuses},
+		"at first":           {0, [32]byte{}, own, nil},
+		"from an older tree": {300, log.Root(300), own, nil},
+		"the same again":     {700, log.Root(700), own, nil},
+		"another history":    {300, [32]byte{1}, own, audit.ErrWitnessSaw},
+		"another root":       {700, [32]byte{1}, own, audit.ErrWitnessSaw},
+		"a larger tree":      {800, log.Root(700), own, audit.ErrWitnessRefuses},
 		"another key":        {0, [32]byte{}, other, audit.ErrWitnessRefuses},
 	} {
 		t.Run(what, func(t *testing.T) {
 			server := httptest.NewServer(http.HandlerFunc(func(w http.ResponseWriter,
 				r *http.Request) {
-				addCheckpoint(t, w, r, of.has, of.root, of.signer)
+				addCheckpoint(t, w, r, test.size, test.root, test.signer)
 			}))
 			defer server.Close()
-			one, err := witness.ReadOne(server.URL + "," + signs.verifierKey())
+			one, err := witness.ReadOne(server.URL + "," + own.verifierKey())
 			if err != nil {
 				t.Fatal(err)
 			}
 			cosigned, err := audit.Cosign(context.Background(), reader, mine, witness.Client{One: one, HTTP: server.Client()})
-			if !errors.Is(err, of.due) || err == nil && string(cosigned) != string(mine.Signed)+signs.line(mine.Signed) {
+			if !errors.Is(err, test.expected) ||
+				err == nil && string(cosigned) != string(mine.Signed)+own.line(mine.Signed) {
 				t.Errorf("%q, %v", cosigned, err)
 			}
 		})
 	}
 }
 
-// addCheckpoint answers as a witness that cosigned a tree last (C2SP tlog-witness). It checks the proof by tlog.
-func addCheckpoint(t *testing.T, w http.ResponseWriter, r *http.Request, has uint64, root [32]byte, signer cosigner) {
+// addCheckpoint answers as a witness that last cosigned a tree with this size and root (C2SP tlog-witness). It checks
+// the proof with tlog.
+func addCheckpoint(t *testing.T, w http.ResponseWriter, r *http.Request, last uint64, root [32]byte, signer cosigner) {
 	body, err := io.ReadAll(r.Body)
 	if err != nil || r.URL.Path != "/add-checkpoint" {
 		t.Errorf("%s: %v", r.URL.Path, err)
@@ -303,17 +303,17 @@ func addCheckpoint(t *testing.T, w http.ResponseWriter, r *http.Request, has uin
 	}
 	lines := strings.Split(strings.SplitN(string(body), "\n\n", 2)[0], "\n")
 	note := []byte(strings.SplitN(string(body), "\n\n", 2)[1])
-	words := strings.Split(string(note), "\n")
+	noteLines := strings.Split(string(note), "\n")
 	var size int64
-	if _, err := fmt.Sscan(words[1], &size); err != nil {
+	if _, err := fmt.Sscan(noteLines[1], &size); err != nil {
 		t.Error(err)
 	}
-	if lines[0] != fmt.Sprintf("old %d", has) {
+	if lines[0] != fmt.Sprintf("old %d", last) {
 		w.WriteHeader(http.StatusConflict)
-		fmt.Fprintf(w, "%d\n", has)
+		fmt.Fprintf(w, "%d\n", last)
 		return
 	}
-	given, err := tlog.ParseHash(words[2])
+	given, err := tlog.ParseHash(noteLines[2])
 	if err != nil {
 		t.Error(err)
 	}
@@ -325,12 +325,12 @@ func addCheckpoint(t *testing.T, w http.ResponseWriter, r *http.Request, has uin
 		}
 		proof = append(proof, hash)
 	}
-	if has == uint64(size) && root != given {
+	if last == uint64(size) && root != given {
 		w.WriteHeader(http.StatusConflict)
-		fmt.Fprintf(w, "%d\n", has)
+		fmt.Fprintf(w, "%d\n", last)
 		return
 	}
-	if has > 0 && has < uint64(size) && tlog.CheckTree(proof, size, given, int64(has), tlog.Hash(root)) != nil {
+	if last > 0 && last < uint64(size) && tlog.CheckTree(proof, size, given, int64(last), tlog.Hash(root)) != nil {
 		w.WriteHeader(http.StatusUnprocessableEntity)
 		return
 	}

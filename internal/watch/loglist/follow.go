@@ -12,22 +12,22 @@ import (
 	"wagtenib/internal/logclient"
 )
 
-// maxList is the largest number of bytes of a list, and maxSignature of its signature.
+// maxList is the maximum number of bytes of a list, and maxSignature that of its signature.
 const (
 	maxList      = 32 << 20
 	maxSignature = 4096
 )
 
-// Source says where a log list is.
+// Source describes where a log list is, and how it is read.
 type Source struct {
 	Place  string // a file, or an address with http:// or https://
 	Key    []byte // PEM: the public key that must have signed the list; nil if no signature is checked
 	Client logclient.Options
 }
 
-// Read reads the list. If there is a key, the signature is read from the same place with the ending .sig instead of
-// .json, or after the place's name. The error is nil or says why there is no list; errors.Is finds ErrForm,
-// ErrSignature, ErrKey, and those of package logclient.
+// Read reads the list. If there is a key, it also reads the signature, from the place with the ending .sig instead of
+// .json (or with .sig appended, if the place does not end with .json). The error wraps ErrForm, ErrSignature or ErrKey,
+// or is one of package logclient or of the file system.
 func (s Source) Read(ctx context.Context) (List, error) {
 	content, err := s.content(ctx, s.Place, maxList)
 	if err != nil {
@@ -52,47 +52,47 @@ func (s Source) Read(ctx context.Context) (List, error) {
 // signaturePlace returns the place of a list's signature.
 func signaturePlace(place string) string { return strings.TrimSuffix(place, ".json") + ".sig" }
 
-// content returns the bytes at a place.
-func (s Source) content(ctx context.Context, place string, most int64) ([]byte, error) {
+// content returns the bytes at a place, of which there are at most maxBytes.
+func (s Source) content(ctx context.Context, place string, maxBytes int64) ([]byte, error) {
 	if strings.HasPrefix(place, "https://") || strings.HasPrefix(place, "http://") {
-		return logclient.Get(ctx, place, most, s.Client)
+		return logclient.Get(ctx, place, maxBytes, s.Client)
 	}
 	file, err := os.Open(place)
 	if err != nil {
 		return nil, fmt.Errorf("loglist: %w", err)
 	}
 	defer file.Close()
-	content, err := io.ReadAll(io.LimitReader(file, most+1))
+	content, err := io.ReadAll(io.LimitReader(file, maxBytes+1))
 	if err != nil {
 		return nil, fmt.Errorf("loglist: %w", err)
 	}
-	if int64(len(content)) > most {
-		return nil, fmt.Errorf("loglist: %s: %w: more than %d", place, logclient.ErrTooLarge, most)
+	if int64(len(content)) > maxBytes {
+		return nil, fmt.Errorf("loglist: %s: %w: more than %d", place, logclient.ErrTooLarge, maxBytes)
 	}
 	return content, nil
 }
 
-// The pause after the first of failed readings of a list, and the longest one. A program without a list watches nothing,
+// The pause after the first failed reading of a list, and the longest pause. A program without a list watches no log,
 // and one with an old list misses logs, so it must not wait as long as between two lists.
 const (
-	firstRetry = time.Second
-	maxRetry   = 3 * time.Minute
+	minRetry = time.Second
+	maxRetry = 3 * time.Minute
 )
 
-// Follow reads the list now and after each pause, and calls `changed` with it, until the context ends. If it cannot be
-// read, is refused, or is older than the last one, `failed` gets the reason and the time until the next reading, and
-// the last list stays. The pauses after failures are shorter: they double from 1 second to 3 minutes, except that a
-// server may ask for a longer one. Follow returns the error of the context.
+// Follow reads the list now and after each pause, and calls `changed` with it, until the context ends. If the list
+// cannot be read, is refused, or is older than the last one, Follow calls `failed` with the reason and the time until
+// the next reading. The pauses after failures are shorter: they double from 1 second to 3 minutes. A server may ask for
+// a longer one, up to `pause`. Follow returns the error of the context.
 func (s Source) Follow(ctx context.Context, pause time.Duration, changed func(List),
 	failed func(err error, next time.Duration)) error {
 	clock := s.Client.Clock
 	if clock == nil {
 		clock = logclient.MachineClock{}
 	}
-	// (the pauses of a client between attempts would begin with short ones again in each reading)
+	// Follow makes the pauses between attempts. Those of a client would begin with short ones again in each reading.
 	source := s
 	source.Client.Limits.Attempts = 1
-	retry := firstRetry
+	retry := minRetry
 	var last time.Time
 	for {
 		list, err := source.Read(ctx)
@@ -103,12 +103,12 @@ func (s Source) Follow(ctx context.Context, pause time.Duration, changed func(Li
 		next := pause
 		switch {
 		case err == nil:
-			retry = firstRetry
+			retry = minRetry
 			last = list.Time
 			changed(list)
 		case ctx.Err() != nil && errors.Is(err, ctx.Err()):
 		default:
-			next = min(max(retry, asked(err, clock.Now())), pause)
+			next = min(max(retry, requestedWait(err, clock.Now())), pause)
 			retry = min(2*retry, maxRetry)
 			failed(err, next)
 		}
@@ -118,8 +118,8 @@ func (s Source) Follow(ctx context.Context, pause time.Duration, changed func(Li
 	}
 }
 
-// asked returns how long a server that refused a request asked to wait, or 0 if it did not.
-func asked(err error, now time.Time) time.Duration {
+// requestedWait returns the time for which a server that refused a request asked to wait, or 0 if it did not.
+func requestedWait(err error, now time.Time) time.Duration {
 	var busy *logclient.BusyError
 	if !errors.As(err, &busy) {
 		return 0

@@ -10,13 +10,13 @@ import (
 	"wagtenib/internal/watch/loglist"
 )
 
-// FuzzParse: each log of a list has the ID of its key, is there once, and can be asked, or there is a reason why the
-// list is refused.
+// FuzzParse: a list is refused with a reason, or each of its logs has the ID of its key, is there once, and has an
+// address that logclient accepts.
 func FuzzParse(f *testing.F) {
 	good, tiled := newEntry("b", false, "usable"), newEntry("a", true, "qualified")
-	f.Add(listOf(f, at, []entry{good, good.with("url", "https://user@log.example/?a#b")}, []entry{tiled}))
-	f.Add(listOf(f, at, []entry{good.with("mmd", 1<<40)}, []entry{tiled.with("submission_url", "://")}))
-	f.Add(listOf(f, at, nil, []entry{good, tiled.with("key", nil)}))
+	f.Add(listOf(f, listTime, []entry{good, good.with("url", "https://user@log.example/?a#b")}, []entry{tiled}))
+	f.Add(listOf(f, listTime, []entry{good.with("mmd", 1<<40)}, []entry{tiled.with("submission_url", "://")}))
+	f.Add(listOf(f, listTime, nil, []entry{good, tiled.with("key", nil)}))
 	f.Add([]byte("{}"))
 	f.Fuzz(func(t *testing.T, content []byte) {
 		list, err := loglist.Parse(content)
@@ -33,7 +33,7 @@ func FuzzParse(f *testing.F) {
 				t.Fatalf("%+v", log)
 			}
 			if _, err := logclient.New(log.URL, logclient.Options{}); err != nil {
-				t.Fatalf("%q can not be asked: %v", log.URL, err)
+				t.Fatalf("logclient refuses the address %q: %v", log.URL, err)
 			}
 		}
 		if len(list.InStates(loglist.WatchedStates...)) > len(list.Logs) {

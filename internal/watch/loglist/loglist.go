@@ -1,5 +1,5 @@
-// Package loglist reads log lists in the third version of Google's format
-// (https://www.gstatic.com/ct/log_list/v3/log_list_schema.json), and follows one that changes.
+// Package loglist reads log lists in version 3 of Google's format
+// (https://www.gstatic.com/ct/log_list/v3/log_list_schema.json), and follows the changes of a list.
 package loglist
 
 import (
@@ -20,15 +20,15 @@ import (
 	"wagtenib/internal/watch"
 )
 
-// The reasons for which a list is refused. Each is found by errors.Is.
+// The reasons why a list is refused, for errors.Is.
 var (
-	// ErrForm means that the bytes are no log list of the third version, or that it has no log.
+	// ErrForm means that the bytes are not a log list of version 3, or that no log of the list can be read.
 	ErrForm = errors.New("loglist: not a log list of version 3")
-	// ErrSignature means that the list is not signed with the key that was given.
+	// ErrSignature means that the list is not signed with the given key.
 	ErrSignature = errors.New("loglist: the list is not signed with the given key")
-	// ErrKey means that a key for the list's signature cannot be read.
+	// ErrKey means that the key for the list's signature cannot be read.
 	ErrKey = errors.New("loglist: not a public key of RSA or ECDSA in PEM")
-	// ErrOlder means that the list is older than the one that was read before.
+	// ErrOlder means that the list is older than the last one.
 	ErrOlder = errors.New("loglist: the list is older than the last one, which is kept")
 )
 
@@ -45,17 +45,17 @@ type List struct {
 	Version string
 	Time    time.Time // log_list_timestamp; zero if there is none
 	Logs    []Log
-	Passed  []error // why logs of the list are passed over
-	Content []byte  // the list as it came
+	Passed  []error // one error for each log of the list that is passed over
+	Content []byte  // the list as received
 }
 
-// WatchedStates are the states whose logs are watched by default. The logs in them have SCTs that browsers accept.
+// WatchedStates holds the states whose logs are watched by default. Browsers accept SCTs of logs in these states.
 var WatchedStates = []string{"qualified", "usable", "readonly"}
 
-// knownStates are all states of the format, the ones that say most first. A log has one of them.
+// knownStates holds all states of the format. A log should have only one. If it has more, the first one here counts.
 var knownStates = []string{"rejected", "retired", "readonly", "usable", "qualified", "pending"}
 
-// InStates returns the logs that are in one of these states.
+// InStates returns the logs of the list that are in one of these states.
 func (l List) InStates(states ...string) (logs []watch.Log) {
 	for _, log := range l.Logs {
 		if slices.Contains(states, log.State) {
@@ -65,7 +65,7 @@ func (l List) InStates(states ...string) (logs []watch.Log) {
 	return logs
 }
 
-// listed is a log in the list's JSON: one of `logs`, or of `tiled_logs`.
+// listed holds a log in the list's JSON, which is an element of `logs` or of `tiled_logs`.
 type listed struct {
 	Description   string                     `json:"description"`
 	LogID         []byte                     `json:"log_id"`
@@ -81,10 +81,10 @@ type listed struct {
 	} `json:"temporal_interval"`
 }
 
-// Parse reads a log list. The error is nil or wraps ErrForm. A log whose entry is faulty is passed over; Passed says
-// why.
+// Parse reads a log list. The error is nil or wraps ErrForm. A log whose entry is faulty is passed over, and the list's
+// Passed says why.
 func Parse(content []byte) (List, error) {
-	var read struct {
+	var parsed struct {
 		Version   string    `json:"version"`
 		Time      time.Time `json:"log_list_timestamp"`
 		Operators []struct {
@@ -93,17 +93,17 @@ func Parse(content []byte) (List, error) {
 			Tiled []json.RawMessage `json:"tiled_logs"`
 		} `json:"operators"`
 	}
-	if err := json.Unmarshal(content, &read); err != nil {
+	if err := json.Unmarshal(content, &parsed); err != nil {
 		return List{}, fmt.Errorf("%w: %v", ErrForm, err)
 	}
-	list := List{Version: read.Version, Time: read.Time, Content: content}
+	list := List{Version: parsed.Version, Time: parsed.Time, Content: content}
 	seen := map[watch.LogID]bool{}
-	for _, operator := range read.Operators {
-		for kind, entries := range map[bool][]json.RawMessage{false: operator.Logs, true: operator.Tiled} {
+	for _, operator := range parsed.Operators {
+		for isTiled, entries := range map[bool][]json.RawMessage{false: operator.Logs, true: operator.Tiled} {
 			for _, entry := range entries {
-				log, err := parseLog(entry, kind)
+				log, err := parseLog(entry, isTiled)
 				if err == nil && seen[log.ID] {
-					err = fmt.Errorf("loglist: %.200q is passed over: its log_id stands in the list twice", log.Name)
+					err = fmt.Errorf("loglist: %.200q is passed over: its log_id is in the list twice", log.Name)
 				}
 				if err != nil {
 					list.Passed = append(list.Passed, err)
@@ -126,30 +126,30 @@ func Parse(content []byte) (List, error) {
 	return list, nil
 }
 
-// parseLog reads one log.
-func parseLog(entry json.RawMessage, isTiled bool) (Log, error) {
-	var of listed
-	passed := func(why string, words ...any) (Log, error) {
-		return Log{}, fmt.Errorf("loglist: %.200q is passed over: %s", of.Description, fmt.Sprintf(why, words...))
+// parseLog reads one log of a list.
+func parseLog(content json.RawMessage, isTiled bool) (Log, error) {
+	var entry listed
+	passed := func(format string, values ...any) (Log, error) {
+		return Log{}, fmt.Errorf("loglist: %.200q is passed over: %s", entry.Description, fmt.Sprintf(format, values...))
 	}
-	if err := json.Unmarshal(entry, &of); err != nil {
+	if err := json.Unmarshal(content, &entry); err != nil {
 		return passed("%v", err)
 	}
-	if id := sha256.Sum256(of.Key); len(of.LogID) != len(id) || [32]byte(of.LogID) != id {
+	if id := sha256.Sum256(entry.Key); len(entry.LogID) != len(id) || [32]byte(entry.LogID) != id {
 		return passed("its log_id is not the hash of its key")
 	}
-	if of.MMD == 0 || of.MMD > 365*24*3600 {
-		return passed("its maximum merge delay (mmd) is %d seconds", of.MMD)
+	if entry.MMD == 0 || entry.MMD > 365*24*3600 {
+		return passed("its maximum merge delay (mmd) is %d seconds", entry.MMD)
 	}
-	log := Log{Log: watch.Log{ID: watch.LogID(of.LogID), Name: of.Description, URL: of.URL, PublicKey: of.Key,
-		MaxMergeDelay: time.Duration(of.MMD) * time.Second}}
+	log := Log{Log: watch.Log{ID: watch.LogID(entry.LogID), Name: entry.Description, URL: entry.URL, PublicKey: entry.Key,
+		MaxMergeDelay: time.Duration(entry.MMD) * time.Second}}
 	if isTiled {
-		log.URL = of.MonitoringURL
+		log.URL = entry.MonitoringURL
 		// The origin is the submission prefix without its scheme and without a slash at its end (C2SP static-ct-api,
 		// "Parameters").
-		_, log.Origin, _ = strings.Cut(strings.TrimRight(of.SubmissionURL, "/"), "://")
+		_, log.Origin, _ = strings.Cut(strings.TrimRight(entry.SubmissionURL, "/"), "://")
 		if log.Origin == "" {
-			return passed("its submission_url is %q", of.SubmissionURL)
+			return passed("its submission_url is %q", entry.SubmissionURL)
 		}
 	}
 	log.URL = strings.TrimRight(log.URL, "/")
@@ -159,11 +159,11 @@ func parseLog(entry json.RawMessage, isTiled bool) (Log, error) {
 	if log.Name == "" {
 		log.Name = strings.TrimPrefix(strings.TrimPrefix(log.URL, "https://"), "http://")
 	}
-	if of.Interval != nil {
-		log.Start, log.End = of.Interval.Start, of.Interval.End
+	if entry.Interval != nil {
+		log.Start, log.End = entry.Interval.Start, entry.Interval.End
 	}
 	for _, state := range knownStates {
-		if _, ok := of.State[state]; ok {
+		if _, ok := entry.State[state]; ok {
 			log.State = state
 			break
 		}
@@ -173,13 +173,13 @@ func parseLog(entry json.RawMessage, isTiled bool) (Log, error) {
 
 // isAddress reports whether a text can be the address of a log.
 func isAddress(text string) bool {
-	at, err := url.Parse(text)
-	return err == nil && (at.Scheme == "https" || at.Scheme == "http") && at.Host != "" && at.User == nil &&
-		at.RawQuery == ""
+	address, err := url.Parse(text)
+	return err == nil && (address.Scheme == "https" || address.Scheme == "http") && address.Host != "" &&
+		address.User == nil && address.RawQuery == ""
 }
 
 // CheckSignature verifies the signature of a list with a public key in PEM (RSA of PKCS #1 v1.5 or ECDSA, with
-// SHA-256), as Google publishes both beside its list. The error is nil, or wraps ErrKey or ErrSignature.
+// SHA-256). Google publishes a signature and a key with its list. The error is nil, or wraps ErrKey or ErrSignature.
 func CheckSignature(content, signed, keyPEM []byte) error {
 	block, _ := pem.Decode(keyPEM)
 	if block == nil {

@@ -25,10 +25,10 @@ import (
 	"wagtenib/internal/watch/loglist"
 )
 
-// entry is a log in a list, as JSON has it.
+// entry is a log in a list, as a JSON object.
 type entry map[string]any
 
-// newEntry returns an entry with a made-up key; tiled says of which kind it is.
+// newEntry returns an entry with a made-up key, of a tiled log or of one of RFC 6962.
 func newEntry(name string, tiled bool, state string) entry {
 	key := []byte("the key of " + name)
 	id := sha256.Sum256(key)
@@ -45,20 +45,20 @@ func newEntry(name string, tiled bool, state string) entry {
 	return e
 }
 
-// with returns the entry with another value.
+// with returns a copy of the entry with another value of one field.
 func (e entry) with(name string, value any) entry {
 	other := entry{}
-	for key, was := range e {
-		other[key] = was
+	for key, value := range e {
+		other[key] = value
 	}
 	other[name] = value
 	return other
 }
 
-// listOf returns a list of a time with these logs.
-func listOf(t testing.TB, at string, logs, tiled []entry) []byte {
+// listOf returns a list with this timestamp and these logs.
+func listOf(t testing.TB, timestamp string, logs, tiled []entry) []byte {
 	t.Helper()
-	content, err := json.Marshal(entry{"version": "42.1", "log_list_timestamp": at,
+	content, err := json.Marshal(entry{"version": "42.1", "log_list_timestamp": timestamp,
 		"operators": []entry{{"name": "Operator", "email": []string{"a@b.example"}, "logs": logs, "tiled_logs": tiled}}})
 	if err != nil {
 		t.Fatal(err)
@@ -66,23 +66,23 @@ func listOf(t testing.TB, at string, logs, tiled []entry) []byte {
 	return content
 }
 
-const at = "2026-11-01T12:00:00Z"
+const listTime = "2026-11-01T12:00:00Z"
 
-// Both kinds of logs are read with all that is in the list.
+// Parse reads all fields of both kinds of logs.
 func TestParses(t *testing.T) {
-	content := listOf(t, at, []entry{newEntry("b", false, "usable")}, []entry{newEntry("a", true, "qualified")})
+	content := listOf(t, listTime, []entry{newEntry("b", false, "usable")}, []entry{newEntry("a", true, "qualified")})
 	list, err := loglist.Parse(content)
 	if err != nil || len(list.Logs) != 2 || len(list.Passed) != 0 || list.Version != "42.1" {
 		t.Fatalf("%+v, %v", list, err)
 	}
-	if due := time.Date(2026, 11, 1, 12, 0, 0, 0, time.UTC); !list.Time.Equal(due) {
+	if expected := time.Date(2026, 11, 1, 12, 0, 0, 0, time.UTC); !list.Time.Equal(expected) {
 		t.Errorf("the list is of %v", list.Time)
 	}
-	wantsBothKinds(t, list.Logs[0], list.Logs[1])
+	checkBothKinds(t, list.Logs[0], list.Logs[1])
 }
 
-// wantsBothKinds compares a tiled log and one of RFC 6962 with their entries.
-func wantsBothKinds(t *testing.T, a, b loglist.Log) {
+// checkBothKinds compares a tiled log and one of RFC 6962 with their entries.
+func checkBothKinds(t *testing.T, a, b loglist.Log) {
 	t.Helper()
 	if a.Name != "a" || a.Origin != "submit.example/a" || a.URL != "https://read.example/a" || !a.IsTiled() ||
 		a.State != "qualified" || a.MaxMergeDelay != 24*time.Hour || a.Operator != "Operator" {
@@ -97,13 +97,13 @@ func wantsBothKinds(t *testing.T, a, b loglist.Log) {
 	}
 }
 
-// The logs of the states that are asked for are returned.
-func TestInStates(t *testing.T) {
+// InStates returns only the logs in the given states.
+func TestReturnsLogsInStates(t *testing.T) {
 	var logs []entry
 	for _, state := range []string{"pending", "qualified", "usable", "readonly", "retired", "rejected", ""} {
 		logs = append(logs, newEntry("log "+state, false, state))
 	}
-	list, err := loglist.Parse(listOf(t, at, logs, nil))
+	list, err := loglist.Parse(listOf(t, listTime, logs, nil))
 	if err != nil {
 		t.Fatal(err)
 	}
@@ -116,13 +116,13 @@ func TestInStates(t *testing.T) {
 	}
 }
 
-// A log whose entry is faulty is passed over by name, and the others stay.
-func TestPassesOver(t *testing.T) {
+// Parse passes over a log whose entry is faulty, says why, and returns the others.
+func TestPassesOverFaultyLogs(t *testing.T) {
 	good := newEntry("good", false, "usable")
-	for what, of := range map[string]struct {
-		entry entry
-		tiled bool
-		says  string
+	for what, test := range map[string]struct {
+		entry    entry
+		tiled    bool
+		expected string // a part of the error
 	}{
 		"another ID":       {newEntry("bad", false, "usable").with("log_id", make([]byte, 32)), false, "log_id"},
 		"no key":           {newEntry("bad", false, "usable").with("key", nil), false, "log_id"},
@@ -135,13 +135,13 @@ func TestPassesOver(t *testing.T) {
 		"a text for key":   {newEntry("bad", false, "usable").with("key", "no base64!"), false, "passed over"},
 		"the same again":   {good, false, "twice"},
 	} {
-		logs, tiled := []entry{good}, []entry{of.entry}
-		if !of.tiled {
-			logs, tiled = append(logs, of.entry), nil
+		logs, tiled := []entry{good}, []entry{test.entry}
+		if !test.tiled {
+			logs, tiled = append(logs, test.entry), nil
 		}
-		list, err := loglist.Parse(listOf(t, at, logs, tiled))
+		list, err := loglist.Parse(listOf(t, listTime, logs, tiled))
 		if err != nil || len(list.Logs) != 1 || list.Logs[0].Name != "good" || len(list.Passed) != 1 ||
-			!strings.Contains(list.Passed[0].Error(), of.says) {
+			!strings.Contains(list.Passed[0].Error(), test.expected) {
 			t.Errorf("%s: %d logs, %v, %v", what, len(list.Logs), list.Passed, err)
 		}
 	}
@@ -153,7 +153,7 @@ func TestPassesOver(t *testing.T) {
 	}
 }
 
-// newKeys returns a key of RSA and one of ECDSA.
+// newKeys returns an RSA key and an ECDSA key.
 func newKeys(t *testing.T) []crypto.Signer {
 	t.Helper()
 	first, err := rsa.GenerateKey(rand.Reader, 2048)
@@ -176,9 +176,9 @@ func pemOf(t *testing.T, key crypto.Signer) []byte {
 	return pem.EncodeToMemory(&pem.Block{Type: "PUBLIC KEY", Bytes: der})
 }
 
-// A list is read from a file and over HTTP, and with a key only if that signed it.
+// Read reads a list from a file and over HTTP. If there is a key, it refuses a list that the key did not sign.
 func TestReadsSignedLists(t *testing.T) {
-	content := listOf(t, at, []entry{newEntry("a", false, "usable")}, nil)
+	content := listOf(t, listTime, []entry{newEntry("a", false, "usable")}, nil)
 	for _, key := range newKeys(t) {
 		digest := sha256.Sum256(content)
 		signed, err := key.Sign(rand.Reader, digest[:], crypto.SHA256)
@@ -195,10 +195,12 @@ func TestReadsSignedLists(t *testing.T) {
 		server := httptest.NewServer(http.FileServer(http.Dir(folder)))
 		defer server.Close()
 		for place, missing := range map[string]error{folder + "/": os.ErrNotExist, server.URL + "/": logclient.ErrNotFound} {
-			for name, due := range map[string]error{"good.json": nil, "bad.json": loglist.ErrSignature, "none.json": missing} {
+			for name, expected := range map[string]error{"good.json": nil, "bad.json": loglist.ErrSignature,
+				"none.json": missing} {
 				source := loglist.Source{Place: place + name, Key: pemOf(t, key)}
-				if list, err := source.Read(context.Background()); !errors.Is(err, due) || err == nil && len(list.Logs) != 1 {
-					t.Errorf("%s: %v, and %v is due", source.Place, err, due)
+				if list, err := source.Read(context.Background()); !errors.Is(err, expected) ||
+					err == nil && len(list.Logs) != 1 {
+					t.Errorf("%s: %v, and %v is expected", source.Place, err, expected)
 				}
 			}
 		}
@@ -211,26 +213,26 @@ func TestReadsSignedLists(t *testing.T) {
 	}
 }
 
-// pauses is a clock whose waits are recorded, and end the context after some.
+// pauses is a clock that records its waits, and ends the context at the wait with the number maxWaits.
 type pauses struct {
-	waits  []time.Duration
-	most   int
-	cancel context.CancelFunc
+	waits    []time.Duration
+	maxWaits int
+	cancel   context.CancelFunc
 }
 
 func (p *pauses) Now() time.Time { return time.Date(2027, 1, 1, 0, 0, 0, 0, time.UTC) }
 
 func (p *pauses) Wait(ctx context.Context, d time.Duration) error {
-	if p.waits = append(p.waits, d); len(p.waits) == p.most {
+	if p.waits = append(p.waits, d); len(p.waits) == p.maxWaits {
 		p.cancel()
 	}
 	return ctx.Err()
 }
 
-// A list is followed: what cannot be read, is nonsense or is older than the last one is reported, and the last one
-// stays.
-func TestFollows(t *testing.T) {
-	first := listOf(t, at, []entry{newEntry("a", false, "usable")}, nil)
+// Follow reports a list that cannot be read, is nonsense or is older than the last one, and continues with the next
+// newer list.
+func TestFollowsAList(t *testing.T) {
+	first := listOf(t, listTime, []entry{newEntry("a", false, "usable")}, nil)
 	older := listOf(t, "2026-10-01T12:00:00Z", []entry{newEntry("b", false, "usable")}, nil)
 	newer := listOf(t, "2026-12-01T12:00:00Z", []entry{newEntry("c", false, "usable")}, nil)
 	answers := [][]byte{first, []byte("<html>"), older, nil, newer}
@@ -250,7 +252,7 @@ func TestFollows(t *testing.T) {
 	ctx, cancel := context.WithCancel(context.Background())
 	defer cancel()
 	source := loglist.Source{Place: server.URL + "/log_list.json",
-		Client: logclient.Options{Clock: &pauses{most: len(answers), cancel: cancel}}}
+		Client: logclient.Options{Clock: &pauses{maxWaits: len(answers), cancel: cancel}}}
 	var seen []string
 	var faults []error
 	err := source.Follow(ctx, time.Hour, func(list loglist.List) { seen = append(seen, list.Logs[0].Name) },
@@ -258,18 +260,18 @@ func TestFollows(t *testing.T) {
 	if !errors.Is(err, context.Canceled) || strings.Join(seen, " ") != "a c" || len(faults) != 3 {
 		t.Fatalf("%v: %v, %v", err, seen, faults)
 	}
-	for i, due := range []error{loglist.ErrForm, loglist.ErrOlder, logclient.ErrNotFound} {
-		if !errors.Is(faults[i], due) {
-			t.Errorf("%v, and %v is due", faults[i], due)
+	for i, expected := range []error{loglist.ErrForm, loglist.ErrOlder, logclient.ErrNotFound} {
+		if !errors.Is(faults[i], expected) {
+			t.Errorf("%v, and %v is expected", faults[i], expected)
 		}
 	}
 }
 
-// A list that cannot be read is tried again after pauses that double up to three minutes, and after each failure the
-// caller knows the pause. A server may ask for a longer pause, up to that between two lists. After a list, the pause is
-// as long as the caller says, and the pauses after later failures begin with the shortest one.
+// Follow tries again after pauses that double up to three minutes, and after each failure it reports the pause. A
+// server may ask for a longer pause, up to the one between two lists. After a list was read, the pause is the one that
+// the caller gave, and the pauses after later failures begin with the shortest one.
 func TestTriesAgainSoonAfterFailures(t *testing.T) {
-	list := listOf(t, at, []entry{newEntry("a", false, "usable")}, nil)
+	list := listOf(t, listTime, []entry{newEntry("a", false, "usable")}, nil)
 	refusals := []string{"", "", "", "", "", "", "", "", "", "", "", "400", "172800"}
 	asked := 0
 	server := httptest.NewServer(http.HandlerFunc(func(w http.ResponseWriter, r *http.Request) {
@@ -295,16 +297,17 @@ func TestTriesAgainSoonAfterFailures(t *testing.T) {
 	for _, seconds := range []int{1, 2, 4, 8, 16, 32, 64, 128, 180, 180, 180, 400, 3600, 3600, 1, 2, 4} {
 		want = append(want, time.Duration(seconds)*time.Second)
 	}
-	clock := &pauses{most: len(want), cancel: cancel}
+	clock := &pauses{maxWaits: len(want), cancel: cancel}
 	source := loglist.Source{Place: server.URL + "/log_list.json", Client: logclient.Options{Clock: clock}}
 	var failures []time.Duration
 	lists := 0
 	err := source.Follow(ctx, time.Hour, func(loglist.List) { lists++ },
 		func(_ error, next time.Duration) { failures = append(failures, next) })
 	if !errors.Is(err, context.Canceled) || lists != 1 || !slices.Equal(clock.waits, want) {
-		t.Errorf("%v: %d lists, after the pauses %v, and %v are due", err, lists, clock.waits, want)
+		t.Errorf("%v: %d lists, with the pauses %v, and %v are expected", err, lists, clock.waits, want)
 	}
-	if due := slices.Delete(slices.Clone(want), len(refusals), len(refusals)+1); !slices.Equal(failures, due) {
-		t.Errorf("the next readings are said to be in %v, and %v are due", failures, due)
+	expected := slices.Delete(slices.Clone(want), len(refusals), len(refusals)+1)
+	if !slices.Equal(failures, expected) {
+		t.Errorf("Follow reports the pauses %v, and %v are expected", failures, expected)
 	}
 }

@@ -1,11 +1,11 @@
 // Package mirror keeps a copy of a tiled log in a folder, so that any server of files can serve it (C2SP
 // static-ct-api).
 //
-// A reader can rely on the order in which the files come: the issuers of a data tile are there before it, all tiles of
-// a tree are there before its checkpoint, and each file is whole and on the disk before the next one. No file but the
-// checkpoint ever gets other bytes. Nothing is put there before the data tiles lead to the root that the log signed. No
-// hash covers the precertificates and the fingerprints of a data tile (static-ct-api), so these are kept as the log
-// answered them first.
+// A reader can rely on the order in which files are written. The issuers of a data tile are written before it, and all
+// tiles of a tree before its checkpoint. Each file is complete and on the disk before the next one. Only the checkpoint
+// ever changes. Files are written only after the data tiles lead to the root that the log signed. No hash covers the
+// precertificates and the fingerprints of a data tile (static-ct-api), so the mirror keeps those that the log gave
+// first.
 package mirror
 
 import (
@@ -27,9 +27,9 @@ import (
 	"wagtenib/internal/watch"
 )
 
-// The reasons for which a log is not kept. Each is found by errors.Is.
+// The reasons why a log cannot be mirrored, for errors.Is.
 var (
-	// ErrOther means that the log has other bytes than those that are kept, or than those that its head is of.
+	// ErrOther means that bytes of the log differ from those in the mirror, or do not lead to the root of its head.
 	ErrOther = errors.New("mirror: the log has other bytes than those that are kept")
 	// ErrFolder means that a folder is not a mirror of this log.
 	ErrFolder = errors.New("mirror: the folder is not a mirror of this log (name another folder, or restore its " +
@@ -39,26 +39,25 @@ var (
 		"one")
 )
 
-// The names in the folder beside the tiles and issuers.
+// The names in the folder in addition to the tiles and issuers, and the maximum number of bytes of a stored file.
 const (
 	checkpointName = "checkpoint"
 	stagedFolder   = ".staged" // the data tiles whose head is not accepted yet
-	maxObject      = 64 << 20  // bytes
+	maxObject      = 64 << 20
 )
 
-// Mirror keeps a copy of one log. It implements watch.Mirror. Its methods must be called by one goroutine at a time,
-// and by one process.
+// Mirror implements watch.Mirror for one log. Only one goroutine at a time, of one process, may call its methods.
 type Mirror struct {
 	log     watch.Log
 	client  *logclient.Client
 	folder  string
 	objects stores.Objects
-	kept    wagtenib.TreeHead // of the checkpoint in the folder; a size of 0 if there is none
+	kept    wagtenib.TreeHead // the head of the checkpoint in the folder; its size is 0 if there is no checkpoint
 }
 
-// Open opens the mirror of a tiled log in a folder, and makes the folder if there is none. It is asked as the options
-// say for what was not staged, and for issuers. The error wraps ErrFolder if the folder has a checkpoint that the log
-// did not sign.
+// Open opens the mirror of a tiled log in a folder, and creates the folder if it does not exist. The options are for
+// requests to the log, for issuers and for data tiles that were not staged. The error wraps ErrFolder if the folder has
+// a checkpoint that the log did not sign.
 func Open(folder string, log watch.Log, options logclient.Options) (*Mirror, error) {
 	client, err := logclient.New(log.URL, options)
 	if err != nil {
@@ -82,8 +81,8 @@ func Open(folder string, log watch.Log, options logclient.Options) (*Mirror, err
 	return m, nil
 }
 
-// Stage keeps a data tile that was read, until its head is accepted. It need not be on the disk: what is lost is read
-// again.
+// Stage stores a data tile that was read, until its head is accepted. It does not sync the file, because a lost tile is
+// read again.
 func (m *Mirror) Stage(tile logclient.DataTile) error {
 	path := m.stagedPath(tile.Index, tile.Width)
 	if err := os.MkdirAll(filepath.Dir(path), 0o700); err != nil {
@@ -100,8 +99,8 @@ func (m *Mirror) stagedPath(index uint64, width int) string {
 	return filepath.Join(m.folder, stagedFolder, filepath.FromSlash(name))
 }
 
-// Accept keeps the log up to a head whose leaves were read and have its root. If it fails, a later call continues. The
-// error wraps ErrOther, ErrAhead, or says why a file could not be read, fetched or written.
+// Accept stores the log up to a head whose leaves were read and have its root. If it fails, a later call continues. The
+// error wraps ErrOther or ErrAhead, or says why a file could not be read, fetched or written.
 func (m *Mirror) Accept(ctx context.Context, head watch.Head) error {
 	switch {
 	case head.TreeSize < m.kept.TreeSize:
@@ -119,27 +118,28 @@ func (m *Mirror) Accept(ctx context.Context, head watch.Head) error {
 			return err
 		}
 	}
-	// (the server of the folder may be another user)
+	// Others must be able to read the file, because the server of the folder may run as another user.
 	if err := stores.ShowFile(filepath.Join(m.folder, checkpointName), head.Signed); err != nil {
 		return fmt.Errorf("mirror: %w", err)
 	}
 	before := m.kept.TreeSize
 	m.kept = head.TreeHead
-	if err := m.dropPartial(before, head.TreeSize); err != nil {
+	if err := m.deletePartialTiles(before, head.TreeSize); err != nil {
 		return err
 	}
 	return os.RemoveAll(filepath.Join(m.folder, stagedFolder))
 }
 
-// tile is a data tile that was read, cut to the entries that the tree has.
+// tile holds a data tile that was read, cut to the entries of the tree.
 type tile struct {
 	name   string
 	bytes  []byte
 	leaves []datatile.Leaf
 }
 
-// readTile reads a data tile: the staged one, or as the log has it, which is staged then.
-func (m *Mirror) readTile(ctx context.Context, index, size uint64) (of tile, err error) {
+// readTile returns a data tile of the tree of a size. If it is not staged, readTile reads it from the log, and stages
+// it.
+func (m *Mirror) readTile(ctx context.Context, index, size uint64) (tile, error) {
 	name, width := logclient.DataTileName(index, size)
 	content, err := os.ReadFile(m.stagedPath(index, width))
 	if errors.Is(err, fs.ErrNotExist) {
@@ -150,11 +150,11 @@ func (m *Mirror) readTile(ctx context.Context, index, size uint64) (of tile, err
 			})
 	}
 	if err != nil {
-		return of, fmt.Errorf("mirror: %s: %w", name, err)
+		return tile{}, fmt.Errorf("mirror: %s: %w", name, err)
 	}
 	leaves, err := datatile.ReadData(content)
 	if err != nil || len(leaves) < width {
-		return of, fmt.Errorf("%w: %s has %d entries: %v", ErrOther, name, len(leaves), err)
+		return tile{}, fmt.Errorf("%w: %s has %d entries: %v", ErrOther, name, len(leaves), err)
 	}
 	length := 0
 	for i := range leaves[:width] {
@@ -163,8 +163,8 @@ func (m *Mirror) readTile(ctx context.Context, index, size uint64) (of tile, err
 	return tile{name, content[:length], leaves[:width]}, nil
 }
 
-// check compares the root of what is kept and of the new data tiles with that of the head. If it is another one, the
-// staged tiles are read again, once: the disk may have lost them.
+// check compares the root of the stored tree with the new data tiles with the root of the head. If they differ, it
+// reads the staged tiles from the log again, once: the disk may have lost them.
 func (m *Mirror) check(ctx context.Context, head wagtenib.TreeHead) error {
 	root, err := m.root(ctx, head.TreeSize)
 	if err != nil && !errors.Is(err, ErrOther) {
@@ -186,19 +186,19 @@ func (m *Mirror) check(ctx context.Context, head wagtenib.TreeHead) error {
 	return nil
 }
 
-// root returns the root of the tree of a size. It writes nothing but staged tiles.
+// root returns the root of the tree of a size. It writes only staged tiles.
 func (m *Mirror) root(ctx context.Context, size uint64) (root wagtenib.Hash, err error) {
 	tree, err := m.edge(ctx, func(string, []byte) error { return nil })
 	if err != nil {
 		return root, err
 	}
 	for index := m.kept.TreeSize / logclient.TileWidth; index*logclient.TileWidth < size; index++ {
-		of, err := m.readTile(ctx, index, size)
+		data, err := m.readTile(ctx, index, size)
 		if err != nil {
 			return root, err
 		}
-		for i := range of.leaves {
-			if err := tree.Push(of.leaves[i].Hash()); err != nil {
+		for i := range data.leaves {
+			if err := tree.Push(data.leaves[i].Hash()); err != nil {
 				return root, err
 			}
 		}
@@ -206,28 +206,28 @@ func (m *Mirror) root(ctx context.Context, size uint64) (root wagtenib.Hash, err
 	return tree.End()
 }
 
-// grow puts the issuers, data tiles and hash tiles of the tree of a size, which was checked.
+// grow writes the issuers, data tiles and hash tiles of the tree of a size, whose root was checked.
 func (m *Mirror) grow(ctx context.Context, size uint64) error {
 	tree, err := m.edge(ctx, func(name string, content []byte) error { return m.put(ctx, name, content) })
 	if err != nil {
 		return err
 	}
 	for index := m.kept.TreeSize / logclient.TileWidth; index*logclient.TileWidth < size; index++ {
-		of, err := m.readTile(ctx, index, size)
+		data, err := m.readTile(ctx, index, size)
 		if err != nil {
 			return err
 		}
-		if err := m.beginsAsKept(ctx, index, of); err != nil {
+		if err := m.checkPrefix(ctx, index, data); err != nil {
 			return err
 		}
-		if err := m.putIssuers(ctx, of); err != nil {
+		if err := m.putIssuers(ctx, data); err != nil {
 			return err
 		}
-		if err := m.put(ctx, of.name, of.bytes); err != nil {
+		if err := m.put(ctx, data.name, data.bytes); err != nil {
 			return err
 		}
-		for i := range of.leaves {
-			if err := tree.Push(of.leaves[i].Hash()); err != nil {
+		for i := range data.leaves {
+			if err := tree.Push(data.leaves[i].Hash()); err != nil {
 				return err
 			}
 		}
@@ -236,7 +236,7 @@ func (m *Mirror) grow(ctx context.Context, size uint64) error {
 	return err
 }
 
-// put puts an object, unless it is there. One with other bytes stays.
+// put writes a file, unless it exists. If the existing file has other bytes, put leaves it and returns ErrOther.
 func (m *Mirror) put(ctx context.Context, name string, content []byte) error {
 	err := m.objects.Put(ctx, name, content)
 	if errors.Is(err, stores.ErrOther) {
@@ -248,8 +248,8 @@ func (m *Mirror) put(ctx context.Context, name string, content []byte) error {
 	return nil
 }
 
-// beginsAsKept compares a data tile with the partial one that is kept of it.
-func (m *Mirror) beginsAsKept(ctx context.Context, index uint64, of tile) error {
+// checkPrefix returns an error if a data tile does not begin with the bytes of the stored partial tile.
+func (m *Mirror) checkPrefix(ctx context.Context, index uint64, data tile) error {
 	if m.kept.TreeSize%logclient.TileWidth == 0 || index != m.kept.TreeSize/logclient.TileWidth {
 		return nil
 	}
@@ -258,16 +258,16 @@ func (m *Mirror) beginsAsKept(ctx context.Context, index uint64, of tile) error 
 	if err != nil {
 		return fmt.Errorf("mirror: %w", err)
 	}
-	if !bytes.HasPrefix(of.bytes, kept) {
-		return fmt.Errorf("%w: %s does not begin as %s", ErrOther, of.name, name)
+	if !bytes.HasPrefix(data.bytes, kept) {
+		return fmt.Errorf("%w: %s does not begin as %s", ErrOther, data.name, name)
 	}
 	return nil
 }
 
-// putIssuers puts the issuers of a tile's entries.
-func (m *Mirror) putIssuers(ctx context.Context, of tile) error {
-	for i := range of.leaves {
-		for chain := of.leaves[i].Chain; len(chain) > 0; chain = chain[sha256.Size:] {
+// putIssuers writes the issuers of a tile's entries.
+func (m *Mirror) putIssuers(ctx context.Context, data tile) error {
+	for i := range data.leaves {
+		for chain := data.leaves[i].Chain; len(chain) > 0; chain = chain[sha256.Size:] {
 			fingerprint := [sha256.Size]byte(chain[:sha256.Size])
 			name := "issuer/" + hex.EncodeToString(fingerprint[:])
 			if _, err := os.Stat(filepath.Join(m.folder, filepath.FromSlash(name))); err == nil {
@@ -285,8 +285,8 @@ func (m *Mirror) putIssuers(ctx context.Context, of tile) error {
 	return nil
 }
 
-// dropPartial removes the partial tiles of the tree before, of which a full one is there now.
-func (m *Mirror) dropPartial(before, now uint64) error {
+// deletePartialTiles deletes the partial tiles of an older tree that now have a full tile in their place.
+func (m *Mirror) deletePartialTiles(before, now uint64) error {
 	for _, name := range datatile.Overtaken(before, now) {
 		if err := os.RemoveAll(filepath.Join(m.folder, filepath.FromSlash(name))); err != nil {
 			return fmt.Errorf("mirror: %w", err)

@@ -21,7 +21,7 @@ import (
 	"wagtenib/internal/watch/mirror"
 )
 
-// keeper keeps the state of one log in memory.
+// keeper implements watch.Keeper for one log, in memory.
 type keeper struct {
 	state   watch.State
 	entries int
@@ -42,7 +42,7 @@ func (k *keeper) Report(watch.Status) {}
 func grow(log *testlog.Log, count uint64) {
 	timestamp := 10 * (log.Size() + count)
 	if count == 0 {
-		timestamp += 5 // (the same tree again, later)
+		timestamp += 5 // The head covers the same tree, but is later.
 	}
 	for i := log.Size(); count > 0; i, count = i+1, count-1 {
 		e := testlog.Entry{Timestamp: i, Certificate: []byte{0x30, 2, byte(i >> 8), byte(i)},
@@ -55,12 +55,12 @@ func grow(log *testlog.Log, count uint64) {
 	log.Publish(log.Size(), timestamp)
 }
 
-// world is a log, its mirror's folder, and the follower that keeps it.
+// world holds a log, the folder of its mirror, and the state of its follower.
 type world struct {
-	log    *testlog.Log
-	of     watch.Log
-	folder string
-	keeper *keeper
+	log     *testlog.Log
+	watched watch.Log
+	folder  string
+	keeper  *keeper
 }
 
 func newWorld(t *testing.T) *world {
@@ -71,27 +71,27 @@ func newWorld(t *testing.T) *world {
 	}
 	server := httptest.NewServer(log)
 	t.Cleanup(server.Close)
-	of := watch.Log{ID: sha256.Sum256(log.PublicKey()), Name: "log", Origin: log.Origin, URL: server.URL,
+	watched := watch.Log{ID: sha256.Sum256(log.PublicKey()), Name: "log", Origin: log.Origin, URL: server.URL,
 		PublicKey: log.PublicKey()}
-	return &world{log, of, filepath.Join(t.TempDir(), "mirror"), &keeper{}}
+	return &world{log, watched, filepath.Join(t.TempDir(), "mirror"), &keeper{}}
 }
 
-// pass makes a pass with a new follower and a mirror that is opened again.
+// pass makes one pass with a new follower, which opens the mirror again.
 func (w *world) pass() error {
 	limits := logclient.Limits{Attempts: 1}
 	options := watch.Options{FromStart: true, Client: logclient.Options{Limits: limits},
 		Mirror: func(log watch.Log) (watch.Mirror, error) {
 			return mirror.Open(w.folder, log, logclient.Options{Limits: limits})
 		}}
-	f, err := watch.NewFollower(w.of, w.keeper, options)
+	f, err := watch.NewFollower(w.watched, w.keeper, options)
 	if err != nil {
 		return err
 	}
 	return f.Pass(context.Background())
 }
 
-// wantsMirrored compares each file of the folder with the log's answer, and sees that no tile of the tree is missing.
-func (w *world) wantsMirrored(t *testing.T, size uint64) {
+// checkMirrored compares each file of the folder with the log's answer, and checks that no tile of the tree is missing.
+func (w *world) checkMirrored(t *testing.T, size uint64) {
 	t.Helper()
 	files := map[string][]byte{}
 	err := filepath.WalkDir(w.folder, func(path string, entry fs.DirEntry, err error) error {
@@ -115,19 +115,19 @@ func (w *world) wantsMirrored(t *testing.T, size uint64) {
 			t.Errorf("%s has other bytes than the log's", name)
 		}
 		if strings.HasPrefix(name, ".") {
-			t.Errorf("%s is left over", name)
+			t.Errorf("%s was not deleted", name)
 		}
 	}
-	due := []tlog.Tile{}
+	expected := []tlog.Tile{}
 	for level, hashes := -1, size; hashes > 0; level++ {
 		for n := uint64(0); n*256 < hashes; n++ {
-			due = append(due, tlog.Tile{H: 8, L: level, N: int64(n), W: int(min(256, hashes-n*256))})
+			expected = append(expected, tlog.Tile{H: 8, L: level, N: int64(n), W: int(min(256, hashes-n*256))})
 		}
 		if level >= 0 {
 			hashes /= 256
 		}
 	}
-	for _, tile := range due {
+	for _, tile := range expected {
 		if name := "tile/" + strings.TrimPrefix(tile.Path(), "tile/8/"); files[name] == nil {
 			t.Errorf("%s is missing", name)
 		}
@@ -137,8 +137,8 @@ func (w *world) wantsMirrored(t *testing.T, size uint64) {
 	}
 }
 
-// A mirror grows with its log, over restarts, and has each file of it. Served by a server of files, it can be followed
-// as the log itself.
+// A mirror grows with its log, over restarts, and has each of its files. If a file server serves it, it can be followed
+// like the log itself.
 func TestMirrorsAGrowingLog(t *testing.T) {
 	w := newWorld(t)
 	for _, count := range []uint64{1, 0, 43, 212, 1, 500, 256, 70_000, 300} {
@@ -147,13 +147,13 @@ func TestMirrorsAGrowingLog(t *testing.T) {
 			t.Fatalf("%d entries: %v", w.log.Size(), err)
 		}
 		if asked := w.log.Requests("/tile/data/250"); count == 70_000 && asked != 1 {
-			t.Errorf("a data tile was read %d times: the staged one was not taken", asked)
+			t.Errorf("a data tile was read %d times: the staged one was not used", asked)
 		}
-		w.wantsMirrored(t, w.log.Size())
+		w.checkMirrored(t, w.log.Size())
 	}
 	server := httptest.NewServer(http.FileServer(http.Dir(w.folder)))
 	defer server.Close()
-	served := w.of
+	served := w.watched
 	served.URL = server.URL
 	reader := &keeper{}
 	f, err := watch.NewFollower(served, reader, watch.Options{FromStart: true})
@@ -166,9 +166,9 @@ func TestMirrorsAGrowingLog(t *testing.T) {
 	}
 }
 
-// If an issuer or a staged tile is missing, the checkpoint in the folder stays the old one, and the next pass
-// continues.
-func TestGoesOnAfterAFailure(t *testing.T) {
+// If an issuer is missing, the folder keeps the old checkpoint, and the next pass continues. That pass reads a damaged
+// staged tile again.
+func TestContinuesAfterAFailure(t *testing.T) {
 	w := newWorld(t)
 	grow(w.log, 100)
 	if err := w.pass(); err != nil {
@@ -192,13 +192,13 @@ func TestGoesOnAfterAFailure(t *testing.T) {
 	}
 	after, err := os.ReadFile(filepath.Join(w.folder, "checkpoint"))
 	if err != nil || !bytes.Equal(before, after) {
-		t.Error("the checkpoint goes before the tiles")
+		t.Error("the checkpoint was written before the tiles")
 	}
 	if _, err := os.Stat(filepath.Join(w.folder, "tile", "data", "000")); !errors.Is(err, fs.ErrNotExist) {
-		t.Errorf("a data tile goes before its issuers: %v", err)
+		t.Errorf("a data tile was written before its issuers: %v", err)
 	}
 	w.log.Intercept(nil)
-	// (what was staged is lost, or damaged)
+	// A crash can damage a staged tile.
 	if err := os.WriteFile(filepath.Join(w.folder, ".staged", "tile", "data", "000"), []byte("damaged"),
 		0o600); err != nil {
 		t.Fatal(err)
@@ -206,14 +206,14 @@ func TestGoesOnAfterAFailure(t *testing.T) {
 	if err := w.pass(); err != nil {
 		t.Fatal(err)
 	}
-	w.wantsMirrored(t, w.log.Size())
+	w.checkMirrored(t, w.log.Size())
 	if w.keeper.entries != int(w.log.Size()) {
 		t.Errorf("%d entries were searched", w.keeper.entries)
 	}
 }
 
-// Nothing that is kept gets other bytes, whatever the log says later.
-func TestKeepsItsBytes(t *testing.T) {
+// No stored file changes, whatever the log answers later.
+func TestNeverChangesAFile(t *testing.T) {
 	w := newWorld(t)
 	grow(w.log, 100)
 	if err := w.pass(); err != nil {
@@ -226,7 +226,7 @@ func TestKeepsItsBytes(t *testing.T) {
 		recorded := httptest.NewRecorder()
 		w.log.Intercept(nil)
 		w.log.ServeHTTP(recorded, r)
-		// The precertificate of the first entry is 300100 there, and no hash covers it.
+		// The bytes of the first entry's precertificate are 300100. No hash covers them.
 		changed := bytes.Replace(recorded.Body.Bytes(), []byte{0, 0, 3, 0x30, 1, 0}, []byte{0, 0, 3, 0x30, 1, 9}, 1)
 		_, err := out.Write(changed)
 		return err == nil
@@ -242,7 +242,7 @@ func TestKeepsItsBytes(t *testing.T) {
 		t.Errorf("the folder of another log: %v", err)
 	}
 	w.keeper = &keeper{}
-	m, err := mirror.Open(w.folder, w.of, logclient.Options{})
+	m, err := mirror.Open(w.folder, w.watched, logclient.Options{})
 	if err != nil {
 		t.Fatal(err)
 	}
@@ -253,8 +253,8 @@ func TestKeepsItsBytes(t *testing.T) {
 	}
 }
 
-// If a log has only the full tile of which a head has a part, the mirror keeps that part.
-func TestKeepsThePartOfAFullTile(t *testing.T) {
+// If a log has only the full tile instead of the partial one of a head, the mirror stores the partial one.
+func TestStoresThePartOfAFullTile(t *testing.T) {
 	w := newWorld(t)
 	grow(w.log, 300)
 	full := w.log.Fork(300)
@@ -275,5 +275,5 @@ func TestKeepsThePartOfAFullTile(t *testing.T) {
 		t.Fatal(err)
 	}
 	w.log.Intercept(nil)
-	w.wantsMirrored(t, 100)
+	w.checkMirrored(t, 100)
 }

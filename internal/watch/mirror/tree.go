@@ -11,19 +11,19 @@ import (
 	datatile "wagtenib/internal/tile"
 )
 
-// edge returns the edge of the tree that is kept, without the leaves of the last data tile, which come again. The
-// levels above it begin with the partial tiles that are kept.
+// edge returns the right edge of the stored tree, without the leaves of a partial data tile: the caller pushes them
+// again. The levels above the leaves begin with the stored partial tiles.
 func (m *Mirror) edge(ctx context.Context, put datatile.Put) (*datatile.Edge, error) {
-	kept := func(of tlog.Tile) ([]wagtenib.Hash, error) {
-		content, err := m.objects.Get(ctx, datatile.Name(of), maxObject)
+	hashesOf := func(stored tlog.Tile) ([]wagtenib.Hash, error) {
+		content, err := m.objects.Get(ctx, datatile.Name(stored), maxObject)
 		if err != nil {
 			return nil, fmt.Errorf("mirror: %w", err)
 		}
-		hashes, err := datatile.HashesIn(of, content)
+		hashes, err := datatile.HashesIn(stored, content)
 		if err != nil {
 			return nil, fmt.Errorf("%w: %v", ErrOther, err)
 		}
 		return hashes, nil
 	}
-	return datatile.EdgeAt(m.kept.TreeSize/logclient.TileWidth, kept, put)
+	return datatile.EdgeAt(m.kept.TreeSize/logclient.TileWidth, hashesOf, put)
 }

@@ -15,13 +15,13 @@ import (
 	"wagtenib/bindings/go/wagtenib"
 )
 
-// Details are the fields of a certificate that an alert has beside its names (RFC 5280, section 4.1.2). A field that
+// Details holds the fields of a certificate that an alert shows with its names (RFC 5280, section 4.1.2). A field that
 // cannot be read is empty: a certificate with one damaged field must still be reported with all others.
 type Details struct {
-	Subject      string // the distinguished name (RFC 4514)
-	Issuer       string // the distinguished name (RFC 4514)
-	IssuerNames  []string
-	SerialNumber string // in hexadecimal digits
+	Subject      string   // the distinguished name (RFC 4514)
+	Issuer       string   // the distinguished name (RFC 4514)
+	IssuerNames  []string // the issuer's organizations and common name
+	SerialNumber string   // in hexadecimal digits
 	NotBefore    time.Time
 	NotAfter     time.Time
 	KeySHA256    string // of the SubjectPublicKeyInfo, in hexadecimal digits
@@ -90,8 +90,8 @@ func readTime(from *cryptobyte.String) (read time.Time) {
 	return time.Time{}
 }
 
-// Text returns a name of a certificate as people read it: an address as such, and the characters of wide strings. It
-// may have any character; who shows it must make it safe.
+// Text returns a name of a certificate as people read it: an address as text, and a wide string as its characters. The
+// result may contain any character. A caller that shows it must make it safe.
 func Text(name wagtenib.Name) string {
 	if name.Kind == wagtenib.IPAddress {
 		if address, ok := netip.AddrFromSlice(name.Bytes); ok {
@@ -106,8 +106,8 @@ func Text(name wagtenib.Name) string {
 	return found[len(found)-1]
 }
 
-// Once returns the names of a certificate with each text once, in the order of their first occurrence, and after them
-// the names that repeat a text. A common name often repeats a name of subjectAltName.
+// Once separates the names of a certificate: once has the first name with each text, and repeated has the names that
+// repeat a text, both in their order. A common name often repeats a name of subjectAltName.
 func Once(names []wagtenib.Name) (once, repeated []wagtenib.Name) {
 	seen := make(map[string]bool, len(names))
 	for _, name := range names {
@@ -122,15 +122,15 @@ func Once(names []wagtenib.Name) (once, repeated []wagtenib.Name) {
 	return once, repeated
 }
 
-// errIssuance reports bytes that are no TBSCertificate.
+// errIssuance means that bytes are not a certificate.
 var errIssuance = errors.New("no certificate")
 
 // Issuance returns what a precertificate and its certificate have in common: the SHA-256 hash of the TBSCertificate
 // without the poison and without the list of SCTs (RFC 6962, sections 3.1 and 3.3).
 //
-// The hash is of all that the CA certifies, so two issuances with other names, keys or dates never have one. The
-// serial number with the issuer's key would be shorter, but a CA that uses a serial number twice would then hide a
-// certificate.
+// The hash covers everything that the CA certifies, so issuances with different names, keys or dates never have the
+// same hash. The serial number with the issuer's key would be shorter, but a CA that uses a serial number twice could
+// then hide a certificate.
 func Issuance(entryType wagtenib.EntryType, certificate []byte) [32]byte {
 	tbs, err := withoutSCTs(entryType, certificate)
 	if err != nil {
@@ -139,19 +139,20 @@ func Issuance(entryType wagtenib.EntryType, certificate []byte) [32]byte {
 	return sha256.Sum256(tbs)
 }
 
-// The position of the TBSCertificate in a MerkleTreeLeaf: after a version, a leaf type, a timestamp, an entry type,
-// the hash of the issuer's key, and the three bytes of its length (RFC 6962, section 3.4).
+// tbsOffset is the position of the TBSCertificate in a MerkleTreeLeaf. Before it are a version, a leaf type, a
+// timestamp, an entry type, the hash of the issuer's key, and the three bytes of its length (RFC 6962, section 3.4).
+// emptyExtensions is the size of the empty extensions after it, which are only their length.
 const (
-	offsetOfTBS   = 1 + 1 + 8 + 2 + 32 + 3
-	sizeOfNothing = 2 // the length of no extensions
+	tbsOffset       = 1 + 1 + 8 + 2 + 32 + 3
+	emptyExtensions = 2
 )
 
-// withoutSCTs returns the TBSCertificate of a certificate, without its list of SCTs. The library cuts it out, as it
-// does for the leaf that an SCT promises.
+// withoutSCTs returns the TBSCertificate of a certificate, without its list of SCTs. The library removes the list, as
+// it does for the leaf that an SCT promises.
 func withoutSCTs(entryType wagtenib.EntryType, certificate []byte) ([]byte, error) {
 	whole := certificate
 	if entryType == wagtenib.PrecertEntry {
-		// The call wants a certificate: this one has an algorithm without content, and an empty signature.
+		// PromisedLeaf needs a certificate. This one has an algorithm without content, and an empty signature.
 		builder := cryptobyte.NewBuilder(nil)
 		builder.AddASN1(tags.SEQUENCE, func(child *cryptobyte.Builder) {
 			child.AddBytes(certificate)
@@ -164,10 +165,10 @@ func withoutSCTs(entryType wagtenib.EntryType, certificate []byte) ([]byte, erro
 		}
 		whole = made
 	}
-	// The issuer's key has no part in the TBSCertificate, so any certificate with a key will do.
+	// The TBSCertificate does not depend on the issuer's key, so the issuer may be any certificate with a key.
 	leaf, err := wagtenib.PromisedLeaf(wagtenib.Promise{Certificate: whole, Issuer: whole})
 	if err == nil {
-		return leaf[offsetOfTBS : len(leaf)-sizeOfNothing], nil
+		return leaf[tbsOffset : len(leaf)-emptyExtensions], nil
 	}
 	if !errors.Is(err, wagtenib.ErrNoExtension) {
 		return nil, err

@@ -9,34 +9,34 @@ import (
 	"time"
 )
 
-// maxLine is the number of bytes of a line of a watch list.
+// maxLine is the maximum number of bytes of a line of a watch list.
 const maxLine = 64 << 10
 
-// ParseList reads a watch list of ctwatch: a name a line. Empty lines and lines that begin with # do not count, and a
-// name that is there twice counts once. All wrong lines are reported in one error, each with its number.
+// ParseList reads a watch list of ctwatch, which has one name in each line. It ignores empty lines, lines that begin
+// with # and repeated names. It reports all wrong lines in one error, each with its number.
 func ParseList(from io.Reader) ([]Name, error) { return parseList(from, ParseName) }
 
-// ParseCertspotterList reads a watch list of SSLMate's certspotter: ".example.org" covers the name and all names
-// below it, "example.org" only that name, and "." every certificate. A date "valid_at:2026-01-02" after a name must
-// be one; it is not used, because ctwatch alerts to a certificate when it is logged.
+// ParseCertspotterList reads a watch list of SSLMate's certspotter: ".example.org" covers the name and all names below
+// it, "example.org" covers only that name, and "." covers every certificate. A name may be followed by a valid date, as
+// in "valid_at:2026-01-02". It is not used, because ctwatch sends an alert when a certificate is logged.
 func ParseCertspotterList(from io.Reader) ([]Name, error) { return parseList(from, parseCertspotter) }
 
 func parseCertspotter(line string) (Name, error) {
-	words := strings.Fields(line)
-	for _, word := range words[1:] {
-		date, found := strings.CutPrefix(word, "valid_at:")
+	fields := strings.Fields(line)
+	for _, option := range fields[1:] {
+		date, found := strings.CutPrefix(option, "valid_at:")
 		if _, err := time.Parse(time.DateOnly, date); !found || err != nil {
 			return Name{}, fmt.Errorf("%w %.300q: %.100q is no option of a watch list (write "+
-				"valid_at:YEAR-MONTH-DAY)", ErrName, words[0], word)
+				"valid_at:YEAR-MONTH-DAY)", ErrName, fields[0], option)
 		}
 	}
-	text, below := strings.CutPrefix(words[0], ".")
+	text, below := strings.CutPrefix(fields[0], ".")
 	if below && text == "" {
 		return Name{text: "."}, nil
 	}
 	name, err := parse(text, !below)
 	if err != nil {
-		return Name{}, fmt.Errorf("%w %.300q: %w", ErrName, words[0], err)
+		return Name{}, fmt.Errorf("%w %.300q: %w", ErrName, fields[0], err)
 	}
 	return name, nil
 }

@@ -1,7 +1,8 @@
 // Package namesearch searches certificates for the names that an owner watches.
 //
 // The proved library decides which names of a certificate a watched name covers (RFC 9525, section 6.3). This package
-// reads the watched names, and adds the readings that the library does not have: they are marked in what is found.
+// parses the watched names. It also tries readings of a certificate's names that the library does not try. The place of
+// such a match shows this.
 package namesearch
 
 import (
@@ -14,7 +15,7 @@ import (
 	"golang.org/x/net/idna"
 )
 
-// ErrName reports a watched name that can match nothing. Its text says what to write instead.
+// ErrName means that a watched name cannot match anything. The text of the error says what to write instead.
 var ErrName = errors.New("watched name")
 
 // The bounds of a domain name and of a label, in bytes (RFC 1035, section 2.3.4).
@@ -25,41 +26,42 @@ const (
 
 // Name is a watched name: a domain with all names below it, one exact name, or an IP address.
 type Name struct {
-	text    string     // as ctwatch writes it: example.org, =www.example.org, 192.0.2.7, or a dot for everything
-	domain  string     // in ASCII and in small letters (RFC 5890), without a dot at its end; empty for an address
-	letters string     // the same with its Unicode letters; equal to domain if it has none
-	exact   bool       // names below it do not count
-	address netip.Addr // valid if the name is an address
+	text    string     // in ctwatch's form: example.org, =www.example.org, 192.0.2.7, or a dot for everything
+	domain  string     // in ASCII and lower case (RFC 5890), without a dot at its end; empty for an address
+	letters string     // the domain with its Unicode letters; equal to domain if it has none
+	exact   bool       // the name does not cover names below it
+	address netip.Addr // only valid if the name is an address
 }
 
-// String returns the name as a watch list has it. ParseName reads it again.
+// String returns the name in the form of a watch list, which ParseName reads.
 func (n Name) String() string { return n.text }
 
-// IsEverything reports whether every certificate matches. Only a watch list of certspotter can say so, by a dot.
+// IsEverything reports whether every certificate matches. Only a watch list of certspotter can have such a name: a dot.
 func (n Name) IsEverything() bool { return n.text == "." }
 
-// patterns returns what the library is given for this name: a name with a dot in front covers all names below it.
+// patterns returns the patterns for the library that match this name. A pattern with a dot in front covers the name and
+// all names below it.
 func (n Name) patterns() []string {
-	front := "."
+	prefix := "."
 	switch {
 	case n.IsEverything():
 		return nil
 	case n.address.IsValid():
 		return []string{n.address.String()}
 	case n.exact:
-		front = ""
+		prefix = ""
 	}
-	patterns := []string{front + n.domain}
+	patterns := []string{prefix + n.domain}
 	if n.letters != n.domain {
-		// A common name may have the letters themselves.
-		patterns = append(patterns, front+n.letters)
+		// A common name may contain the Unicode letters.
+		patterns = append(patterns, prefix+n.letters)
 	}
 	return patterns
 }
 
-// ParseName reads a watched name. "example.org" covers that name and all names below it, "=example.org" only that
-// name. A leading dot changes nothing. An address covers that address. The error is an ErrName that says what to
-// write.
+// ParseName parses a watched name. "example.org" covers that name and all names below it. "=example.org" covers only
+// that name. A leading dot is ignored. An address covers only that address. The error is nil, or wraps ErrName and says
+// what to write.
 func ParseName(text string) (Name, error) {
 	trimmed := strings.TrimSpace(text)
 	rest, exact := strings.CutPrefix(trimmed, "=")
@@ -70,9 +72,9 @@ func ParseName(text string) (Name, error) {
 	return name, nil
 }
 
-// parse reads a name without the signs in front of it.
+// parse parses a watched name without the characters "=" and "." in front of it.
 func parse(text string, exact bool) (Name, error) {
-	if err := refuse(text); err != nil {
+	if err := checkName(text); err != nil {
 		return Name{}, err
 	}
 	domain := ""
@@ -81,7 +83,7 @@ func parse(text string, exact bool) (Name, error) {
 		if domain, err = toASCII(strings.TrimSuffix(text, ".")); err != nil {
 			return Name{}, err
 		}
-		// (an address with a dot at its end, or with other digits)
+		// The text may be an address with a dot at its end, or with other digits.
 		address, err = netip.ParseAddr(domain)
 	}
 	if err == nil {
@@ -94,8 +96,9 @@ func parse(text string, exact bool) (Name, error) {
 	return name, nil
 }
 
-// refuse returns why a text is the name of no certificate, and what to write instead.
-func refuse(text string) error {
+// checkName returns nil if a text may be a domain or an address. Otherwise, its error says why not, and what to write
+// instead.
+func checkName(text string) error {
 	below, isWildcard := strings.CutPrefix(text, "*.")
 	host, _, _ := strings.Cut(text, "/")
 	switch {
@@ -134,10 +137,10 @@ func withoutPort(text string) string {
 	return text
 }
 
-// toUnicode is the mapping of names with letters beyond ASCII (UTS 46, nontransitional).
+// toUnicode maps names with letters beyond ASCII (UTS 46, nontransitional).
 var toUnicode = idna.New(idna.MapForLookup(), idna.BidiRule(), idna.Transitional(false))
 
-// toASCII returns a domain in the form of DNS, in small letters.
+// toASCII returns a domain in the form of DNS, in lower case.
 func toASCII(text string) (string, error) {
 	domain := strings.ToLower(text)
 	if !isASCII(domain) {
@@ -159,7 +162,7 @@ func toASCII(text string) (string, error) {
 	return domain, nil
 }
 
-// checkLabel returns why a label cannot be part of a domain.
+// checkLabel returns an error if a label cannot be part of a domain.
 func checkLabel(label string) error {
 	if label == "" {
 		return errors.New("it has an empty label (write one dot between two labels)")
@@ -179,7 +182,7 @@ func checkLabel(label string) error {
 	return nil
 }
 
-// toLetters returns a domain with its Unicode letters, or as it is if it has none.
+// toLetters returns a domain with its Unicode letters, or unchanged if it has none.
 func toLetters(domain string) string {
 	if !strings.Contains(domain, "xn--") {
 		return domain
@@ -200,7 +203,7 @@ func isASCII(text string) bool {
 	return true
 }
 
-// Covers returns in words what the name covers.
+// Covers returns a text that says what the name covers.
 func (n Name) Covers() string {
 	switch {
 	case n.IsEverything():

@@ -9,9 +9,10 @@ import (
 	"wagtenib/internal/watch/namesearch"
 )
 
-// TestParsesNames: each word of a watch list is read as the page says, and reads again as itself.
+// TestParsesNames: ParseName reads each text of a watch list as documented. It reads the result's String as the same
+// name.
 func TestParsesNames(t *testing.T) {
-	for word, want := range map[string]string{
+	for text, want := range map[string]string{
 		"example.org":               "example.org",
 		" Example.ORG. ":            "example.org",
 		".example.org":              "example.org",
@@ -29,20 +30,20 @@ func TestParsesNames(t *testing.T) {
 		"a-b.1-2.example.org":       "a-b.1-2.example.org",
 		"=\tmail.sub.example.org\t": "=mail.sub.example.org",
 	} {
-		name, err := namesearch.ParseName(word)
+		name, err := namesearch.ParseName(text)
 		if err != nil || name.String() != want {
-			t.Errorf("%q: %q %v", word, name, err)
+			t.Errorf("%q: %q %v", text, name, err)
 			continue
 		}
 		if again, err := namesearch.ParseName(name.String()); err != nil || again != name {
-			t.Errorf("%q reads again as %+v %v", name, again, err)
+			t.Errorf("%q is read again as %+v %v", name, again, err)
 		}
 	}
 }
 
-// TestRefusesNames: a word that can match nothing is refused, with what to write in its place.
+// TestRefusesNames: ParseName refuses a text that cannot match anything. The error says what to write instead.
 func TestRefusesNames(t *testing.T) {
-	for word, remedy := range map[string]string{
+	for text, remedy := range map[string]string{
 		"":                              "write a domain",
 		"   ":                           "write a domain",
 		".":                             "write a domain",
@@ -71,14 +72,14 @@ func TestRefusesNames(t *testing.T) {
 		strings.Repeat("a.", 127) + "b": "at most 253",
 		"\xff.example.org":              "as in DNS",
 	} {
-		name, err := namesearch.ParseName(word)
+		name, err := namesearch.ParseName(text)
 		if !errors.Is(err, namesearch.ErrName) || !strings.Contains(err.Error(), remedy) {
-			t.Errorf("%q: %q %v, and not %q", word, name, err, remedy)
+			t.Errorf("%q: %q %v, and not %q", text, name, err, remedy)
 		}
 	}
 }
 
-// TestReadsLists: comments and empty lines do not count, a name counts once, and each wrong line is named.
+// TestReadsLists: ParseList ignores comments, empty lines and repeated names. Its error names each wrong line.
 func TestReadsLists(t *testing.T) {
 	names, err := namesearch.ParseList(strings.NewReader("\ufeff# names\r\n\r\nexample.org\r\n =www.example.net " +
 		"\nexample.org.\n"))
@@ -107,8 +108,8 @@ func TestReadsLists(t *testing.T) {
 	}
 }
 
-// TestReadsListsOfCertspotter: a dot in front covers what is below a name, no dot is the exact name, and a date may
-// follow (certspotter(8), WATCH LIST).
+// TestReadsListsOfCertspotter: a name with a dot in front covers the names below it, a name without one is exact, and a
+// date may follow (certspotter(8), WATCH LIST).
 func TestReadsListsOfCertspotter(t *testing.T) {
 	names, err := namesearch.ParseCertspotterList(strings.NewReader("# mine\nexample.org\n.example.net " +
 		"valid_at:2026-01-02\nbücher.example\n.\n"))
@@ -131,8 +132,8 @@ func TestReadsListsOfCertspotter(t *testing.T) {
 	}
 }
 
-// FuzzLists: a watch list of either kind is refused, or each name in it is there once, can be written and read again,
-// and covers something.
+// FuzzLists: a watch list of either kind is refused, or each name in the result is there once, can be written and read
+// again, and covers something.
 func FuzzLists(f *testing.F) {
 	for _, text := range []string{"example.org\n# a comment\n=www.example.org\n",
 		".example.org\nexample.org valid_at:2026-01-02", ".", "192.0.2.7\n2001:db8::1\n::ffff:192.0.2.7",

@@ -14,15 +14,16 @@ import (
 	"wagtenib/bindings/go/wagtenib"
 )
 
-// anyLabel is a label that is hidden or cannot be read: it matches any label. It is also how some CAs once hid labels.
+// anyLabel replaces a label that cannot be read, and matches any label. Some CAs once hid labels in this way.
 const anyLabel = "?"
 
-// maxReading is the number of bytes of a name that is read otherwise: a longer one is no host, but can take long.
+// maxReading is the maximum number of bytes of a name for which readings are made. A longer name is not a host, and its
+// readings could take long.
 const maxReading = 4 << 10
 
-// isPlain reports whether the library reads a name as this package does. Nearly all names are so, and need no
-// readings: an ASCII host name without a sign that means something, a mail address at such a host, a URI without
-// brackets, and an address.
+// isPlain reports whether the library reads a name in the same way as this package, so that no readings are needed.
+// This holds for nearly all names: an ASCII host name without special characters, a mail address at such a host, a URI
+// without brackets, and an address.
 func isPlain(name wagtenib.Name) bool {
 	text := name.Bytes
 	switch name.Kind {
@@ -36,18 +37,17 @@ func isPlain(name wagtenib.Name) bool {
 		text = text[bytes.LastIndexByte(text, '@')+1:]
 	}
 	text, _ = bytes.CutPrefix(text, []byte("*."))
-	return bytes.IndexFunc(text, isNoHostByte) < 0
+	return bytes.IndexFunc(text, isSpecial) < 0
 }
 
-// isNoHostByte reports whether a name with this sign may be read otherwise.
-func isNoHostByte(one rune) bool {
+// isSpecial reports whether a name with this character may have other readings.
+func isSpecial(one rune) bool {
 	isLetter := 'a' <= one && one <= 'z' || 'A' <= one && one <= 'Z' || '0' <= one && one <= '9'
 	return !isLetter && one != '.' && one != '-' && one != '_'
 }
 
-// readings returns how a name of a certificate may be read as a host beside the library's reading: with the letters
-// of wide strings and of Latin-1, cut at a NUL, as a URL, and without a port or spaces. Each is in small letters, as
-// in DNS.
+// readings returns the hosts as which other programs may read a name of a certificate: with the letters of wide strings
+// and of Latin-1, cut at a NUL, as a URL, and without a port or spaces. Each is in lower case, in the form of DNS.
 func readings(name wagtenib.Name) []string {
 	if len(name.Bytes) > maxReading {
 		return nil
@@ -69,7 +69,8 @@ func readings(name wagtenib.Name) []string {
 	return hosts
 }
 
-// Host returns the host of a name of a certificate in small letters as in DNS, or an address, or "" if it has none.
+// Host returns the host of a name of a certificate, in lower case and in the form of DNS, or an address. It returns ""
+// if the name has none.
 func Host(name wagtenib.Name) string {
 	if name.Kind == wagtenib.IPAddress {
 		return Text(name)
@@ -80,7 +81,7 @@ func Host(name wagtenib.Name) string {
 	return ""
 }
 
-// texts returns the characters of a name, in each encoding that it may have.
+// texts returns the text of a name in each encoding that it may have.
 func texts(name wagtenib.Name) []string {
 	switch name.Kind {
 	case wagtenib.BMPCommonName:
@@ -105,7 +106,7 @@ func decoded(text []byte, err error) []string {
 	return []string{string(text)}
 }
 
-// hostsIn returns the hosts that a text may name: itself, and what is before a NUL.
+// hostsIn returns the hosts that a text may name: the host of the whole text, and of the part before a NUL.
 func hostsIn(text string) []string {
 	hosts := []string{hostIn(text)}
 	if before, _, cut := strings.Cut(text, "\x00"); cut {
@@ -114,7 +115,7 @@ func hostsIn(text string) []string {
 	return hosts
 }
 
-// hostIn returns the host of a URL, of a host with a port or a path, and of a text with spaces around it.
+// hostIn returns the host in a text, which may be a URL or a host with a port, a path or spaces around it.
 func hostIn(text string) string {
 	text = strings.TrimSpace(text)
 	if _, after, found := strings.Cut(text, "://"); found {
@@ -126,14 +127,15 @@ func hostIn(text string) string {
 	return strings.TrimSpace(withoutPort(beforeAny(text, "/#")))
 }
 
-func beforeAny(text, signs string) string {
-	if at := strings.IndexAny(text, signs); at >= 0 {
-		return text[:at]
+// beforeAny returns the part of a text before the first of these characters.
+func beforeAny(text, characters string) string {
+	if end := strings.IndexAny(text, characters); end >= 0 {
+		return text[:end]
 	}
 	return text
 }
 
-// normal returns a host in small letters as in DNS. A label that cannot be written so becomes anyLabel.
+// normal returns a host in lower case and in the form of DNS. A label without such a form becomes anyLabel.
 func normal(host string) string {
 	labels := strings.Split(strings.TrimSuffix(strings.ToLower(host), "."), ".")
 	for i, label := range labels {
@@ -149,9 +151,9 @@ func normal(host string) string {
 	return strings.Join(labels, ".")
 }
 
-// mayMatch reports whether a host, as it is and by its labels, may match the watched name. A star may be anywhere in
-// a label, and a label may be hidden. The labels of the watched name are given, because they are the same for many
-// hosts.
+// mayMatch reports whether a host may match a watched name. labels and watched are the labels of the host and of the
+// watched name, which the caller splits once for many calls. A star may be anywhere in a label of the host, and a label
+// may be anyLabel.
 func mayMatch(host string, labels []string, name Name, watched []string) bool {
 	if name.IsEverything() {
 		return false
@@ -171,8 +173,7 @@ func mayMatch(host string, labels []string, name Name, watched []string) bool {
 	return true
 }
 
-// Hosts returns the names of a certificate that may match the watched name, as people read them: each once, and at most
-// limit.
+// Hosts returns the texts of the names of a certificate that may match the watched name, each once and at most limit.
 func (n Name) Hosts(names []wagtenib.Name, limit int) []string {
 	var hosts []string
 	for _, name := range names {
@@ -196,12 +197,12 @@ func (n Name) isIn(name wagtenib.Name) bool {
 		return ok && address == n.address
 	}
 	if len(name.Bytes) > maxReading && !n.exact {
-		// The last labels decide. Wide characters have at most 4 bytes, of which maxReading is a multiple.
+		// The last labels decide. A wide character has 2 or 4 bytes, and maxReading is a multiple of both.
 		name.Bytes = name.Bytes[len(name.Bytes)-maxReading:]
 	}
 	hosts := readings(name)
 	for _, text := range texts(name) {
-		// (the library does not cut a path or a port)
+		// The library does not cut off a path or a port.
 		hosts = append(hosts, normal(text))
 	}
 	return slices.ContainsFunc(hosts, func(host string) bool {
@@ -220,11 +221,11 @@ func starMatches(pattern, label string) bool {
 		return false
 	}
 	for _, part := range parts[1 : len(parts)-1] {
-		at := strings.Index(rest, part)
-		if at < 0 {
+		start := strings.Index(rest, part)
+		if start < 0 {
 			return false
 		}
-		rest = rest[at+len(part):]
+		rest = rest[start+len(part):]
 	}
 	return strings.HasSuffix(rest, parts[len(parts)-1])
 }

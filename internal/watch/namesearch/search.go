@@ -7,20 +7,20 @@ import (
 	"wagtenib/bindings/go/wagtenib"
 )
 
-// Place says where in a certificate a watched name was found.
+// Place is the place in a certificate where a watched name was found.
 type Place string
 
 // The places, from the surest to the least sure.
 const (
-	InAltName    Place = "san"        // a name of subjectAltName covers it: the library's verdict
-	InCommonName Place = "cn"         // a common name covers it: the library's verdict
-	LikeAltName  Place = "like-san"   // a name of subjectAltName may match it, by the readings of this package
-	LikeCommon   Place = "like-cn"    // a common name may match it, by the readings of this package
-	InBytes      Place = "bytes"      // only the bytes of the certificate have it: the library's verdict
-	Everywhere   Place = "everything" // the watch list has every certificate reported
+	InAltName    Place = "san"        // the library finds that the watched name covers a name of subjectAltName
+	InCommonName Place = "cn"         // the library finds that the watched name covers a common name
+	LikeAltName  Place = "like-san"   // this package finds that a name of subjectAltName may match
+	LikeCommon   Place = "like-cn"    // this package finds that a common name may match
+	InBytes      Place = "bytes"      // the library finds the watched name only in the bytes of the certificate
+	Everywhere   Place = "everything" // the watch list selects every certificate
 )
 
-// IsProved reports whether the place is a verdict of the proved library.
+// IsProved reports whether the proved library found the place.
 func (p Place) IsProved() bool { return p == InAltName || p == InCommonName || p == InBytes }
 
 // Match is a watched name that was found.
@@ -29,27 +29,27 @@ type Match struct {
 	Place Place
 }
 
-// Result is what a certificate has.
+// Result holds what Search found in a certificate.
 type Result struct {
-	Matches []Match         // the watched names that it has, in the order of the watch list
-	Names   []wagtenib.Name // its names, in their order; nil if they cannot be read
-	Fault   error           // why the names cannot be read, as of wagtenib.CertificateNames; nil if they can
+	Matches []Match         // the watched names that were found, in the order of the watch list
+	Names   []wagtenib.Name // the certificate's names, in their order; nil if they cannot be read
+	Fault   error           // the error of wagtenib.CertificateNames; nil if the names can be read
 }
 
 // Searcher searches certificates for watched names. Any number of goroutines may use it at once.
 type Searcher struct {
 	names   []Name
 	list    wagtenib.WatchList
-	of      []int      // the index in names of each name of list
-	labels  [][]string // of the domains, by the index in names
+	indexes []int      // the index in names of each name of list
+	labels  [][]string // the labels of the domain of each of names
 	inBytes bool
 }
 
 // Option changes how a Searcher searches.
 type Option func(*Searcher)
 
-// WithBytes has the bytes of every certificate searched, and not only those of a certificate whose names cannot be
-// read. A short name, and the host of a CA, are in the bytes of many certificates of others.
+// WithBytes lets a Searcher search the bytes of every certificate. Without it, only the bytes of a certificate whose
+// names cannot be read are searched. The bytes of many other certificates contain a short name, or the host of a CA.
 func WithBytes() Option { return func(s *Searcher) { s.inBytes = true } }
 
 // NewSearcher returns a searcher for these names.
@@ -58,7 +58,7 @@ func NewSearcher(names []Name, options ...Option) *Searcher {
 	var patterns []string
 	for i, name := range names {
 		for _, pattern := range name.patterns() {
-			patterns, s.of = append(patterns, pattern), append(s.of, i)
+			patterns, s.indexes = append(patterns, pattern), append(s.indexes, i)
 		}
 		s.labels = append(s.labels, strings.Split(name.domain, "."))
 	}
@@ -73,8 +73,8 @@ func NewSearcher(names []Name, options ...Option) *Searcher {
 func (s *Searcher) Names() []Name { return s.names }
 
 // Search searches a certificate (wagtenib.X509Entry), or the TBSCertificate of a precertificate
-// (wagtenib.PrecertEntry), both in DER. The error is wagtenib.ErrMemory; a certificate that cannot be read is a
-// Result with a Fault.
+// (wagtenib.PrecertEntry), both in DER. The error is nil or wagtenib.ErrMemory. If the certificate cannot be read, the
+// Result has a Fault.
 func (s *Searcher) Search(entryType wagtenib.EntryType, certificate []byte) (Result, error) {
 	names, err := wagtenib.CertificateNames(entryType, certificate)
 	if errors.Is(err, wagtenib.ErrMemory) {
@@ -93,7 +93,7 @@ func (s *Searcher) Search(entryType wagtenib.EntryType, certificate []byte) (Res
 		return Result{}, err
 	}
 	for _, one := range found {
-		place := &places[s.of[one.Position]]
+		place := &places[s.indexes[one.Position]]
 		if one.Place == wagtenib.InAltName {
 			*place = InAltName
 		} else if *place == "" {
@@ -109,21 +109,21 @@ func (s *Searcher) Search(entryType wagtenib.EntryType, certificate []byte) (Res
 	return Result{Names: names, Matches: s.matches(places)}, nil
 }
 
-// addBytes sets the places of watched names that have none, and that the bytes of the certificate have.
+// addBytes sets the places of watched names that have none, and that are in the bytes of the certificate.
 func (s *Searcher) addBytes(places []Place, certificate []byte) error {
 	found, err := wagtenib.NamesInBytes(certificate, s.list)
 	if err != nil {
 		return err
 	}
 	for _, one := range found {
-		if place := &places[s.of[one.Position]]; *place == "" {
+		if place := &places[s.indexes[one.Position]]; *place == "" {
 			*place = InBytes
 		}
 	}
 	return nil
 }
 
-// addReadings sets the places of watched names that the library does not find, and that a name may match.
+// addReadings sets the places of watched names that have none, and that a reading of a name may match.
 func (s *Searcher) addReadings(places []Place, names []wagtenib.Name) {
 	for _, name := range names {
 		if isPlain(name) {
@@ -145,7 +145,7 @@ func (s *Searcher) addReadings(places []Place, names []wagtenib.Name) {
 	}
 }
 
-// matches returns the watched names that have a place. A name that every certificate matches has one.
+// matches returns the watched names that have a place. A name that matches every certificate always has one.
 func (s *Searcher) matches(places []Place) []Match {
 	var matches []Match
 	for i, name := range s.names {

@@ -49,12 +49,14 @@ func alt(tag int, value string) []testcert.Name {
 	return []testcert.Name{{Tag: tag, Bytes: []byte(value)}}
 }
 
-// row is a certificate, and where the watched names example.org, =www.example.org and bücher.example are found in it.
+// row describes a certificate, and the places where each watched name is found in it.
 type row struct {
-	what                     string
-	subject                  pkix.Name
-	names                    []testcert.Name
-	below, alone, otherwords namesearch.Place
+	what    string
+	subject pkix.Name
+	names   []testcert.Name
+	domain  namesearch.Place // of example.org
+	exact   namesearch.Place // of =www.example.org
+	idn     namesearch.Place // of bücher.example
 }
 
 const (
@@ -65,8 +67,8 @@ const (
 	likeCN  = namesearch.LikeCommon
 )
 
-// rows are those of the table beside certspotter (tests/names/beside.py). certspotter 0.16 reports each one that has a
-// place here, except of mail addresses, URIs and IP addresses, which it does not read.
+// rows returns the rows of the comparison with certspotter (tests/names/beside.py). certspotter 0.16 reports each
+// certificate that has a place here, except for mail addresses, URIs and IP addresses, which it does not read.
 func rows() []row {
 	common := func(tag int, value []byte) pkix.Name { return testcert.CommonName(tag, value) }
 	return []row{
@@ -87,9 +89,9 @@ func rows() []row {
 		{"PrintableString", common(printableString, []byte("www.example.org")), nil, cn, cn, no},
 		{"IA5String", common(ia5String, []byte("www.example.org")), nil, cn, cn, no},
 		{"T61String", common(t61String, []byte("www.example.org")), nil, cn, cn, no},
-		{"a stranger that ends so", pkix.Name{}, dns("notexample.org"), no, no, no},
-		{"a stranger that begins so", pkix.Name{}, dns("example.org.evil.net"), no, no, no},
-		{"a stranger that has it in it", pkix.Name{}, dns("www.example.organic.com"), no, no, no},
+		{"another host that ends in the same way", pkix.Name{}, dns("notexample.org"), no, no, no},
+		{"another host that begins in the same way", pkix.Name{}, dns("example.org.evil.net"), no, no, no},
+		{"another host that contains the name", pkix.Name{}, dns("www.example.organic.com"), no, no, no},
 		{"organization", pkix.Name{Organization: []string{"Friends of example.org"}}, nil, no, no, no},
 		{"other", pkix.Name{}, dns("other.net"), no, no, no},
 		{"below the exact name", pkix.Name{}, dns("sub.www.example.org"), san, no, no},
@@ -99,7 +101,7 @@ func rows() []row {
 		{"star in the middle", pkix.Name{}, dns("www.*.org"), likeSAN, likeSAN, no},
 		{"star in a label", pkix.Name{}, dns("w*.example.org"), san, likeSAN, no},
 		{"star for a part of another", pkix.Name{}, dns("*ple.org"), likeSAN, no, no},
-		{"star of a stranger", pkix.Name{}, dns("a*.org"), no, no, no},
+		{"star in another host", pkix.Name{}, dns("a*.org"), no, no, no},
 		{"a path in a label", pkix.Name{}, dns("a/b.example.org"), san, no, no},
 		{"a port in a label", pkix.Name{}, dns("a:1.example.org"), san, no, no},
 		{"IDN in letters", pkix.Name{}, dns("bücher.example"), no, no, san},
@@ -108,11 +110,11 @@ func rows() []row {
 		{"IDN in Latin-1", pkix.Name{}, dns("b\xfccher.example"), no, no, likeSAN},
 		{"IDN in a UniversalString", common(universalString, universal("bücher.example")), nil, no, no, likeCN},
 		{"hidden label", pkix.Name{}, dns("?.example.org"), san, likeSAN, no},
-		{"hidden label of a stranger", pkix.Name{}, dns("?.example.net"), no, no, no},
+		{"hidden label of another host", pkix.Name{}, dns("?.example.net"), no, no, no},
 		{"URL as host", pkix.Name{}, dns("https://www.example.org/"), likeSAN, likeSAN, no},
 		{"host with port", pkix.Name{}, dns("www.example.org:443"), likeSAN, likeSAN, no},
 		{"NUL", pkix.Name{}, dns("www.example.org\x00.evil.net"), likeSAN, likeSAN, no},
-		{"NUL before a stranger", pkix.Name{}, dns("www.evil.net\x00.evil.com"), no, no, no},
+		{"NUL in another host", pkix.Name{}, dns("www.evil.net\x00.evil.com"), no, no, no},
 		{"spaces around a common name", common(utf8String, []byte("  www.example.org ")), nil, likeCN, likeCN, no},
 		{"user and host in a URI", pkix.Name{}, alt(testcert.URI, "https://example.org@evil.net/example.org"), no,
 			no, no},
@@ -121,7 +123,8 @@ func rows() []row {
 	}
 }
 
-// TestFindsEachName: each row's certificate and its precertificate are found where they are due, and nothing else is.
+// TestFindsEachName: in the certificate and the precertificate of each row, the watched names are found at the places
+// of the row, and nowhere else.
 func TestFindsEachName(t *testing.T) {
 	authority := testcert.NewAuthority(t)
 	watched := parseAll(t, "example.org", "=www.example.org", "bücher.example")
@@ -138,12 +141,12 @@ func TestFindsEachName(t *testing.T) {
 			for _, match := range result.Matches {
 				got[match.Name] = match.Place
 				if hosts := match.Name.Hosts(result.Names, 20); len(hosts) != 1 {
-					t.Errorf("%s, type %d: %q is in the names %q", row.what, entryType, match.Name, hosts)
+					t.Errorf("%s, type %d: %q is in the names %q, and not in one", row.what, entryType, match.Name, hosts)
 				}
 			}
-			for i, want := range []namesearch.Place{row.below, row.alone, row.otherwords} {
+			for i, want := range []namesearch.Place{row.domain, row.exact, row.idn} {
 				if got[watched[i]] != want {
-					t.Errorf("%s, type %d: %q is found %q, and not %q", row.what, entryType, watched[i],
+					t.Errorf("%s, type %d: the place of %q is %q, and not %q", row.what, entryType, watched[i],
 						got[watched[i]], want)
 				}
 			}
@@ -151,7 +154,7 @@ func TestFindsEachName(t *testing.T) {
 	}
 }
 
-// TestFindsAddresses: an address is found in an iPAddress, in a URI (also in brackets), and as a common name.
+// TestFindsAddresses: an address is found in an iPAddress, in a URI (with and without brackets), and as a common name.
 func TestFindsAddresses(t *testing.T) {
 	authority := testcert.NewAuthority(t)
 	watched := parseAll(t, "192.0.2.7", "2001:db8::1")
@@ -181,9 +184,8 @@ func TestFindsAddresses(t *testing.T) {
 	}
 }
 
-// TestSearchesBytesOnlyIfAsked: an issuer's name and an organization are no names of the owner, unless bytes are
-// searched.
-func TestSearchesBytesOnlyIfAsked(t *testing.T) {
+// TestSearchesBytesOnlyWithTheOption: a watched name in the organization is found only with the option WithBytes.
+func TestSearchesBytesOnlyWithTheOption(t *testing.T) {
 	one := testcert.NewAuthority(t).IssueNames(pkix.Name{Organization: []string{"Friends of EXAMPLE.org"}},
 		dns("other.net")...)
 	watched := parseAll(t, "example.org", "absent.example")
@@ -202,7 +204,7 @@ func TestSearchesBytesOnlyIfAsked(t *testing.T) {
 	}
 }
 
-// TestReportsUnreadNames: a certificate that is cut off has a fault, and its bytes are searched.
+// TestReportsUnreadNames: the result for a certificate that is cut off has a fault, and its bytes are searched.
 func TestReportsUnreadNames(t *testing.T) {
 	one := testcert.NewAuthority(t).Issue("www.example.org")
 	watched := parseAll(t, "example.org", "absent.example")
@@ -214,9 +216,9 @@ func TestReportsUnreadNames(t *testing.T) {
 	}
 }
 
-// TestSearchesBytesForEachWord: of a certificate that cannot be read, the bytes are searched for an address, for an
-// exact name, and for both spellings of a name with letters beyond ASCII.
-func TestSearchesBytesForEachWord(t *testing.T) {
+// TestSearchesBytesForEachKindOfName: the bytes of a certificate that cannot be read are searched for an address, for
+// an exact name, and for both spellings of a name with letters beyond ASCII.
+func TestSearchesBytesForEachKindOfName(t *testing.T) {
 	watched := parseAll(t, "192.0.2.7", "=www.example.org", "bücher.example", "absent.example")
 	for text, want := range map[string][]namesearch.Match{
 		"http://192.0.2.7/":     {{Name: watched[0], Place: namesearch.InBytes}},
@@ -233,7 +235,7 @@ func TestSearchesBytesForEachWord(t *testing.T) {
 	}
 }
 
-// TestFindsTheLastOfManyNames: a certificate with 100,000 names is read whole.
+// TestFindsTheLastOfManyNames: all names of a certificate with 100,000 names are read.
 func TestFindsTheLastOfManyNames(t *testing.T) {
 	var hosts []string
 	for i := range 100_000 {
@@ -250,8 +252,8 @@ func TestFindsTheLastOfManyNames(t *testing.T) {
 	}
 }
 
-// TestShowsTheFirstHosts: of 25 names that match, the first 20 are shown if there is room for 20, and all if there is
-// more.
+// TestShowsTheFirstHosts: Hosts returns the first 20 of 25 matching names with a limit of 20, and all with a larger
+// limit.
 func TestShowsTheFirstHosts(t *testing.T) {
 	var hosts []string
 	for i := range 25 {
@@ -266,8 +268,8 @@ func TestShowsTheFirstHosts(t *testing.T) {
 	}
 }
 
-// TestShowsTheHostOfALongName: a name with more bytes than any host, which the library finds below a watched name, is
-// among the hosts of the match. It is not among those of an exact name that it only ends with.
+// TestShowsTheHostOfALongName: Hosts returns a name that is longer than any host if the library finds it below a
+// watched name. It does not return it for an exact name with which the long name only ends.
 func TestShowsTheHostOfALongName(t *testing.T) {
 	authority, watched := testcert.NewAuthority(t), parseAll(t, "example.org", "=www.example.org")
 	long := strings.Repeat("a", 100_000)
@@ -289,9 +291,9 @@ func TestShowsTheHostOfALongName(t *testing.T) {
 	}
 }
 
-// TestIssuanceIsOfBoth: a precertificate and its certificate are one issuance, and another certificate is another
-// one, even with the same serial number and key.
-func TestIssuanceIsOfBoth(t *testing.T) {
+// TestOneIssuanceForBoth: a precertificate and its certificate are one issuance. Another certificate is another
+// issuance, even with the same serial number and key.
+func TestOneIssuanceForBoth(t *testing.T) {
 	authority := testcert.NewAuthority(t)
 	one := authority.Issue("www.example.org")
 	certificate, precertificate := namesearch.Issuance(wagtenib.X509Entry, one.Certificate.Raw),
@@ -312,11 +314,11 @@ func TestIssuanceIsOfBoth(t *testing.T) {
 		t.Error("without SCTs the issuance is not the hash of the TBSCertificate")
 	}
 	if namesearch.Issuance(wagtenib.X509Entry, []byte("x")) != sha256.Sum256([]byte("x")) {
-		t.Error("bytes that are no certificate have no issuance")
+		t.Error("the issuance of bytes that are not a certificate is not their hash")
 	}
 }
 
-// TestReadsDetails: crypto/x509 reads the same fields.
+// TestReadsDetails: ReadDetails reads the same fields as crypto/x509.
 func TestReadsDetails(t *testing.T) {
 	one := testcert.NewAuthority(t).IssueNames(pkix.Name{CommonName: "a, b+c", Organization: []string{"Ö"},
 		Country: []string{"DE"}}, dns("a.example")...)
@@ -341,11 +343,11 @@ func TestReadsDetails(t *testing.T) {
 	}
 }
 
-func parseAll(t testing.TB, words ...string) []namesearch.Name {
+func parseAll(t testing.TB, texts ...string) []namesearch.Name {
 	t.Helper()
 	var names []namesearch.Name
-	for _, word := range words {
-		name, err := namesearch.ParseName(word)
+	for _, text := range texts {
+		name, err := namesearch.ParseName(text)
 		if err != nil {
 			t.Fatal(err)
 		}
@@ -354,7 +356,7 @@ func parseAll(t testing.TB, words ...string) []namesearch.Name {
 	return names
 }
 
-// BenchmarkSearch searches a certificate with three names of others for 1,000 watched names.
+// BenchmarkSearch searches a certificate with three other names for 1,000 watched names.
 func BenchmarkSearch(b *testing.B) {
 	var watched []namesearch.Name
 	for i := range 1000 {
@@ -369,8 +371,8 @@ func BenchmarkSearch(b *testing.B) {
 	}
 }
 
-// FuzzSearch: no bytes make the search, the details or the issuance fail, and a name that is found has a host or a
-// fault.
+// FuzzSearch: Search, ReadDetails and Issuance do not fail for any bytes. A watched name that is found has a host,
+// unless the result has a fault.
 func FuzzSearch(f *testing.F) {
 	authority := testcert.NewAuthority(f)
 	for _, row := range rows() {
@@ -390,7 +392,7 @@ func FuzzSearch(f *testing.F) {
 		}
 		for _, match := range result.Matches {
 			if result.Fault == nil && len(match.Name.Hosts(result.Names, 20)) == 0 {
-				t.Errorf("%s is found %s, and in no name of %q", match.Name, match.Place, result.Names)
+				t.Errorf("%s is found at the place %s, but in none of the names %q", match.Name, match.Place, result.Names)
 			}
 		}
 		namesearch.ReadDetails(entryType, der)

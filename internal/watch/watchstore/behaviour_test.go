@@ -20,7 +20,7 @@ import (
 	"wagtenib/internal/watch/watchstore"
 )
 
-// next returns what an output gets.
+// next returns the next alerts for the output "test".
 func next(t *testing.T, store *watchstore.Store) []alert.Alert {
 	t.Helper()
 	alerts, err := store.Next("test", 1000)
@@ -28,7 +28,8 @@ func next(t *testing.T, store *watchstore.Store) []alert.Alert {
 	return alerts
 }
 
-// TestFindsNamesThatAreAddedLater: a name that was not watched is found in what the store has, once, and says so.
+// TestFindsNamesThatAreAddedLater: a name that is added to the watched ones is found in the stored certificates. There
+// is one alert, which says that the certificate is from the store.
 func TestFindsNamesThatAreAddedLater(t *testing.T) {
 	authority, folder := testcert.NewAuthority(t), t.TempDir()
 	both, only, neither := authority.Issue("a.example.org", "b.example.net"), authority.Issue("c.example.net"),
@@ -64,8 +65,8 @@ func TestFindsNamesThatAreAddedLater(t *testing.T) {
 	}
 }
 
-// TestFindsAddedNamesInEveryCertificate: a name that is added later is found in each of more certificates than are
-// searched at a time.
+// TestFindsAddedNamesInEveryCertificate: a name that is added later is found in each stored certificate, although there
+// are more of them than one transaction searches.
 func TestFindsAddedNamesInEveryCertificate(t *testing.T) {
 	const many = 1100
 	folder, der := t.TempDir(), testcert.NewAuthority(t).Issue("h0000.example.org").Certificate.Raw
@@ -122,11 +123,11 @@ func TestExpectedCauseNoAlert(t *testing.T) {
 	}
 }
 
-// TestExpectsNoUnreadCertificate: a certificate whose names cannot be read causes an alert, whoever issued it: nobody
-// can say what it is for.
+// TestExpectsNoUnreadCertificate: a certificate whose names cannot be read causes an alert even if its issuer is
+// expected, because nobody knows its purpose.
 func TestExpectsNoUnreadCertificate(t *testing.T) {
 	one := testcert.NewAuthority(t).Issue("a.example.org").Certificate.Raw
-	// (a dNSName that is longer than the list of names; all before it can be read)
+	// The length of a dNSName is larger than the list of names. All fields before it can be read.
 	damaged := bytes.Replace(one, []byte("\x82\x0da.example.org"), []byte("\x82\x7fa.example.org"), 1)
 	store := open(t, t.TempDir(), watchstore.Options{Searcher: searcher("example.org"),
 		Expected: watchstore.Expected{Issuers: []string{"An authority"}}})
@@ -139,8 +140,8 @@ func TestExpectsNoUnreadCertificate(t *testing.T) {
 	}
 }
 
-// TestReportsUnread: a certificate whose names cannot be read, and a leaf that is none, are reported as the setting
-// says.
+// TestReportsUnread: the setting decides whether there is an alert about a certificate whose names cannot be read, and
+// about bytes that are not a leaf.
 func TestReportsUnread(t *testing.T) {
 	authority := testcert.NewAuthority(t)
 	mentions, other := authority.Issue("a.example.org").Certificate.Raw, authority.Issue("other.net").Certificate.Raw
@@ -171,7 +172,8 @@ func TestReportsUnread(t *testing.T) {
 	}
 }
 
-// TestKeepsStatesAndHeads: a state comes back as it was kept, and of the accepted heads of a log the newest 1,000 stay.
+// TestKeepsStatesAndHeads: Load returns the state of the last Keep, and the store has the newest 1,000 accepted heads
+// of a log.
 func TestKeepsStatesAndHeads(t *testing.T) {
 	folder := t.TempDir()
 	store, err := watchstore.Open(folder, watchstore.Options{})
@@ -202,7 +204,7 @@ func TestKeepsStatesAndHeads(t *testing.T) {
 	}
 }
 
-// TestKeepsEvidence: evidence comes back file by file, and causes an alert.
+// TestKeepsEvidence: the store returns each file of the evidence, and has an alert about it.
 func TestKeepsEvidence(t *testing.T) {
 	folder := t.TempDir()
 	store := open(t, folder, watchstore.Options{})
@@ -230,44 +232,44 @@ func TestKeepsEvidence(t *testing.T) {
 	}
 }
 
-// TestKeepsEvidenceOnce: after a restart a follower finds the same evidence again, which causes no second alert. A log
+// TestKeepsEvidenceOnce: after a restart, a follower finds the same evidence again, which causes no second alert. A log
 // cannot fill the store with evidence that nobody looks at.
 func TestKeepsEvidenceOnce(t *testing.T) {
 	folder := t.TempDir()
 	store := open(t, folder, watchstore.Options{})
 	must(t, store.UseOutputs([]string{"test"}))
-	of := func(minute int64, head string) watch.Evidence {
+	evidenceOf := func(minute int64, head string) watch.Evidence {
 		evidence, err := watch.NewEvidence(logOf(2), time.Unix(60*minute, 0), watch.VerdictFork, "two roots",
 			map[string][]byte{watch.FileHead: []byte(head)})
 		must(t, err)
 		return evidence
 	}
-	wants := func(due int) {
+	checkAlerts := func(expected int) {
 		t.Helper()
-		if alerts := next(t, store); len(alerts) != due {
-			t.Errorf("%d alerts, and %d are due", len(alerts), due)
+		if alerts := next(t, store); len(alerts) != expected {
+			t.Errorf("%d alerts, and %d are expected", len(alerts), expected)
 		}
 	}
-	must(t, store.Accuse(logOf(2), watch.State{Read: 5}, of(1, "a")))
-	must(t, store.Accuse(logOf(2), watch.State{Read: 6}, of(2, "a")))
-	wants(1)
+	must(t, store.Accuse(logOf(2), watch.State{Read: 5}, evidenceOf(1, "a")))
+	must(t, store.Accuse(logOf(2), watch.State{Read: 6}, evidenceOf(2, "a")))
+	checkAlerts(1)
 	if state, err := store.Load(logOf(2).ID); err != nil || state.Read != 6 {
 		t.Errorf("the state of the second call: %+v %v", state, err)
 	}
-	must(t, store.Accuse(logOf(2), watch.State{}, of(3, "b")))
-	must(t, store.Accuse(logOf(1), watch.State{}, of(4, "a")))
-	wants(3)
+	must(t, store.Accuse(logOf(2), watch.State{}, evidenceOf(3, "b")))
+	must(t, store.Accuse(logOf(1), watch.State{}, evidenceOf(4, "a")))
+	checkAlerts(3)
 	for i := range int64(40) {
-		must(t, store.Accuse(logOf(2), watch.State{}, of(5, fmt.Sprint("head ", i))))
+		must(t, store.Accuse(logOf(2), watch.State{}, evidenceOf(5, fmt.Sprint("head ", i))))
 	}
-	wants(17)
+	checkAlerts(17)
 	must(t, store.MarkSeen(1))
-	must(t, store.Accuse(logOf(2), watch.State{}, of(6, "after somebody has looked")))
-	wants(18)
+	must(t, store.Accuse(logOf(2), watch.State{}, evidenceOf(6, "after somebody has looked")))
+	checkAlerts(18)
 }
 
-// TestAlertsToSilence: a log that cannot be read for a day causes an alert, and another one a day later.
-func TestAlertsToSilence(t *testing.T) {
+// TestAlertsAboutASilentLog: a log that cannot be read for a day causes an alert, and another one a day later.
+func TestAlertsAboutASilentLog(t *testing.T) {
 	now := time.UnixMilli(1_770_000_000_000).UTC()
 	store := open(t, t.TempDir(), watchstore.Options{Now: func() time.Time { return now }})
 	must(t, store.UseOutputs([]string{"test"}))
@@ -300,8 +302,8 @@ func TestAlertsToSilence(t *testing.T) {
 	}
 }
 
-// TestAlertsToTheLogList: a log list that cannot be read has an alert without a log.
-func TestAlertsToTheLogList(t *testing.T) {
+// TestAlertsAboutTheLogList: the alert about a log list that cannot be read names no log.
+func TestAlertsAboutTheLogList(t *testing.T) {
 	store := open(t, t.TempDir(), watchstore.Options{})
 	must(t, store.UseOutputs([]string{"test"}))
 	must(t, store.AlertList("it could not be read for 24h0m0s: 503"))
@@ -311,8 +313,8 @@ func TestAlertsToTheLogList(t *testing.T) {
 	}
 }
 
-// TestKeepsACertificateWithManyNames: of 100,000 names an alert has 20 and their number, and a query finds the last
-// one.
+// TestKeepsACertificateWithManyNames: the alert about a certificate with 100,000 names has 20 of them and the number of
+// all. A query finds the last one.
 func TestKeepsACertificateWithManyNames(t *testing.T) {
 	var hosts []string
 	for i := range 100_000 {
@@ -337,8 +339,9 @@ func TestKeepsACertificateWithManyNames(t *testing.T) {
 	}
 }
 
-// TestQueries: a name finds what is below it and wildcards over it, an exact one only itself, and both what is valid.
-func TestQueries(t *testing.T) {
+// TestFindsByNameAndTime: a query for a name finds it, the names below it and wildcards over it. A query for an exact
+// name finds only itself and wildcards over it. Both find only certificates that are valid at the time of the query.
+func TestFindsByNameAndTime(t *testing.T) {
 	authority := testcert.NewAuthority(t)
 	store := open(t, t.TempDir(), watchstore.Options{KeepAll: true})
 	for i, host := range []string{"example.org", "www.example.org", "*.example.org", "*.org", "notexample.org",

@@ -17,7 +17,8 @@ import (
 	"wagtenib/internal/watch/watchstore"
 )
 
-// TestFullDiskLosesNothing: while files cannot grow, Keep fails and stores nothing. The same call then stores all.
+// TestFullDiskLosesNothing: while files cannot grow, Keep fails and stores nothing. Afterwards, the same call stores
+// all.
 func TestFullDiskLosesNothing(t *testing.T) {
 	authority := testcert.NewAuthority(t)
 	folder := t.TempDir()
@@ -42,7 +43,8 @@ func TestFullDiskLosesNothing(t *testing.T) {
 	}
 }
 
-// TestRefusesDamagedStores: a store that was overwritten, cut or replaced is refused by its name, with the remedy.
+// TestRefusesDamagedStores: Open refuses a store that was overwritten, cut or replaced. The error names it and the
+// remedy.
 func TestRefusesDamagedStores(t *testing.T) {
 	for what, damage := range map[string]func(content []byte) []byte{
 		"overwritten in the middle": func(content []byte) []byte {
@@ -59,7 +61,7 @@ func TestRefusesDamagedStores(t *testing.T) {
 		"cut":          func(content []byte) []byte { return content[:len(content)/2] },
 		"another file": func([]byte) []byte { return []byte(strings.Repeat("a line of text\n", 1000)) },
 	} {
-		path := madeStore(t)
+		path := makeStore(t)
 		content, err := os.ReadFile(path)
 		must(t, err)
 		must(t, os.WriteFile(path, damage(content), 0o600))
@@ -71,20 +73,20 @@ func TestRefusesDamagedStores(t *testing.T) {
 	}
 }
 
-// TestNamesWhatIsDamaged flips a bit of a store, or cuts it, at many places. It is refused by its name, or each answer
-// is the right one, or an error that names it. SQLite has no checksum of a row, so a text or a number can be another
-// one; a certificate and the state of a log cannot.
-func TestNamesWhatIsDamaged(t *testing.T) {
-	path := madeStore(t)
+// TestNamesADamagedStore flips a bit of a store, or cuts it, at many places. Open and each query then return the right
+// answer, or an error that names the store. SQLite has no checksum of a row, so a wrong text or number is possible, but
+// not a wrong certificate or state of a log.
+func TestNamesADamagedStore(t *testing.T) {
+	path := makeStore(t)
 	whole, err := os.ReadFile(path)
 	must(t, err)
-	folder, chance := t.TempDir(), rand.New(rand.NewPCG(1, 2))
+	folder, random := t.TempDir(), rand.New(rand.NewPCG(1, 2))
 	certificates := certificatesOf(t, filepath.Dir(path))
 	refused := 0
 	for round := range 150 {
-		damaged, at := bytes.Clone(whole), chance.IntN(len(whole))
-		if damaged[at] ^= 1 << chance.IntN(8); round%5 == 0 {
-			damaged = damaged[:at]
+		damaged, offset := bytes.Clone(whole), random.IntN(len(whole))
+		if damaged[offset] ^= 1 << random.IntN(8); round%5 == 0 {
+			damaged = damaged[:offset]
 		}
 		must(t, os.WriteFile(filepath.Join(folder, watchstore.FileName), damaged, 0o600))
 		store, err := watchstore.Open(folder, watchstore.Options{Searcher: searcher("example.org")})
@@ -92,13 +94,13 @@ func TestNamesWhatIsDamaged(t *testing.T) {
 			for hash, der := range certificates {
 				found, fault := store.Certificate(hash)
 				if fault == nil && !bytes.Equal(found, der) {
-					t.Fatalf("round %d: certificate %s is another one", round, hash)
+					t.Fatalf("round %d: the store returns other bytes for certificate %s", round, hash)
 				}
 				err = errors.Join(err, ignoreAbsent(fault))
 			}
-			_, failed := store.Next("test", 100)
-			_, stateless := store.Load(logOf(0).ID)
-			err = errors.Join(err, failed, stateless, store.Close())
+			_, nextErr := store.Next("test", 100)
+			_, loadErr := store.Load(logOf(0).ID)
+			err = errors.Join(err, nextErr, loadErr, store.Close())
 		}
 		if err == nil {
 			continue
@@ -113,11 +115,12 @@ func TestNamesWhatIsDamaged(t *testing.T) {
 		}
 	}
 	if refused < 30 {
-		t.Errorf("only %d damaged stores were named", refused)
+		t.Errorf("only %d damaged stores were refused", refused)
 	}
 }
 
-// ignoreAbsent returns an error unless it is that a certificate is not there: a flipped bit of its hash hides it.
+// ignoreAbsent returns nil for ErrAbsent, because a flipped bit in its hash hides a certificate. It returns all other
+// errors.
 func ignoreAbsent(err error) error {
 	if errors.Is(err, watchstore.ErrAbsent) {
 		return nil
@@ -144,11 +147,11 @@ func certificatesOf(t *testing.T, folder string) map[string][]byte {
 	return certificates
 }
 
-// TestRefusesOtherStores: a database of another program, and one of a later version, are refused by name.
+// TestRefusesOtherStores: a database of another program, and one of a later version, are refused. The error names them.
 func TestRefusesOtherStores(t *testing.T) {
 	for what, statement := range map[string]string{"another program's": "PRAGMA application_id = 7",
 		"a later one": "PRAGMA user_version = 99"} {
-		path := madeStore(t)
+		path := makeStore(t)
 		db, err := sql.Open("sqlite3", path)
 		must(t, err)
 		_, err = db.Exec(statement)
@@ -164,8 +167,8 @@ func TestRefusesOtherStores(t *testing.T) {
 	}
 }
 
-// TestRefusesASecondProcess: a store is open once to write. Others can read it meanwhile.
-func TestRefusesASecondProcess(t *testing.T) {
+// TestRefusesASecondWriter: only one process can open a store for writing. Others can read it at the same time.
+func TestRefusesASecondWriter(t *testing.T) {
 	folder := t.TempDir()
 	store := open(t, folder, watchstore.Options{Searcher: searcher("example.org")})
 	if _, err := watchstore.Open(folder, watchstore.Options{}); !errors.Is(err, watchstore.ErrInUse) ||
@@ -185,9 +188,9 @@ func TestRefusesASecondProcess(t *testing.T) {
 	}
 }
 
-// TestMarksWhatWasBegun: an alert that was sent and not marked says "again" after a restart. One that was not begun
-// does not.
-func TestMarksWhatWasBegun(t *testing.T) {
+// TestMarksAlertsThatWereBegun: after a restart, Again is set in alerts that Begin named and Done did not. It is not
+// set in others.
+func TestMarksAlertsThatWereBegun(t *testing.T) {
 	authority, folder := testcert.NewAuthority(t), t.TempDir()
 	options := watchstore.Options{Searcher: searcher("example.org")}
 	store, err := watchstore.Open(folder, options)
@@ -214,7 +217,7 @@ func TestMarksWhatWasBegun(t *testing.T) {
 	}
 	must(t, store.Failed("test", 2, errors.New("no")))
 	if alerts, err := store.Next("test", 9); err != nil || !alerts[0].Again || alerts[1].Again {
-		t.Errorf("what was not tried says again: %v", err)
+		t.Errorf("Again is not set in the alert that was tried, or is set in the one that was not: %v", err)
 	}
 	if outputs, err := store.Outputs(); err != nil || len(outputs) != 2 ||
 		outputs[1] != (watchstore.Output{Name: "test", Waiting: 3, Fault: "no"}) {
@@ -222,8 +225,8 @@ func TestMarksWhatWasBegun(t *testing.T) {
 	}
 }
 
-// madeStore returns the path of a closed store with findings.
-func madeStore(t *testing.T) string {
+// makeStore returns the path of a closed store with findings.
+func makeStore(t *testing.T) string {
 	t.Helper()
 	folder, authority := t.TempDir(), testcert.NewAuthority(t)
 	store, err := watchstore.Open(folder, watchstore.Options{Searcher: searcher("example.org")})
@@ -233,7 +236,7 @@ func madeStore(t *testing.T) string {
 	}
 	must(t, store.UseOutputs([]string{"test"}))
 	if alerts, err := store.Next("test", 1); err != nil || len(alerts) != 0 {
-		t.Fatalf("a new output gets what was there before: %v %v", []alert.Alert(alerts), err)
+		t.Fatalf("a new output gets alerts that were stored before: %v %v", []alert.Alert(alerts), err)
 	}
 	must(t, store.Close())
 	return filepath.Join(folder, watchstore.FileName)

@@ -12,15 +12,15 @@ import (
 	"wagtenib/internal/watch/namesearch"
 )
 
-// Expected names what an owner expects: a certificate with such a key, or of such an issuer, causes no alert. It is
-// stored.
+// Expected holds the keys and issuers that an owner expects. A certificate with one of these keys, or of one of these
+// issuers, causes no alert. It is still stored.
 type Expected struct {
-	Keys    []string // the SHA-256 hash of a SubjectPublicKeyInfo, in hexadecimal digits
-	Issuers []string // the organization, the common name, or the whole distinguished name of an issuer
+	Keys    []string // SHA-256 hashes of SubjectPublicKeyInfos, in hexadecimal digits
+	Issuers []string // organizations, common names, or whole distinguished names of issuers
 }
 
-// has reports whether a certificate is expected.
-func (e Expected) has(details namesearch.Details) bool {
+// includes reports whether a certificate has an expected key or issuer.
+func (e Expected) includes(details namesearch.Details) bool {
 	if details.KeySHA256 != "" && slices.Contains(e.Keys, details.KeySHA256) {
 		return true
 	}
@@ -32,17 +32,18 @@ func (e Expected) has(details namesearch.Details) bool {
 	return false
 }
 
-// found is an entry that is stored.
+// found is an entry that must be stored.
 type found struct {
 	entry    *watch.Entry
 	issuance [32]byte
 	result   namesearch.Result
 	details  namesearch.Details
-	der      []byte // the certificate or precertificate, or the leaf if it cannot be read
-	tbs      []byte // of a precertificate: what the names are read from
+	der      []byte // the certificate or precertificate, or the leaf if it cannot be decoded
+	tbs      []byte // the TBSCertificate of a precertificate, from which the names are read; nil for a certificate
 }
 
-// search returns the entries that are to be stored: those with a watched name, and those that cannot be read.
+// search returns the entries that must be stored: those with a watched name, those that cannot be read, and with the
+// option KeepAll all others.
 func (s *Store) search(entries []watch.Entry) ([]found, error) {
 	var all []found
 	for i := range entries {
@@ -76,7 +77,7 @@ func foundIn(entry *watch.Entry, result namesearch.Result) found {
 	return one
 }
 
-// keepFound stores an entry, and an alert if its issuance causes one and has none yet.
+// keepFound stores an entry, and an alert if its issuance must have one and has none yet.
 func (s *Store) keepFound(w *writer, log watch.Log, one *found) error {
 	issuance, err := s.keepIssuance(w, one)
 	if err != nil {
@@ -94,11 +95,11 @@ func (s *Store) keepFound(w *writer, log watch.Log, one *found) error {
 	if err := keepMatches(w, issuance, one.result, false); err != nil {
 		return err
 	}
-	return s.alertTo(w, issuance, one.result)
+	return s.addIssuanceAlert(w, issuance, one.result)
 }
 
-// alertTo stores the alert to an issuance, if it causes one and has none yet.
-func (s *Store) alertTo(w *writer, issuance int64, result namesearch.Result) error {
+// addIssuanceAlert stores the alert about an issuance, if it must have one and has none yet.
+func (s *Store) addIssuanceAlert(w *writer, issuance int64, result namesearch.Result) error {
 	kind := alert.Found
 	switch {
 	case result.Fault != nil:
@@ -128,9 +129,9 @@ func (s *Store) keepIssuance(w *writer, one *found) (int64, error) {
 		fault = one.result.Fault.Error()
 	}
 	details := one.details
-	// A certificate whose names cannot be read is never expected: nobody can say what it is for.
+	// A certificate whose names cannot be read is never expected: nobody knows its purpose.
 	once, repeated := namesearch.Once(one.result.Names)
-	isExpected := fault == "" && s.options.Expected.has(details)
+	isExpected := fault == "" && s.options.Expected.includes(details)
 	if _, err := w.exec(`insert into issuances (tbs_sha256, found, subject, issuer, serial_number, not_before,
 		not_after, key_sha256,
 		name_count, fault, is_expected) values (?, ?, ?, ?, ?, ?, ?, ?, ?, ?, ?)`,
@@ -142,7 +143,7 @@ func (s *Store) keepIssuance(w *writer, one *found) (int64, error) {
 	if id, _, err = w.number("select last_insert_rowid()"); err != nil {
 		return 0, err
 	}
-	// The names that repeat a text come last. They are searched and not shown.
+	// The names that repeat the text of another one come last. Queries find them, but alerts do not show them.
 	for position, name := range append(once, repeated...) {
 		text := namesearch.Text(name)
 		if _, err := w.exec("insert into names values (?, ?, ?, ?, ?)", id, position, int64(name.Kind), text,
@@ -177,7 +178,8 @@ func keepMatches(w *writer, issuance int64, result namesearch.Result, isFromStor
 	return nil
 }
 
-// hostKey returns a host with its labels in the other order: hosts below another one begin with its key and a dot.
+// hostKey returns a host with its labels in reverse order: the key of a host below another one begins with that one's
+// key and a dot.
 func hostKey(host string) string {
 	labels := strings.Split(host, ".")
 	slices.Reverse(labels)

@@ -17,8 +17,8 @@ import (
 	"wagtenib/internal/watch/watchstore"
 )
 
-// FuzzKeep keeps an entry with any bytes. The store does not fail, the certificate comes back byte for byte, and every
-// alert is safe: a line and the value of a variable have only characters that can be printed.
+// FuzzKeep stores an entry with any bytes. The store does not fail, returns the same certificate byte for byte, and
+// every alert is safe: a line and the value of a variable contain only printable characters.
 func FuzzKeep(f *testing.F) {
 	authority := testcert.NewAuthority(f)
 	for _, one := range []testcert.Issued{authority.Issue("shop.example.org"), authority.Issue("a\r\n.example.org"),
@@ -65,7 +65,7 @@ func FuzzKeep(f *testing.F) {
 	})
 }
 
-// checkAlert sees that nothing of an alert can do harm on a terminal, in a mail or in a variable of a command.
+// checkAlert checks that no text of an alert can do harm on a terminal, in a mail or in a variable of a command.
 func checkAlert(t *testing.T, one alert.Alert) {
 	t.Helper()
 	texts := append(alert.Environment(one), alert.Line(one), alert.Subject([]alert.Alert{one}))
@@ -73,7 +73,7 @@ func checkAlert(t *testing.T, one alert.Alert) {
 	if slices.ContainsFunc(texts, func(text string) bool {
 		return !utf8.ValidString(text) || strings.ContainsFunc(text, func(c rune) bool { return !unicode.IsPrint(c) })
 	}) {
-		t.Errorf("not all can be printed: %q", texts)
+		t.Errorf("a text has characters that cannot be printed: %q", texts)
 	}
 	if _, err := json.Marshal(one); err != nil {
 		t.Error(err)

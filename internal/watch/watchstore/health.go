@@ -8,20 +8,20 @@ import (
 	"wagtenib/internal/watch/alert"
 )
 
-// Health is how it goes with a whole ctwatch, as its store knows.
+// Health describes whether a whole ctwatch works, according to its store.
 type Health struct {
-	Logs     int      // all logs that were watched
-	Silent   []string // the names of those of which nothing could be read for too long
-	Evidence int64    // how much evidence against logs nobody has looked at
-	Waiting  int64    // alerts that were not sent to an output whose last sending failed
-	Outputs  []string // the names of those outputs
-	Reported time.Time
-	Unread   string // why there is no log yet; empty if that is not known
-	List     string // why the log list cannot be used, and when it was read last; empty if it can
+	Logs     int       // the number of watched logs
+	Silent   []string  // the names of the logs of which nothing could be read for too long
+	Evidence int64     // the number of pieces of evidence against logs that nobody has looked at
+	Waiting  int64     // the number of unsent alerts of outputs whose last sending failed
+	Outputs  []string  // the names of those outputs
+	Reported time.Time // the time of the newest status of a log
+	Unread   string    // why there is no log yet; empty if that is not known
+	List     string    // why the log list cannot be used, and when it was last read; empty if it can be used
 }
 
-// Health returns how it goes. A log that was not read for so long is silent. A log that ctwatch follows no longer
-// counts only until a time of the same length after its last report.
+// Health returns the health of ctwatch. A log of which nothing could be read for the time silentAfter is silent. A log
+// that ctwatch no longer follows stops counting when the newest status of another log is later by silentAfter.
 func (s *Store) Health(silentAfter time.Duration) (Health, error) {
 	var h Health
 	logs, err := s.LogStatuses()
@@ -64,7 +64,7 @@ func (s *Store) Health(silentAfter time.Duration) (Health, error) {
 	return h, err
 }
 
-// setList takes why the log list cannot be used.
+// setList sets the reasons why the log list cannot be used, and why there is no log.
 func (h *Health) setList(list List) {
 	h.List = list.Fault
 	if !list.Read.IsZero() {
@@ -75,7 +75,7 @@ func (h *Health) setList(list List) {
 	}
 }
 
-// neverRead says why there is no log if a log list is followed.
+// neverRead is the text that says why there is no log if a log list is followed.
 const neverRead = "the log list was not read yet"
 
 // String returns the health as one line.

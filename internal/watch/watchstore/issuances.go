@@ -14,10 +14,10 @@ import (
 	"wagtenib/internal/watch/alert"
 )
 
-// folder returns the folder of the store, as people write it.
+// folder returns the folder of the store, as it is written in messages.
 func (s *Store) folder() string { return alert.Safe(filepath.Dir(s.path)) }
 
-// simplePath matches a path that a shell takes as it is.
+// simplePath matches a path that needs no quotes in a shell.
 var simplePath = regexp.MustCompile(`^[A-Za-z0-9_./-]+$`)
 
 // program returns the path by which this program was called, if it is simple, and otherwise its name.
@@ -28,11 +28,11 @@ func program() string {
 	return "ctwatch"
 }
 
-// amongThem is the condition of a query that its first value, a list of numbers in JSON, has the number.
+// amongThem is the part of a query that requires a number to be in the query's first value, a list of numbers in JSON.
 const amongThem = " in (select value from json_each(?1)) "
 
-// certificates returns issuances by their numbers as alerts and queries show them: each text is safe to show. All of
-// them are read by four queries, because a query for each would take most of the time of many alerts.
+// certificates returns issuances by their numbers, as alerts and queries show them. Each text is safe to show. Four
+// queries read all of them, because one query for each issuance would take most of the time of many alerts.
 func (s *Store) certificates(ids []int64) (map[int64]*alert.Certificate, error) {
 	found := make(map[int64]*alert.Certificate, len(ids))
 	if len(ids) == 0 {
@@ -54,7 +54,7 @@ func (s *Store) certificates(ids []int64) (map[int64]*alert.Certificate, error) 
 		s.readSightings(string(list), found))
 }
 
-// readFields reads what the table of issuances has of each of a list.
+// readFields reads the row of each issuance of a list.
 func (s *Store) readFields(list string, found map[int64]*alert.Certificate) error {
 	return s.each(`select id, tbs_sha256, subject, issuer, serial_number, not_before, not_after, key_sha256,
 		name_count, fault, (select sha256 from certificates where issuance = i.id order by id limit 1)
@@ -76,8 +76,8 @@ func (s *Store) readFields(list string, found map[int64]*alert.Certificate) erro
 	})
 }
 
-// readNames reads the first names of each issuance of a list. Their positions count from 0 on, and those from
-// name_count on repeat a text.
+// readNames reads the first names of each issuance of a list. Positions count from 0. The names from position
+// name_count on repeat the text of an earlier one, and are left out.
 func (s *Store) readNames(list string, found map[int64]*alert.Certificate) error {
 	return s.each("select issuance, name from names join issuances on id = issuance where issuance"+amongThem+
 		"and position < min(?2, name_count) order by issuance, position", []any{list, alert.MaxNames},
@@ -92,7 +92,7 @@ func (s *Store) readNames(list string, found map[int64]*alert.Certificate) error
 		})
 }
 
-// readMatches reads the watched names that each issuance of a list has.
+// readMatches reads the watched names that match each issuance of a list.
 func (s *Store) readMatches(list string, found map[int64]*alert.Certificate) error {
 	return s.each("select issuance, name, place, hosts, is_from_store from matches where issuance"+amongThem+
 		"order by issuance, name", []any{list}, func(rows *sql.Rows) error {
@@ -115,7 +115,7 @@ func (s *Store) readMatches(list string, found map[int64]*alert.Certificate) err
 	})
 }
 
-// readSightings reads the first entries of logs in which each issuance of a list is.
+// readSightings reads the earliest log entries of each issuance of a list.
 func (s *Store) readSightings(list string, found map[int64]*alert.Certificate) error {
 	return s.each(`select issuance, name, url, leaf_index, timestamp, type from (
 		select g.issuance, l.name, l.url, g.leaf_index, g.timestamp, g.type, row_number() over (partition by g.issuance

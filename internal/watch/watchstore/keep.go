@@ -11,10 +11,10 @@ import (
 	"wagtenib/internal/watch/alert"
 )
 
-// maxHeads is how many accepted heads of a log are kept, the newest ones.
+// maxHeads is the maximum number of accepted heads that are stored of a log. The oldest are deleted.
 const maxHeads = 1000
 
-// Load returns the state of a log that was kept last. It is the zero State if there is none.
+// Load returns the stored state of a log. It is the zero State if there is none.
 func (s *Store) Load(id watch.LogID) (watch.State, error) {
 	var state watch.State
 	var accepted, waiting string
@@ -35,8 +35,8 @@ func (s *Store) Load(id watch.LogID) (watch.State, error) {
 	return state, nil
 }
 
-// Keep searches the entries, and stores in one transaction what is found and the next state. If it returns an error,
-// such as of a full disk, nothing of it is stored.
+// Keep searches the entries, and stores what it finds and the next state in one transaction. If it returns an error,
+// for example because the disk is full, it has stored nothing.
 func (s *Store) Keep(log watch.Log, next watch.State, entries []watch.Entry) error {
 	found, err := s.search(entries)
 	if err != nil {
@@ -55,12 +55,12 @@ func (s *Store) Keep(log watch.Log, next watch.State, entries []watch.Entry) err
 	})
 }
 
-// maxAccusations is the number of pieces of evidence against one log by one verdict that nobody has looked at. A
-// dishonest log must not fill the disk of its monitor.
+// maxAccusations is the maximum number of pieces of evidence against one log with one verdict that nobody has looked
+// at. A dishonest log must not fill the disk of its monitor.
 const maxAccusations = 16
 
-// Accuse stores evidence against a log together with the next state, and an alert. Of evidence that shows what stored
-// evidence shows, which a follower finds again after a restart, only the state is stored.
+// Accuse stores evidence against a log together with the next state, and an alert. After a restart, a follower finds
+// the same evidence again. Accuse then stores only the state.
 func (s *Store) Accuse(log watch.Log, next watch.State, evidence watch.Evidence) error {
 	return s.write(func(w *writer) error {
 		if err := s.keepState(w, log, next); err != nil {
@@ -89,7 +89,7 @@ func (s *Store) Accuse(log watch.Log, next watch.State, evidence watch.Evidence)
 	})
 }
 
-// isKnown reports whether the store has this evidence, or as much of this kind as it keeps.
+// isKnown reports whether the store has this evidence, or already has the maximum number with its verdict.
 func isKnown(w *writer, log watch.Log, evidence watch.Evidence) (bool, error) {
 	unseen, _, err := w.number("select count(*) from evidence where log = ? and verdict = ? and not is_seen", log.ID[:],
 		evidence.Verdict)
@@ -120,7 +120,7 @@ func isKnown(w *writer, log watch.Log, evidence watch.Evidence) (bool, error) {
 	return false, err
 }
 
-// keepState stores a log, its state and the head that it accepted last.
+// keepState stores a log, its state and its newest accepted head.
 func (s *Store) keepState(w *writer, log watch.Log, next watch.State) error {
 	if err := s.keepLog(w, log); err != nil {
 		return err
@@ -167,7 +167,7 @@ func (s *Store) keepLog(w *writer, log watch.Log) error {
 	return err
 }
 
-// addAlert stores an alert, which each output gets.
+// addAlert stores an alert for all outputs.
 func (s *Store) addAlert(w *writer, kind alert.Kind, issuance, evidence any, log []byte, text string) error {
 	_, err := w.exec("insert into alerts (kind, time, issuance, evidence, log, text) values (?, ?, ?, ?, ?, ?)",
 		string(kind), s.options.Now().UnixMilli(), issuance, evidence, log, text)
@@ -175,7 +175,7 @@ func (s *Store) addAlert(w *writer, kind alert.Kind, issuance, evidence any, log
 	return err
 }
 
-// timeOf returns a time of the store. Zero is no time.
+// timeOf returns the time of a number of the store. Zero is the zero time.
 func timeOf(milliseconds int64) time.Time {
 	if milliseconds == 0 {
 		return time.Time{}
@@ -183,7 +183,7 @@ func timeOf(milliseconds int64) time.Time {
 	return time.UnixMilli(milliseconds).UTC()
 }
 
-// milliseconds returns a time as it is stored.
+// milliseconds returns the number that is stored for a time: milliseconds since 1970, and 0 for the zero time.
 func milliseconds(at time.Time) int64 {
 	if at.IsZero() {
 		return 0

@@ -19,19 +19,20 @@ import (
 	"wagtenib/internal/watch/watchstore"
 )
 
-// The environment of a child that is killed: its folder, and how many entries it keeps.
+// The environment variables of a child process: its folder, and the number of entries that it stores.
 const (
 	childFolder = "WATCHSTORE_CHILD_FOLDER"
 	childTotal  = "WATCHSTORE_CHILD_TOTAL"
 )
 
-// kills is how often the child is killed, and issuances how many it keeps: so many that it does not end before.
+// kills is the maximum number of times that the child is killed. issuances is the number of issuances that it stores,
+// which is large enough that the child rarely ends before it is killed.
 const (
 	kills     = 200
 	issuances = 3 * kills
 )
 
-// TestMain runs the tests, or the child of one.
+// TestMain runs the tests, or is the child process of a test.
 func TestMain(m *testing.M) {
 	if os.Getenv(childFolder) == "" {
 		os.Exit(m.Run())
@@ -43,8 +44,8 @@ func TestMain(m *testing.M) {
 	os.Exit(0)
 }
 
-// keepAndSend keeps entries from where the state is, two a call, each with a name of its own, and sends each alert to
-// a file. It writes a dot after each step, so that its parent can kill it between any two.
+// keepAndSend stores the entries after those of the stored state, two in each call, and writes each alert to a file. It
+// prints a dot before each step, so that its parent can kill it between any two steps.
 func keepAndSend(folder string) error {
 	total, err := strconv.ParseUint(os.Getenv(childTotal), 10, 64)
 	if err != nil {
@@ -91,16 +92,16 @@ func keepAndSend(folder string) error {
 	}
 }
 
-// TestKilledAtAnyMoment kills a process that keeps and sends, again and again, and lets it end at last: each issuance
-// was sent, and none a second time without the word "again".
-func TestKilledAtAnyMoment(t *testing.T) {
+// TestSendsAllAlertsDespiteKills kills a process that stores entries and sends alerts, again and again. The last
+// process ends by itself. Each alert was then sent, and an alert that was sent twice has Again set.
+func TestSendsAllAlertsDespiteKills(t *testing.T) {
 	folder := t.TempDir()
 	authority := testcert.NewAuthority(t)
 	var entries []watch.Entry
-	wanted := map[string]bool{}
+	missing := map[string]bool{}
 	for i := range issuances {
 		host := fmt.Sprintf("h%d.example.org", i)
-		wanted[host] = true
+		missing[host] = true
 		entries = append(entries, entriesOf(authority.Issue(host), uint64(2*i))...)
 	}
 	content, err := json.Marshal(entries)
@@ -136,11 +137,11 @@ func TestKilledAtAnyMoment(t *testing.T) {
 			again++
 		}
 		sent[one.ID] = true
-		delete(wanted, one.Certificate.Names[0])
+		delete(missing, one.Certificate.Names[0])
 	}
 	must(t, lines.Err())
-	if len(wanted) > 0 || len(sent) != issuances {
-		t.Errorf("%d issuances were never sent: %v", len(wanted), wanted)
+	if len(missing) > 0 || len(sent) != issuances {
+		t.Errorf("%d issuances were never sent: %v", len(missing), missing)
 	}
 	if cut > killed {
 		t.Errorf("%d lines are cut off, and only %d processes were killed", cut, killed)
@@ -148,7 +149,7 @@ func TestKilledAtAnyMoment(t *testing.T) {
 	t.Logf("%d processes killed, %d alerts sent again, %d lines cut off", killed, again, cut)
 }
 
-// runChild runs the child until it has written so many dots, and kills it. It reports whether the child ended by
+// runChild runs the child until it has printed this number of dots, and kills it. It reports whether the child ended by
 // itself.
 func runChild(t *testing.T, folder string, total, dots int) bool {
 	t.Helper()

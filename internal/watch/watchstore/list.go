@@ -7,22 +7,22 @@ import (
 	"wagtenib/internal/watch/alert"
 )
 
-// listTable has at most one row: the log list that is followed. A store that an earlier ctwatch made gets the table at
-// its next start.
+// listTable creates the table of the followed log list, which has at most one row. A store of an earlier ctwatch gets
+// the table when it is opened.
 const listTable = `create table if not exists lists (
 	place text not null, key blob not null, content blob, read integer not null, fault text not null,
 	primary key (place, key)
 ) without rowid`
 
-// List is what is stored of the log list that is followed.
+// List holds the stored state of the followed log list.
 type List struct {
-	Content []byte    // the list that was read last, as it came; nil if none was read
-	Read    time.Time // when it was read last; zero if it never was
+	Content []byte    // the list that was last read, as received; nil if none was read
+	Read    time.Time // when it was last read; zero if it never was
 	Fault   string    // why the last reading failed; empty if it did not
 }
 
-// UseList names the log list that is followed from now on, and the key that must have signed it. If the store has
-// another list, or one that another key signed, it is removed. An empty place means that no list is followed.
+// UseList sets the log list that is followed from now on, and the key that must have signed it. It removes another
+// list, or the list with another key, from the store. An empty place means that no list is followed.
 func (s *Store) UseList(place string, key []byte) error {
 	if key == nil {
 		key = []byte{}
@@ -36,7 +36,7 @@ func (s *Store) UseList(place string, key []byte) error {
 	})
 }
 
-// KeepList stores the content of the list that is followed. It was read just now.
+// KeepList stores the content of the followed list, which was read just now.
 func (s *Store) KeepList(content []byte) error {
 	return s.write(func(w *writer) error {
 		_, err := w.exec("update lists set content = ?, read = ?, fault = ''", content, s.options.Now().UnixMilli())
@@ -44,7 +44,7 @@ func (s *Store) KeepList(content []byte) error {
 	})
 }
 
-// ReportList stores why a reading of the list that is followed failed.
+// ReportList stores why a reading of the followed list failed.
 func (s *Store) ReportList(fault error) error {
 	return s.write(func(w *writer) error {
 		_, err := w.exec("update lists set fault = ?", fault.Error())
@@ -52,7 +52,7 @@ func (s *Store) ReportList(fault error) error {
 	})
 }
 
-// List returns what is stored of the list that is followed. It is the zero List if none is.
+// List returns the stored state of the followed list. It is the zero List if no list is followed.
 func (s *Store) List() (List, error) {
 	var list List
 	var tables int

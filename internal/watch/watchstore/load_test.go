@@ -15,17 +15,17 @@ import (
 	"wagtenib/internal/watch/watchstore"
 )
 
-// The load: so many issuances in each of three logs at once, and how much time of a processor they may take. The time
-// of day would count what else the machine does.
+// The load: the number of issuances in each of three logs, the entries in one call of Keep, and the maximum processor
+// time. Elapsed time would include other work of the machine.
 const (
-	manyIssuances = 10_000
-	batchOfLoad   = 512
-	maxLoad       = time.Minute
+	manyIssuances    = 10_000
+	loadBatch        = 512
+	maxProcessorTime = time.Minute
 )
 
-// TestReportsManyFindingsFromThreeLogs keeps 10,000 issuances, each as a precertificate and as a certificate, in
-// three logs at once: there is one alert for each, with its host name, and all of it takes less than a minute of a
-// processor.
+// TestReportsManyFindingsFromThreeLogs stores 10,000 issuances, each as a precertificate and as a certificate, from
+// three logs at once. There is one alert for each issuance, with its host name. All of it takes less than a minute of
+// processor time.
 func TestReportsManyFindingsFromThreeLogs(t *testing.T) {
 	authority := testcert.NewAuthority(t)
 	var entries []watch.Entry
@@ -40,8 +40,8 @@ func TestReportsManyFindingsFromThreeLogs(t *testing.T) {
 		reading.Add(1)
 		go func() {
 			defer reading.Done()
-			for first := 0; first < len(entries); first += batchOfLoad {
-				batch := entries[first:min(first+batchOfLoad, len(entries))]
+			for first := 0; first < len(entries); first += loadBatch {
+				batch := entries[first:min(first+loadBatch, len(entries))]
 				if err := store.Keep(logOf(number), watch.State{Read: uint64(first + len(batch))}, batch); err != nil {
 					t.Error(err)
 				}
@@ -51,7 +51,7 @@ func TestReportsManyFindingsFromThreeLogs(t *testing.T) {
 	reading.Wait()
 	var out bytes.Buffer
 	must(t, alert.Deliver(context.Background(), store, alert.NewTerminal(&out)))
-	took := processorTime(t) - began
+	used := processorTime(t) - began
 	seen := map[string]int{}
 	for _, line := range bytes.Split(bytes.TrimSpace(out.Bytes()), []byte("\n")) {
 		var host string
@@ -65,13 +65,13 @@ func TestReportsManyFindingsFromThreeLogs(t *testing.T) {
 			t.Errorf("%d alerts for %s", seen[host], host)
 		}
 	}
-	if took > maxLoad {
-		t.Errorf("it took %v of a processor, and may take %v", took, maxLoad)
+	if used > maxProcessorTime {
+		t.Errorf("the test used %v of processor time, and the maximum is %v", used, maxProcessorTime)
 	}
-	t.Logf("%d entries were kept and %d alerts sent in %v of a processor", 3*len(entries), manyIssuances, took)
+	t.Logf("%d entries were stored and %d alerts sent in %v of processor time", 3*len(entries), manyIssuances, used)
 }
 
-// processorTime returns how long processors have worked for this process.
+// processorTime returns the processor time that this process has used.
 func processorTime(t *testing.T) time.Duration {
 	t.Helper()
 	var usage syscall.Rusage

@@ -15,25 +15,25 @@ import (
 	"wagtenib/internal/watch/namesearch"
 )
 
-// ErrAbsent reports a certificate or evidence that the store does not have.
+// ErrAbsent means that the store does not have a certificate or evidence.
 var ErrAbsent = errors.New("the store does not have it")
 
-// Query says which issuances are sought.
+// Query selects issuances. All conditions must hold.
 type Query struct {
-	Name    *namesearch.Name // one that has this name, or covers it; nil for all
-	ValidAt time.Time        // one that is valid then; zero for all
-	Before  int64            // one that was stored before the issuance with this number; 0 for all
-	Limit   int              // at most so many
+	Name    *namesearch.Name // issuances that have this name, or cover it; nil for all
+	ValidAt time.Time        // issuances that are valid at this time; zero for all
+	Before  int64            // issuances that were stored before the one with this number; 0 for all
+	Limit   int              // the maximum number of issuances
 }
 
-// Issuance is one that was found, with its number, and when it was stored.
+// Issuance is an issuance that was found. At is the time when it was stored.
 type Issuance struct {
 	ID int64
 	At time.Time
 	*alert.Certificate
 }
 
-// Find returns the issuances of a query, the newest first.
+// Find returns the issuances that a query selects, the newest first.
 func (s *Store) Find(q Query) ([]Issuance, error) {
 	conditions, values := []string{"1"}, []any{}
 	if q.Before > 0 {
@@ -69,8 +69,8 @@ func (s *Store) Find(q Query) ([]Issuance, error) {
 	return found, err
 }
 
-// nameCondition returns the condition of issuances with a name: the name itself, a wildcard over it, a name below it
-// unless it is exact, or a match that was stored for it.
+// nameCondition returns the SQL condition for issuances with a name, and its values. An issuance has the name itself, a
+// wildcard over it, a name below it (unless the name is exact), or a stored match for it.
 func nameCondition(name namesearch.Name) (string, []any) {
 	text, isExact := strings.CutPrefix(name.String(), "=")
 	key := hostKey(text)
@@ -78,7 +78,7 @@ func nameCondition(name namesearch.Name) (string, []any) {
 	wildcard := strings.Join(append(labels[:len(labels)-1:len(labels)-1], "*"), ".")
 	hosts, values := "n.host in (?, ?)", []any{key, wildcard}
 	if !isExact {
-		// The labels of what is below the name follow a dot, and the slash is the next character after the dot.
+		// The key of a name below this one begins with this key and a dot. The slash is the next character after the dot.
 		hosts += " or n.host > ? and n.host < ?"
 		values = append(values, key+".", key+"/")
 	}
@@ -87,8 +87,8 @@ func nameCondition(name namesearch.Name) (string, []any) {
 		append(values, name.String())
 }
 
-// Certificate returns the bytes of a certificate or precertificate with this SHA-256 hash, in DER. If its names could
-// not be read from the leaf, they are the bytes of the leaf.
+// Certificate returns the bytes of the certificate or precertificate with this SHA-256 hash, in DER. If the leaf could
+// not be decoded, they are the bytes of the leaf.
 func (s *Store) Certificate(hash string) ([]byte, error) {
 	digest, err := hex.DecodeString(hash)
 	if err != nil || len(digest) != sha256.Size {
@@ -108,7 +108,7 @@ func (s *Store) Certificate(hash string) ([]byte, error) {
 	return der, nil
 }
 
-// Evidence returns evidence against a log by its number, and the log.
+// Evidence returns evidence against a log by its number, and the name of the log.
 func (s *Store) Evidence(id int64) (watch.Evidence, string, error) {
 	evidence := watch.Evidence{Files: map[string][]byte{}}
 	var at int64
@@ -133,7 +133,7 @@ func (s *Store) Evidence(id int64) (watch.Evidence, string, error) {
 	return evidence, log, err
 }
 
-// MarkSeen stores that somebody has looked at evidence: it does not count as new evidence any more.
+// MarkSeen stores that somebody has looked at evidence. It then no longer counts as new evidence.
 func (s *Store) MarkSeen(id int64) error {
 	return s.write(func(w *writer) error {
 		_, err := w.exec("update evidence set is_seen = 1 where id = ?", id)
@@ -146,18 +146,18 @@ func (s *Store) Alerts(limit int) ([]alert.Alert, error) {
 	return s.alerts("order by a.id desc limit ?", limit)
 }
 
-// Accusations returns the alerts about logs that did wrong whose evidence nobody has looked at, the newest first.
+// Accusations returns the alerts about evidence that nobody has looked at, at most limit, the newest first.
 func (s *Store) Accusations(limit int) ([]alert.Alert, error) {
 	return s.alerts("where a.evidence in (select id from evidence where not is_seen) order by a.id desc limit ?", limit)
 }
 
-// Day is how many issuances were stored on a day.
+// Day holds the number of issuances that were stored on a day.
 type Day struct {
 	Date  string // as 2026-01-31, in UTC
 	Count int64
 }
 
-// Timeline returns the number of issuances of each day that has any, the newest first, at most limit.
+// Timeline returns the number of issuances of each day that has any, at most limit days, the newest first.
 func (s *Store) Timeline(limit int) ([]Day, error) {
 	var days []Day
 	err := s.each("select date(found / 1000, 'unixepoch') as day, count(*) from issuances group by day order by day "+
@@ -170,13 +170,13 @@ func (s *Store) Timeline(limit int) ([]Day, error) {
 	return days, err
 }
 
-// Counts are how much the store has.
+// Counts holds the numbers of rows in the store.
 type Counts struct {
 	Issuances, Unread, Alerts, Evidence int64
-	NewEvidence                         int64 // nobody has looked at it
+	NewEvidence                         int64 // evidence that nobody has looked at
 }
 
-// Counts returns how much the store has.
+// Counts returns the numbers of issuances, of issuances with unreadable names, of alerts and of pieces of evidence.
 func (s *Store) Counts() (Counts, error) {
 	var c Counts
 	err := s.db.QueryRow(`select (select count(*) from issuances), (select count(*) from issuances where fault != ''),
@@ -189,7 +189,7 @@ func (s *Store) Counts() (Counts, error) {
 	return c, nil
 }
 
-// searchAdded looks for names that were not watched before in the certificates that the store has.
+// searchAdded searches the stored certificates for names that were not watched before.
 func (s *Store) searchAdded() error {
 	names := s.options.Searcher.Names()
 	var added []namesearch.Name
@@ -221,20 +221,21 @@ func (s *Store) searchAdded() error {
 	})
 }
 
-// batchOfStored is how many certificates are searched in one transaction.
-const batchOfStored = 500
+// maxSearchBatch is the maximum number of stored certificates that are searched in one transaction.
+const maxSearchBatch = 500
 
-// searchStored searches all certificates that the store has. A kill on the way loses nothing: the search begins again.
+// searchStored searches all stored certificates. A kill during the search loses nothing: it begins again at the next
+// start.
 func (s *Store) searchStored(searcher *namesearch.Searcher) error {
 	for last := int64(0); ; {
-		type stored struct {
+		type storedCertificate struct {
 			id, issuance, entryType int64
 			der                     []byte
 		}
-		var batch []stored
+		var batch []storedCertificate
 		err := s.each("select id, issuance, type, coalesce(tbs, der) from certificates where id > ? order by id limit "+
-			"?", []any{last, batchOfStored}, func(rows *sql.Rows) error {
-			var one stored
+			"?", []any{last, maxSearchBatch}, func(rows *sql.Rows) error {
+			var one storedCertificate
 			err := rows.Scan(&one.id, &one.issuance, &one.entryType, &one.der)
 			batch = append(batch, one)
 			return err
@@ -255,7 +256,7 @@ func (s *Store) searchStored(searcher *namesearch.Searcher) error {
 				if err := keepMatches(w, one.issuance, result, true); err != nil {
 					return err
 				}
-				if err := s.alertTo(w, one.issuance, result); err != nil {
+				if err := s.addIssuanceAlert(w, one.issuance, result); err != nil {
 					return err
 				}
 			}
@@ -266,10 +267,10 @@ func (s *Store) searchStored(searcher *namesearch.Searcher) error {
 	}
 }
 
-// isProved reports whether a place of a match is a verdict of the library.
+// isProved reports whether the proved library decided that a match has this place.
 func isProved(place string) bool { return namesearch.Place(place).IsProved() }
 
-// Heads returns the newest heads of a log that were accepted, at most limit, the newest first.
+// Heads returns the newest accepted heads of a log, at most limit, the newest first.
 func (s *Store) Heads(id watch.LogID, limit int) ([]watch.Head, error) {
 	var heads []watch.Head
 	err := s.each("select size, timestamp, root, signed from heads where log = ? order by timestamp desc, size desc "+

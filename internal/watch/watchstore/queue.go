@@ -7,8 +7,8 @@ import (
 	"wagtenib/internal/watch/alert"
 )
 
-// UseOutputs makes the outputs of this run known. A new one gets the alerts that are stored from now on. One that is
-// not among them keeps its place: it gets all that it missed if it is used again.
+// UseOutputs sets the outputs of this run. A new one gets the alerts that are stored from now on. An output that is not
+// among them keeps its position: if it is used again, it gets all alerts that it missed.
 func (s *Store) UseOutputs(names []string) error {
 	return s.write(func(w *writer) error {
 		if _, err := w.exec("update outputs set is_used = 0"); err != nil {
@@ -25,7 +25,7 @@ func (s *Store) UseOutputs(names []string) error {
 	})
 }
 
-// Next returns the next alerts of an output, at most limit.
+// Next returns the next alerts for an output, at most limit.
 func (s *Store) Next(output string, limit int) ([]alert.Alert, error) {
 	var done, begun int64
 	if err := s.db.QueryRow("select done, begun from outputs where name = ?", output).Scan(&done, &begun); err != nil {
@@ -63,14 +63,14 @@ func (s *Store) Failed(output string, last int64, fault error) error {
 	})
 }
 
-// Output says how it goes with an output.
+// Output holds the state of an output.
 type Output struct {
 	Name    string
-	Waiting int64  // alerts that were not sent yet
+	Waiting int64  // the number of alerts that were not sent yet
 	Fault   string // why the last sending failed; empty if it did not
 }
 
-// Outputs returns the outputs of the last run, by name.
+// Outputs returns the outputs of the last run, in the order of their names.
 func (s *Store) Outputs() ([]Output, error) {
 	var found []Output
 	err := s.each("select name, (select count(*) from alerts where id > done), fault from outputs where is_used order "+
@@ -94,7 +94,7 @@ func (s *Store) each(query string, values []any, do func(*sql.Rows) error) error
 	return nil
 }
 
-// eachRow calls do for each row of a query's answer, unless that is an error.
+// eachRow calls do for each row of a query's answer, and closes it. If the query failed, it returns that error.
 func eachRow(rows *sql.Rows, err error, do func(*sql.Rows) error) error {
 	if err != nil {
 		return err
@@ -108,7 +108,7 @@ func eachRow(rows *sql.Rows, err error, do func(*sql.Rows) error) error {
 	return rows.Err()
 }
 
-// alertRow is an alert as the table of alerts has it.
+// alertRow holds a row of the table of alerts, with the name and URL of its log.
 type alertRow struct {
 	alert              alert.Alert
 	issuance, evidence sql.NullInt64
@@ -116,7 +116,7 @@ type alertRow struct {
 	text               string
 }
 
-// alerts returns the alerts of a condition, with all that belongs to them.
+// alerts returns the alerts that satisfy a condition, with their certificates and logs.
 func (s *Store) alerts(condition string, values ...any) ([]alert.Alert, error) {
 	var rows []alertRow
 	var issuances []int64
@@ -152,7 +152,7 @@ func (s *Store) alerts(condition string, values ...any) ([]alert.Alert, error) {
 	return alerts, nil
 }
 
-// logOf returns the log of an alert that is about a log, or about the log list.
+// logOf returns what an alert says about a log or about the log list.
 func (s *Store) logOf(row alertRow) (*alert.Log, error) {
 	log := &alert.Log{Name: alert.Safe(row.name.String), URL: alert.Safe(row.address.String), Verdict: "silent",
 		Text: alert.Safe(row.text)}

@@ -11,25 +11,26 @@ import (
 	"wagtenib/internal/watch/alert"
 )
 
-// reportsEvery is how often the status of a log is stored, if it only goes on.
-const reportsEvery = 10 * time.Second
+// statusInterval is the minimum time between two stored statuses of a log while its fault does not change.
+const statusInterval = 10 * time.Second
 
-// statuses are the newest statuses of logs.
+// statuses holds the newest status of each log.
 type statuses struct {
 	mutex sync.Mutex
-	of    map[watch.LogID]*reported
+	byLog map[watch.LogID]*reported
 }
 
-// reported is the newest status of a log, and what was stored of it.
+// reported holds the newest status of a log, and when a status of the log was last stored.
 type reported struct {
 	watch.Status
 	stored time.Time
-	fault  string
+	fault  string // the text of Status.Fault
 }
 
-func newStatuses() *statuses { return &statuses{of: map[watch.LogID]*reported{}} }
+func newStatuses() *statuses { return &statuses{byLog: map[watch.LogID]*reported{}} }
 
-// Report takes how it goes with a log. It is stored if its fault changed, and otherwise every ten seconds.
+// Report receives the newest status of a log. It stores the status if the fault changed, and otherwise at most every
+// ten seconds.
 func (s *Store) Report(status watch.Status) {
 	now := s.options.Now()
 	fault := ""
@@ -37,16 +38,16 @@ func (s *Store) Report(status watch.Status) {
 		fault = status.Fault.Error()
 	}
 	s.statuses.mutex.Lock()
-	before := s.statuses.of[status.Log.ID]
-	is := &reported{Status: status, stored: now, fault: fault}
-	due := before == nil || before.fault != fault || now.Sub(before.stored) >= reportsEvery
-	if !due {
-		is.stored = before.stored
+	before := s.statuses.byLog[status.Log.ID]
+	newest := &reported{Status: status, stored: now, fault: fault}
+	mustStore := before == nil || before.fault != fault || now.Sub(before.stored) >= statusInterval
+	if !mustStore {
+		newest.stored = before.stored
 	}
-	s.statuses.of[status.Log.ID] = is
+	s.statuses.byLog[status.Log.ID] = newest
 	s.statuses.mutex.Unlock()
-	if due {
-		// A status is only for people, and the next one replaces it. If the disk is full, Keep reports that.
+	if mustStore {
+		// The error is ignored: a status is only for people, and the next one replaces it. Keep reports a full disk.
 		_ = s.storeStatus(status, fault)
 	}
 }
@@ -72,27 +73,27 @@ func (s *Store) Statuses() []watch.Status {
 	s.statuses.mutex.Lock()
 	defer s.statuses.mutex.Unlock()
 	var found []watch.Status
-	for _, one := range s.statuses.of {
+	for _, one := range s.statuses.byLog {
 		found = append(found, one.Status)
 	}
 	return found
 }
 
-// LogStatus is how it goes with a log, as it was stored last.
+// LogStatus holds the stored status of a log.
 type LogStatus struct {
 	ID       watch.LogID
 	Name     string
 	URL      string
 	Head     wagtenib.TreeHead
-	Read     uint64    // entries
-	Accepted uint64    // entries
-	Answered time.Time // when the log answered last as it should; zero if it never did
-	Fault    string    // why it does not go on; empty if it does
-	Reported time.Time
-	Added    time.Time // when the log was watched first
+	Read     uint64    // the number of entries up to which the log was read
+	Accepted uint64    // the number of entries of the accepted head
+	Answered time.Time // when the log last gave a correct answer; zero if it never did
+	Fault    string    // why reading cannot continue; empty if it can
+	Reported time.Time // when the status was stored
+	Added    time.Time // when the log was first watched
 }
 
-// Silence returns for how long nothing of the log could be read.
+// Silence returns the time for which nothing of the log could be read.
 func (l LogStatus) Silence(now time.Time) time.Duration {
 	since := l.Answered
 	if since.IsZero() {
@@ -101,7 +102,7 @@ func (l LogStatus) Silence(now time.Time) time.Duration {
 	return now.Sub(since)
 }
 
-// LogStatuses returns the stored statuses of all logs, by name.
+// LogStatuses returns the stored statuses of all logs, in the order of their names.
 func (s *Store) LogStatuses() ([]LogStatus, error) {
 	var found []LogStatus
 	err := s.each(`select l.id, l.name, l.url, t.size, t.timestamp, t.read, t.accepted, t.answered, t.fault,
@@ -125,8 +126,8 @@ func (s *Store) LogStatuses() ([]LogStatus, error) {
 	return found, err
 }
 
-// CheckSilent stores an alert to each log of which nothing could be read for so long, and another one each time that
-// this goes on for as long again. Only logs that were reported to this Store since it was opened count.
+// CheckSilent stores an alert about each log of which nothing could be read for the time `after`, and another alert
+// each time that the same time has passed again. Only logs with a report to this Store since it was opened count.
 func (s *Store) CheckSilent(after time.Duration) error {
 	logs, err := s.LogStatuses()
 	if err != nil {
@@ -135,7 +136,7 @@ func (s *Store) CheckSilent(after time.Duration) error {
 	now := s.options.Now()
 	for _, log := range logs {
 		s.statuses.mutex.Lock()
-		_, isWatched := s.statuses.of[log.ID]
+		_, isWatched := s.statuses.byLog[log.ID]
 		s.statuses.mutex.Unlock()
 		if !isWatched || log.Silence(now) < after {
 			continue

@@ -1,8 +1,8 @@
-// Package watchstore keeps what ctwatch finds in one SQLite file: certificates with their names, the entries of logs
-// in which they are, the states and heads of logs, evidence against logs, and the alerts that must still be sent.
+// Package watchstore stores the findings of ctwatch in one SQLite file: certificates with their names, the log entries
+// that contain them, the states and heads of logs, evidence against logs, and the alerts that must still be sent.
 //
-// A Store is a watch.Keeper: it stores its findings in entries in one transaction with the state of their log. It is
-// also an alert.Queue.
+// A Store implements watch.Keeper: it stores what it finds in entries and the state of their log in one transaction. It
+// also implements alert.Queue.
 package watchstore
 
 import (
@@ -26,13 +26,14 @@ import (
 // FileName is the name of the store in its folder.
 const FileName = "ctwatch.sqlite"
 
-// application identifies the file as a store of ctwatch (PRAGMA application_id), and version is that of its tables.
+// application identifies the file as a store of ctwatch (PRAGMA application_id). version is the version of its tables
+// (PRAGMA user_version).
 const (
 	application = 0x63747761
 	version     = 1
 )
 
-// The errors of Open. Each text names the file and says what to do.
+// The errors that Open returns wrap one of these. Their texts name the file and say what to do.
 var (
 	ErrDamaged = errors.New("the store is damaged")
 	ErrOther   = errors.New("the file is no store of this ctwatch")
@@ -42,23 +43,23 @@ var (
 //go:embed schema.sql
 var schema string
 
-// Unread says which certificates with unreadable names cause an alert.
+// Unread selects the certificates with unreadable names that cause an alert.
 type Unread string
 
 // The values of Unread.
 const (
-	UnreadAll       Unread = "all"       // each one
-	UnreadMentioned Unread = "mentioned" // those whose bytes have a watched name
-	UnreadNone      Unread = "none"      // none; they are only stored
+	UnreadAll       Unread = "all"       // all of them
+	UnreadMentioned Unread = "mentioned" // those whose bytes contain a watched name
+	UnreadNone      Unread = "none"      // none of them; they are only stored
 )
 
-// Options are how a store searches and what it reports.
+// Options hold the settings of a store: what it searches, stores and reports.
 type Options struct {
 	Searcher *namesearch.Searcher
 	Expected Expected
 	Unread   Unread           // UnreadAll if it is empty
 	KeepAll  bool             // certificates without a watched name are stored too
-	Wake     func()           // is called after an alert was stored; it must return at once
+	Wake     func()           // called after an alert was stored; must return at once; may be nil
 	Now      func() time.Time // time.Now if it is nil
 }
 
@@ -68,15 +69,15 @@ type Store struct {
 	path    string
 	options Options
 	lock    *os.File
-	// writes is held by who writes: SQLite has one writer, and others would wait by trying again.
+	// A writer holds this mutex. SQLite allows one writer, and others would wait by repeated attempts.
 	writes   sync.Mutex
 	statuses *statuses
 }
 
-// Open opens the store in a folder, and creates both if they do not exist. No second process can have it open so.
-// Names that were not watched before are looked for in the certificates that the store has.
+// Open opens the store in a folder for writing, and creates both if they do not exist. Only one process at a time can
+// open it so. Open searches the stored certificates for names that were not watched before.
 //
-// The error is an ErrDamaged, ErrOther or ErrInUse, or one of the file system.
+// The error wraps ErrDamaged, ErrOther or ErrInUse, or is one of the file system.
 func Open(folder string, options Options) (*Store, error) {
 	if err := os.MkdirAll(folder, 0o750); err != nil {
 		return nil, err
@@ -96,7 +97,7 @@ func Open(folder string, options Options) (*Store, error) {
 	return s, nil
 }
 
-// OpenToRead opens the store in a folder for queries. Another process may write to it at the same time.
+// OpenToRead opens the existing store in a folder for queries. Another process may write to it at the same time.
 func OpenToRead(folder string) (*Store, error) {
 	path := filepath.Join(folder, FileName)
 	if _, err := os.Stat(path); err != nil {
@@ -137,7 +138,8 @@ func open(path string, options Options, mode string) (*Store, error) {
 	return &Store{db: db, path: path, options: options, statuses: newStatuses()}, nil
 }
 
-// lockFolder keeps other processes from writing to the store of a folder, as long as the file is open.
+// lockFolder locks the folder of a store until the returned file is closed, so that no other process can open the store
+// for writing.
 func lockFolder(folder string) (*os.File, error) {
 	path := filepath.Join(folder, "lock")
 	file, err := os.OpenFile(path, os.O_CREATE|os.O_RDWR, 0o640)
@@ -151,14 +153,14 @@ func lockFolder(folder string) (*os.File, error) {
 	return file, nil
 }
 
-// start checks the file, makes its tables if it is new, and looks for names that were added.
+// start creates the tables of a new file, checks the file, and searches the stored certificates for added names.
 func (s *Store) start() error {
 	var tables int
 	if err := s.db.QueryRow("select count(*) from sqlite_master").Scan(&tables); err != nil {
 		return err
 	}
 	if tables == 0 {
-		// The number in the file comes in the same transaction as its tables: a kill leaves an empty file or a store.
+		// One transaction writes the tables and the file's numbers: a kill leaves an empty file or a complete store.
 		if err := s.write(func(w *writer) error {
 			_, err := w.tx.Exec(fmt.Sprintf("%s; PRAGMA application_id = %d; PRAGMA user_version = %d", schema,
 				application, version))
@@ -173,37 +175,37 @@ func (s *Store) start() error {
 	if _, err := s.db.Exec(listTable); err != nil {
 		return err
 	}
-	var said string
-	if err := s.db.QueryRow("PRAGMA quick_check(1)").Scan(&said); err != nil {
+	var result string
+	if err := s.db.QueryRow("PRAGMA quick_check(1)").Scan(&result); err != nil {
 		return err
 	}
-	if said != "ok" {
-		return fmt.Errorf("%w: %s", ErrDamaged, said)
+	if result != "ok" {
+		return fmt.Errorf("%w: %s", ErrDamaged, result)
 	}
 	return s.searchAdded()
 }
 
-// check returns an error if the file is no store, or one of another version.
+// check returns an error if the file is not a store, or has another version.
 func (s *Store) check() error {
-	var is, has int
-	if err := s.db.QueryRow("PRAGMA application_id").Scan(&is); err != nil {
+	var foundApplication, foundVersion int
+	if err := s.db.QueryRow("PRAGMA application_id").Scan(&foundApplication); err != nil {
 		return err
 	}
-	if err := s.db.QueryRow("PRAGMA user_version").Scan(&has); err != nil {
+	if err := s.db.QueryRow("PRAGMA user_version").Scan(&foundVersion); err != nil {
 		return err
 	}
-	if is != application || has != version {
-		return fmt.Errorf("%w: application %#x, version %d", ErrOther, is, has)
+	if foundApplication != application || foundVersion != version {
+		return fmt.Errorf("%w: application %#x, version %d", ErrOther, foundApplication, foundVersion)
 	}
 	return nil
 }
 
-// describe names the file of an error, and the remedy.
+// describe returns an error with the name of the store's file and the remedy.
 func (s *Store) describe(err error) error {
-	var said sqlite3.Error
-	isSQLite := errors.As(err, &said)
+	var fault sqlite3.Error
+	isSQLite := errors.As(err, &fault)
 	switch {
-	case errors.Is(err, ErrDamaged), isSQLite && (said.Code == sqlite3.ErrCorrupt || said.Code == sqlite3.ErrNotADB):
+	case errors.Is(err, ErrDamaged), isSQLite && (fault.Code == sqlite3.ErrCorrupt || fault.Code == sqlite3.ErrNotADB):
 		if !errors.Is(err, ErrDamaged) {
 			err = fmt.Errorf("%w: %w", ErrDamaged, err)
 		}
@@ -211,7 +213,7 @@ func (s *Store) describe(err error) error {
 			"log)", s.path, err)
 	case errors.Is(err, ErrOther):
 		return fmt.Errorf("%s: %w (name another folder, or use the ctwatch that made it)", s.path, err)
-	case isSQLite && said.Code == sqlite3.ErrFull:
+	case isSQLite && fault.Code == sqlite3.ErrFull:
 		return fmt.Errorf("%s: the disk is full, and nothing was stored (make room): %w", s.path, err)
 	}
 	return fmt.Errorf("%s: %w", s.path, err)
@@ -226,14 +228,14 @@ func (s *Store) Close() error {
 	return err
 }
 
-// writer is a transaction that writes.
+// writer holds a transaction that writes.
 type writer struct {
 	tx       *sql.Tx
 	prepared map[string]*sql.Stmt
 	hasAlert bool // an alert was stored
 }
 
-// write does something in one transaction: all of it is stored, or nothing.
+// write calls do in one transaction: all that it writes is stored, or nothing.
 func (s *Store) write(do func(*writer) error) error {
 	s.writes.Lock()
 	defer s.writes.Unlock()
@@ -254,7 +256,7 @@ func (s *Store) write(do func(*writer) error) error {
 	return nil
 }
 
-// statement returns a statement, which is prepared once in a transaction.
+// statement returns a prepared statement. Each text is prepared once in a transaction.
 func (w *writer) statement(text string) (*sql.Stmt, error) {
 	if found := w.prepared[text]; found != nil {
 		return found, nil
@@ -266,7 +268,7 @@ func (w *writer) statement(text string) (*sql.Stmt, error) {
 	return made, err
 }
 
-// exec runs a statement, and returns how many rows it changed.
+// exec runs a statement, and returns the number of rows that it changed.
 func (w *writer) exec(text string, values ...any) (int64, error) {
 	statement, err := w.statement(text)
 	if err != nil {

@@ -14,7 +14,7 @@ import (
 	"wagtenib/internal/watch/watchstore"
 )
 
-// entriesOf returns the entries of both in a log, the precertificate first.
+// entriesOf returns the entries of a precertificate and of its certificate, from an index on.
 func entriesOf(one testcert.Issued, first uint64) []watch.Entry {
 	return []watch.Entry{
 		{Index: first, Timestamp: 1_770_000_000_000, Type: wagtenib.PrecertEntry, Certificate: one.TBS,
@@ -30,12 +30,12 @@ func must(t testing.TB, err error) {
 	}
 }
 
-// logOf returns a log of this number.
+// logOf returns the log with this number.
 func logOf(number byte) watch.Log {
 	return watch.Log{ID: watch.LogID{number}, Name: "log " + string('a'+rune(number)), URL: "https://log.example"}
 }
 
-// searcher returns a searcher for names, which must be right ones.
+// searcher returns a searcher for names, and panics if one cannot be parsed.
 func searcher(names ...string) *namesearch.Searcher {
 	var watched []namesearch.Name
 	for _, name := range names {
@@ -60,8 +60,8 @@ func open(t testing.TB, folder string, options watchstore.Options) *watchstore.S
 	return store
 }
 
-// TestAlertsOnceForAnIssuance keeps a precertificate and its certificate in three logs: there is one alert, with the
-// host name, and with what crypto/x509 reads in the certificate.
+// TestAlertsOnceForAnIssuance stores a precertificate and its certificate from three logs. There is one alert, which
+// has the host name and the same fields as crypto/x509 reads.
 func TestAlertsOnceForAnIssuance(t *testing.T) {
 	one := testcert.NewAuthority(t).Issue("shop.example.org", "www.other.net")
 	store := open(t, t.TempDir(), watchstore.Options{Searcher: searcher("example.org")})
@@ -100,12 +100,12 @@ func TestAlertsOnceForAnIssuance(t *testing.T) {
 	}
 	der, err := store.Certificate(c.SHA256)
 	if err != nil || !slices.Equal(der, one.Precertificate.Raw) {
-		t.Errorf("the certificate is not kept: %v", err)
+		t.Errorf("the certificate is not stored: %v", err)
 	}
 }
 
-// TestAlertsToOtherNames: a certificate of others causes no alert, and is not kept.
-func TestAlertsToOtherNames(t *testing.T) {
+// TestIgnoresOtherNames: a certificate without a watched name causes no alert, and is not stored.
+func TestIgnoresOtherNames(t *testing.T) {
 	store := open(t, t.TempDir(), watchstore.Options{Searcher: searcher("example.org")})
 	must(t, store.UseOutputs([]string{"test"}))
 	other := testcert.NewAuthority(t).Issue("notexample.org", "example.org.evil.net")
@@ -116,8 +116,9 @@ func TestAlertsToOtherNames(t *testing.T) {
 	}
 }
 
-// TestKeepsAPrecertificateForEachIssuance: a log answers with the precertificate of another entry, which nothing binds
-// to its own. The honest entry has its certificate all the same, and a name that is added later is found in it.
+// TestKeepsAPrecertificateForEachIssuance: a log gives an entry the precertificate of another entry, because the log
+// does not sign it. The store still has the honest entry with this precertificate, and finds a name that is added later
+// in it.
 func TestKeepsAPrecertificateForEachIssuance(t *testing.T) {
 	authority, folder := testcert.NewAuthority(t), t.TempDir()
 	first, second := entriesOf(authority.Issue("a.other.net"), 0)[:1], entriesOf(authority.Issue("b.example.org"), 1)[:1]
@@ -141,26 +142,26 @@ func TestKeepsAPrecertificateForEachIssuance(t *testing.T) {
 	}
 }
 
-// TestReadsManyAlertsAtOnce: of alerts that are read together each has its own names, matches and entries, the earliest
-// ones and at most 20.
+// TestReadsManyAlertsAtOnce: each of many alerts that are read together has its own names, matches and entries. Of the
+// entries, it has the earliest 20 at most.
 func TestReadsManyAlertsAtOnce(t *testing.T) {
 	authority := testcert.NewAuthority(t)
 	store := open(t, t.TempDir(), watchstore.Options{Searcher: searcher("example.org")})
 	must(t, store.UseOutputs([]string{"test"}))
 	const many = 30
 	var hosts []string
-	of := map[byte][]watch.Entry{} // by the number of a log
+	entriesByLog := map[byte][]watch.Entry{} // by the number of a log
 	for i := range many {
 		host := string('a'+rune(i%26)) + string('a'+rune(i/26)) + ".example.org"
 		hosts = append(hosts, host)
 		entry := entriesOf(authority.Issue(host, "other.net"), uint64(i))[0]
 		for number := range byte(i) {
 			entry.Timestamp = 1_000_000 - uint64(number)
-			of[number] = append(of[number], entry)
+			entriesByLog[number] = append(entriesByLog[number], entry)
 		}
 	}
 	for number := range byte(many) {
-		must(t, store.Keep(logOf(number), watch.State{}, of[number]))
+		must(t, store.Keep(logOf(number), watch.State{}, entriesByLog[number]))
 	}
 	alerts, err := store.Next("test", many)
 	must(t, err)
@@ -175,7 +176,7 @@ func TestReadsManyAlertsAtOnce(t *testing.T) {
 		}
 		for number, sighting := range c.Sightings {
 			if last := byte(entries - 1 - number); sighting.Index != uint64(i+1) || sighting.Log != logOf(last).Name {
-				t.Errorf("alert %d has as entry %d that of %s, %d", i, number, sighting.Log, sighting.Index)
+				t.Errorf("sighting %d of alert %d is entry %d of %s", number, i, sighting.Index, sighting.Log)
 			}
 		}
 	}
