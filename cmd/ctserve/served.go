@@ -96,7 +96,7 @@ func openObjects(ctx context.Context, n node) (stores.Objects, stores.Current, e
 func checkStores(n node) error {
 	if !n.create {
 		// Another node that runs would write into a folder that is made again.
-		if err := stores.ObjectsThere(n.store); err != nil {
+		if err := stores.CheckObjectsExist(n.store); err != nil {
 			return err
 		}
 	}

@@ -255,7 +255,7 @@ func (c collected) witnesses(f loginterface.Metrics) {
 // stores collects the calls of each store.
 func (c collected) stores(calls *stores.Calls) {
 	for _, call := range calls.All() {
-		c.to <- prometheus.MustNewConstSummary(descStore, call.Count, call.Took.Seconds(), nil, call.Store, call.Name)
+		c.to <- prometheus.MustNewConstSummary(descStore, call.Count, call.Duration.Seconds(), nil, call.Store, call.Name)
 		c.count(descFailed, call.Failed, call.Store, call.Name)
 	}
 }
