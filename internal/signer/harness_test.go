@@ -19,7 +19,7 @@ import (
 	"wagtenib/internal/testutil"
 )
 
-var must, wantError = testutil.Must, testutil.Wants
+var must, wantError = testutil.Must, testutil.WantError
 
 // wantRefusal checks that an error is the refusal of this name.
 func wantRefusal(t testing.TB, name string, err error) {

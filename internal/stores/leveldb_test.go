@@ -140,7 +140,7 @@ func TestLevelDBEndsWithItsContext(t *testing.T) {
 	for i := 0; i < cap(errs); i++ {
 		select {
 		case err := <-errs:
-			testutil.Wants(t, err, context.Canceled)
+			testutil.WantError(t, err, context.Canceled)
 		case <-ctx.Done():
 			t.Fatal("a call waits after its context has ended")
 		}
