@@ -285,7 +285,8 @@ func (c *Checker) checkIssued(certificate *certificate, issuer *x509.Certificate
 		return fmt.Errorf("%w: the issuer", NotAnAuthority)
 	}
 	if key, ok := issuer.PublicKey.(*rsa.PublicKey); ok && key.N.BitLen() > MaxKeyBits {
-		return fmt.Errorf("%w: the issuer's, of %d bits", KeyTooLong, key.N.BitLen())
+		return fmt.Errorf("%w: the issuer's key has %d bits, and the maximum is %d", KeyTooLong, key.N.BitLen(),
+			MaxKeyBits)
 	}
 	return c.checkSignature(certificate, issuer)
 }

@@ -6,8 +6,8 @@ import (
 )
 
 // TestSamplesTimestamps asks a signer whose signatures are correct at first, and wrong later. A wrong signature of a
-// head is always found, and so is a reply in which as many timestamps as the sample has one of are wrong. After a wrong
-// signature, all timestamps are verified again.
+// head is always found. So is a reply with a whole group of sampleWidth wrong timestamps, since one of each group is
+// verified. After a wrong signature, all timestamps are verified again.
 func TestSamplesTimestamps(t *testing.T) {
 	t.Parallel()
 	ctx, key, l := limited(t), newKey(t), listOf(t, 3, 3)

@@ -194,7 +194,7 @@ func TestLeavesAreSeparate(t *testing.T) {
 		must(t, store.Add(ctx, []Row{{one, two, Place{5, 50}}, {two, three, Place{6, 60}}}))
 		// The identity is known, and its leaf is new. Then the leaf is known, and its identity is new.
 		must(t, store.Add(ctx, []Row{{one, leaf, Place{7, 70}}, {three, two, Place{8, 80}}}))
-		isThere := func(identities, leaves map[Identity]Place) {
+		wantBoth := func(identities, leaves map[Identity]Place) {
 			t.Helper()
 			store := at.opened(t)
 			asked := []Identity{one, two, three, leaf}
@@ -205,10 +205,10 @@ func TestLeavesAreSeparate(t *testing.T) {
 				t.Errorf("leaves: %v, %v", got, err)
 			}
 		}
-		isThere(map[Identity]Place{one: {5, 50}, two: {6, 60}, three: {8, 80}},
+		wantBoth(map[Identity]Place{one: {5, 50}, two: {6, 60}, three: {8, 80}},
 			map[Identity]Place{two: {5, 50}, three: {6, 60}, leaf: {7, 70}})
 		must(t, at.opened(t).Replace(ctx, []Row{{one, leaf, Place{9, 90}}}))
-		isThere(map[Identity]Place{one: {9, 90}, two: {6, 60}, three: {8, 80}},
+		wantBoth(map[Identity]Place{one: {9, 90}, two: {6, 60}, three: {8, 80}},
 			map[Identity]Place{two: {5, 50}, three: {6, 60}, leaf: {9, 90}})
 	})
 }

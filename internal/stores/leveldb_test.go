@@ -160,7 +160,7 @@ type counting struct {
 
 type countingFile struct {
 	storage.Writer
-	of *counting
+	counts *counting
 }
 
 func (c *counting) Create(fd storage.FileDesc) (storage.Writer, error) {
@@ -172,16 +172,16 @@ func (c *counting) Create(fd storage.FileDesc) (storage.Writer, error) {
 }
 
 func (c *countingFile) Write(content []byte) (int, error) {
-	c.of.mu.Lock()
-	defer c.of.mu.Unlock()
-	c.of.writes++
+	c.counts.mu.Lock()
+	defer c.counts.mu.Unlock()
+	c.counts.writes++
 	return c.Writer.Write(content)
 }
 
 func (c *countingFile) Sync() error {
-	c.of.mu.Lock()
-	defer c.of.mu.Unlock()
-	c.of.syncs++
+	c.counts.mu.Lock()
+	defer c.counts.mu.Unlock()
+	c.counts.syncs++
 	return c.Writer.Sync()
 }
 

@@ -24,7 +24,7 @@ type fragile struct {
 
 type fragileFile struct {
 	storage.Writer
-	of         *fragile
+	disk       *fragile
 	fd         storage.FileDesc
 	name       string
 	length     int64
@@ -36,7 +36,7 @@ func (f *fragile) Create(fd storage.FileDesc) (storage.Writer, error) {
 	defer f.mu.Unlock()
 	w, err := f.Storage.Create(fd)
 	f.kept[fd.String()] = 0
-	return &fragileFile{Writer: w, of: f, fd: fd, name: fd.String(), isManifest: fd.Type == storage.TypeManifest}, err
+	return &fragileFile{Writer: w, disk: f, fd: fd, name: fd.String(), isManifest: fd.Type == storage.TypeManifest}, err
 }
 
 func (f *fragile) Remove(fd storage.FileDesc) error {
@@ -60,19 +60,19 @@ func (f *fragile) nameAll() {
 }
 
 func (f *fragileFile) Write(content []byte) (int, error) {
-	f.of.mu.Lock()
-	defer f.of.mu.Unlock()
+	f.disk.mu.Lock()
+	defer f.disk.mu.Unlock()
 	n, err := f.Writer.Write(content)
 	f.length += int64(n)
 	return n, err
 }
 
 func (f *fragileFile) Sync() error {
-	f.of.mu.Lock()
-	defer f.of.mu.Unlock()
-	f.of.kept[f.name] = f.length
+	f.disk.mu.Lock()
+	defer f.disk.mu.Unlock()
+	f.disk.kept[f.name] = f.length
 	if f.isManifest {
-		f.of.nameAll()
+		f.disk.nameAll()
 	}
 	// Nothing is really synced, since the test only counts what would be on the disk.
 	return nil
