@@ -301,7 +301,7 @@ func runIndex(arguments []string, stdout, stderr io.Writer) (err error) {
 	}
 	opening, cancel := context.WithTimeout(context.Background(), s.node.openWithin)
 	defer cancel()
-	if err := stores.ObjectsThere(s.node.store); err != nil {
+	if err := stores.CheckObjectsExist(s.node.store); err != nil {
 		return err
 	}
 	of, err := openStores(opening, s.node)

@@ -97,7 +97,7 @@ func openObjects(ctx context.Context, n node) (stores.Objects, stores.Current, e
 func checkStores(n node) error {
 	if !n.create {
 		// A start must not make a missing folder again, because another running node would write into it.
-		if err := stores.ObjectsThere(n.store); err != nil {
+		if err := stores.CheckObjectsExist(n.store); err != nil {
 			return err
 		}
 	}

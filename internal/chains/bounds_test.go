@@ -16,30 +16,32 @@ import (
 	"testing"
 )
 
-// TestBounds: the largest that may be isn't refused for its size, and one more is.
+// TestBounds: a chain with the maximum size is not refused for its size, and a chain with one byte or certificate more
+// is.
 func TestBounds(t *testing.T) {
 	c := NewChecker(&Roots{}, Rules{}, byASN1{})
-	of := func(lengths ...int) (chain [][]byte) {
+	chainOf := func(lengths ...int) (chain [][]byte) {
 		for _, length := range lengths {
 			chain = append(chain, make([]byte, length))
 		}
 		return chain
 	}
-	const rest = MaxBytes - 2*LongestCertificate
+	const rest = MaxBytes - 2*MaxCertificateBytes
 	for _, test := range []struct {
 		chain [][]byte
 		why   Refusal
 	}{
-		{of(LongestCertificate), NoCertificate}, {of(LongestCertificate + 1), CertificateTooLong},
-		{of(LongestCertificate, LongestCertificate, rest), NoCertificate},
-		{of(LongestCertificate, LongestCertificate, rest+1), ChainTooLong},
-		{of(make([]int, MaxCertificates)...), NoCertificate}, {of(make([]int, MaxCertificates+1)...), ChainTooLong},
+		{chainOf(MaxCertificateBytes), NoCertificate}, {chainOf(MaxCertificateBytes + 1), CertificateTooLong},
+		{chainOf(MaxCertificateBytes, MaxCertificateBytes, rest), NoCertificate},
+		{chainOf(MaxCertificateBytes, MaxCertificateBytes, rest+1), ChainTooLong},
+		{chainOf(make([]int, MaxCertificates)...), NoCertificate},
+		{chainOf(make([]int, MaxCertificates+1)...), ChainTooLong},
 	} {
 		if _, err := c.Certificate(test.chain); RefusalOf(err) != test.why {
 			t.Errorf("%d certificates: %v, and not %s", len(test.chain), err, test.why)
 		}
 	}
-	// An RSA key of as many bits as may be is worked with, and one of a bit more isn't.
+	// A signature by an RSA key of the maximum size is checked. A key of one more bit is refused.
 	for bits, why := range map[uint]Refusal{MaxKeyBits: BadSignature, MaxKeyBits + 1: KeyTooLong} {
 		modulus := new(big.Int).Lsh(big.NewInt(1), bits-1)
 		modulus.SetBit(modulus, 0, 1)
@@ -53,13 +55,13 @@ func TestBounds(t *testing.T) {
 		if err != nil {
 			t.Fatal(err)
 		}
-		if err := c.issued(below, issuer); RefusalOf(err) != why {
+		if err := c.checkIssued(below, issuer); RefusalOf(err) != why {
 			t.Errorf("a key of %d bits: %v, and not %s", bits, err, why)
 		}
 	}
 }
 
-// TestRootsOfOneName: of roots that have one name the one is found that issued a certificate.
+// TestRootsOfOneName: if several roots have the same name, the root is found that issued a certificate.
 func TestRootsOfOneName(t *testing.T) {
 	var roots, leaves [][]byte
 	for i := 0; i < 3; i++ {
@@ -67,26 +69,26 @@ func TestRootsOfOneName(t *testing.T) {
 		roots = append(roots, signedBy(t, authority("root"), authority("root"), &key.PublicKey, key))
 		leaves = append(leaves, signedBy(t, authority("leaf"), authority("root"), &key.PublicKey, key))
 	}
-	taken, err := ParseRoots(inPEM(roots...))
+	parsed, err := ParseRoots(inPEM(roots...))
 	if err != nil {
 		t.Fatal(err)
 	}
-	c := NewChecker(taken, Rules{}, byASN1{})
+	c := NewChecker(parsed, Rules{}, byASN1{})
 	for i, leaf := range leaves {
 		entry, err := c.Certificate([][]byte{leaf})
 		if err != nil || !reflect.DeepEqual(entry.Issuers, roots[i:i+1]) {
-			t.Errorf("of root %d: %v", i, err)
+			t.Errorf("a leaf of root %d: %v", i, err)
 		}
 	}
 	other := newKey(t)
 	if _, err := c.Certificate([][]byte{signedBy(t, authority("leaf"), authority("root"), &other.PublicKey,
 		other)}); RefusalOf(err) != UnknownRoot {
-		t.Errorf("of none: %v", err)
+		t.Errorf("a leaf of no root: %v", err)
 	}
 }
 
-// TestForgedIssuersAreNotRead: an issuer that no root signed is refused for that, before crypto/x509 reads it. It would
-// refuse this one, since one of its extensions is there thousands of times.
+// TestForgedIssuersAreNotRead: an issuer that no root signed is refused before crypto/x509 reads it. crypto/x509 would
+// refuse this issuer, since one of its extensions occurs thousands of times.
 func TestForgedIssuersAreNotRead(t *testing.T) {
 	key, forger := newKey(t), newKey(t)
 	root := signedBy(t, authority("root"), authority("root"), &key.PublicKey, key)
@@ -109,7 +111,7 @@ func TestForgedIssuersAreNotRead(t *testing.T) {
 	}
 }
 
-// TestEmptySignature: a signature of no bytes is none.
+// TestEmptySignature: a certificate whose signature has no bytes is refused.
 func TestEmptySignature(t *testing.T) {
 	key := newKey(t)
 	root := signedBy(t, authority("root"), authority("root"), &key.PublicKey, key)
@@ -131,18 +133,18 @@ func TestEmptySignature(t *testing.T) {
 	c := NewChecker(roots, Rules{}, byASN1{})
 	for _, chain := range [][][]byte{{bare}, {bare, root}} {
 		if _, err := c.Certificate(chain); err == nil {
-			t.Errorf("a chain of %d is taken", len(chain))
+			t.Errorf("a chain of %d is accepted", len(chain))
 		}
 	}
 }
 
-// TestVersion2: an authority of version 2, which can't say that it is one, is taken where it is a root, and not
-// otherwise.
+// TestVersion2: an authority of version 2, which has no extension that says that it is one, is accepted only if it is a
+// root.
 func TestVersion2(t *testing.T) {
 	key := newKey(t)
 	template := authority("old")
 	template.IsCA, template.BasicConstraintsValid = false, false
-	old := signed(t, signedBy(t, template, template, &key.PublicKey, key), key, func(tbs []byte) []byte {
+	old := resigned(t, signedBy(t, template, template, &key.PublicKey, key), key, func(tbs []byte) []byte {
 		return bytes.Replace(tbs, []byte{0xa0, 3, 2, 1, 2}, []byte{0xa0, 3, 2, 1, 1}, 1)
 	})
 	parsed, err := x509.ParseCertificate(old)
@@ -157,7 +159,7 @@ func TestVersion2(t *testing.T) {
 	if _, err := NewChecker(roots, Rules{}, byASN1{}).Certificate([][]byte{leaf, old}); err != nil {
 		t.Errorf("a root: %v", err)
 	}
-	if err := NewChecker(&Roots{}, Rules{}, byASN1{}).issued(certificateOf(parsed),
+	if err := NewChecker(&Roots{}, Rules{}, byASN1{}).checkIssued(certificateOf(parsed),
 		parsed); RefusalOf(err) != NotAnAuthority {
 		t.Errorf("no root: %v", err)
 	}
@@ -185,7 +187,7 @@ func TestReloadCounts(t *testing.T) {
 		}
 		if added, removed, err := c.Reload(RootFiles{Paths: []string{file}}); added != test.added ||
 			removed != test.remove || err != nil {
-			t.Errorf("%d roots: %d are new and %d gone, %v", len(test.roots), added, removed, err)
+			t.Errorf("%d roots: %d are new and %d were removed, %v", len(test.roots), added, removed, err)
 		}
 	}
 	if err := os.WriteFile(file, []byte("damaged"), 0o600); err != nil {
@@ -193,13 +195,13 @@ func TestReloadCounts(t *testing.T) {
 	}
 	if added, removed, err := c.Reload(RootFiles{Paths: []string{file}}); added != 0 || removed != 0 || err == nil ||
 		len(c.Roots().Certificates()) != 1 {
-		t.Errorf("a damaged file: %d are new and %d gone, %v", added, removed, err)
+		t.Errorf("a damaged file: %d are new and %d were removed, %v", added, removed, err)
 	}
 }
 
-// TestMostRoots: a file has as many bytes as may be, and a log as many roots; one more of either is an error, by which
-// none is lost.
-func TestMostRoots(t *testing.T) {
+// TestBoundsOfRoots: a file with the maximum number of bytes and a log with the maximum number of roots are accepted.
+// One more byte or root is an error.
+func TestBoundsOfRoots(t *testing.T) {
 	key := newKey(t)
 	root := signedBy(t, authority("root"), authority("root"), &key.PublicKey, key)
 	text := inPEM(root)
@@ -221,52 +223,52 @@ func TestMostRoots(t *testing.T) {
 	}
 	roots := &Roots{byHash: map[[32]byte]bool{}, bySubject: map[string][]*x509.Certificate{},
 		certificates: make([]*x509.Certificate, MaxRoots-1)}
-	if err := roots.take(root, nil, LeftOut{}); err != nil {
-		t.Errorf("the last that may be: %v", err)
+	if err := roots.addOrLeaveOut(root, nil, LeftOut{}); err != nil {
+		t.Errorf("the last root that is allowed: %v", err)
 	}
-	if err := roots.take(root, nil, LeftOut{}); err != nil {
-		t.Errorf("the same once more: %v", err)
+	if err := roots.addOrLeaveOut(root, nil, LeftOut{}); err != nil {
+		t.Errorf("the same root again: %v", err)
 	}
-	if err := roots.take(signedBy(t, authority("other"), authority("other"), &key.PublicKey, key), nil,
+	if err := roots.addOrLeaveOut(signedBy(t, authority("other"), authority("other"), &key.PublicKey, key), nil,
 		LeftOut{}); err == nil {
-		t.Error("one more is taken")
+		t.Error("one more root is accepted")
 	}
 }
 
-// TestFilesThatFail: of several files one that can't be read whole is an error, which names it.
-func TestFilesThatFail(t *testing.T) {
+// TestErrorsNameTheFile: if one of several files cannot be read completely, the error names it.
+func TestErrorsNameTheFile(t *testing.T) {
 	key := newKey(t)
 	root := inPEM(signedBy(t, authority("root"), authority("root"), &key.PublicKey, key))
 	folder := t.TempDir()
-	put := puts(t, folder)
+	put := fileWriter(t, folder)
 	var table bytes.Buffer
 	rows := csv.NewWriter(&table)
 	rows.WriteAll([][]string{{"Name", "PEM Info"}, {"a root", "'" + string(root) + "'"}})
 	right := put("root.pem", root)
 	for what, test := range map[string]struct {
-		of   RootFiles
-		says string
+		files    RootFiles
+		expected string
 	}{
 		"a table whose second row is short": {RootFiles{Paths: []string{put("short.csv",
 			append(table.Bytes()[:table.Len():table.Len()], "a\n"...))}}, "short.csv"},
 		"a folder that has none": {RootFiles{Paths: []string{right,
 			filepath.Dir(put("bare/read.me", nil))}}, "bare has no file"},
 		"a line that is no fingerprint": {RootFiles{Paths: []string{right},
-			Without: put("without", []byte("# those that went\n\n00ff\n"))}, "without, line 3"},
+			Without: put("without", []byte("# removed roots\n\n00ff\n"))}, "without, line 3"},
 		"a line that is longer": {RootFiles{Paths: []string{right},
 			Without: put("longer", []byte(strings.Repeat("00", 33)+"\n"))}, "longer, line 1"},
-		"a folder in a list's place": {RootFiles{Paths: []string{right}, Without: folder}, "chains: roots:"},
-		"a folder in a folder's file's place": {RootFiles{Paths: []string{
+		"a folder instead of a list": {RootFiles{Paths: []string{right}, Without: folder}, "chains: roots:"},
+		"a folder instead of a file in a folder": {RootFiles{Paths: []string{
 			filepath.Dir(filepath.Dir(put("of/x.pem/y", nil)))}}, "x.pem"},
 	} {
-		if _, err := test.of.Load(); err == nil || !strings.Contains(err.Error(), test.says) {
+		if _, err := test.files.Load(); err == nil || !strings.Contains(err.Error(), test.expected) {
 			t.Errorf("%s: %v", what, err)
 		}
 	}
 }
 
-// TestFinalIssuers: a TBSCertificate of a precertificate signing certificate gets the final issuer's name and key
-// identifier, each other field stays where it is, and what isn't one is refused.
+// TestFinalIssuers: a TBSCertificate that a precertificate signing certificate signed gets the final issuer's name and
+// key identifier. All other fields are unchanged. Bytes that are not a TBSCertificate are refused.
 func TestFinalIssuers(t *testing.T) {
 	const (
 		version, number, algorithm = "\xa0\x03\x02\x01\x02", "\x02\x01\x07", "\x30\x02\x05\x00"
@@ -279,31 +281,31 @@ func TestFinalIssuers(t *testing.T) {
 	)
 	list := func(items ...string) string { return element(0xa3, element(0x30, items...)) }
 	final := &finalIssuer{[]byte(other), []byte("\x80\x01")}
-	for what, of := range map[string]struct{ before, behind string }{
+	for what, test := range map[string]struct{ before, after string }{
 		"all fields": {element(0x30, version, number, algorithm, name, validity, subject, key, one, two,
 			list(item, authorityKey, item)),
 			element(0x30, version, number, algorithm, other, validity, subject, key, one, two,
 				list(item, replaced, item))},
 		"no version, no key identifier": {element(0x30, number, algorithm, name, validity, subject, key, list(item)),
 			element(0x30, number, algorithm, other, validity, subject, key, list(item))},
-		"the second identifier alone": {element(0x30, version, number, algorithm, name, validity, subject, key,
+		"only the second identifier": {element(0x30, version, number, algorithm, name, validity, subject, key,
 			two, list(item)),
 			element(0x30, version, number, algorithm, other, validity, subject, key, two, list(item))},
 	} {
-		if made, err := withFinalIssuer([]byte(of.before), final); err != nil || string(made) != of.behind {
-			t.Errorf("%s: %x, and not %x: %v", what, made, of.behind, err)
+		if made, err := withFinalIssuer([]byte(test.before), final); err != nil || string(made) != test.after {
+			t.Errorf("%s: %x, and not %x: %v", what, made, test.after, err)
 		}
 	}
 	whole := element(0x30, version, number, algorithm, name, validity, subject, key, list(item))
 	for what, wrong := range map[string]string{
-		"a byte behind it": whole + "\x00",
-		"a field behind the extensions": element(0x30, version, number, algorithm, name, validity, subject, key,
+		"a byte after it": whole + "\x00",
+		"a field after the extensions": element(0x30, version, number, algorithm, name, validity, subject, key,
 			list(item), "\x05\x00"),
 		"a second list of extensions": element(0x30, version, number, algorithm, name, validity, subject, key,
 			element(0xa3, element(0x30, item), element(0x30, item))),
 		"no extensions": element(0x30, version, number, algorithm, name, validity, subject, key),
-		"the unique identifiers in their turn": element(0x30, version, number, algorithm, name, validity, subject, key,
-			two, one, list(item)),
+		"the unique identifiers in another order": element(0x30, version, number, algorithm, name, validity, subject,
+			key, two, one, list(item)),
 		"no number": element(0x30, version, algorithm, name, validity, subject,
 			key, list(item)),
 		"an extension that is a set": element(0x30, version, number, algorithm, name, validity, subject, key,

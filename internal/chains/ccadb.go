@@ -11,32 +11,33 @@ import (
 	"strings"
 )
 
-// The reasons for which a root of a table of CCADB isn't taken, or a table isn't read. Each is found by errors.Is.
+// The reasons for which a root of a table of CCADB is not accepted, or a table cannot be used. Use errors.Is.
 var (
-	// ErrPurpose means that the trust bits of a root have no TLS servers.
+	// ErrPurpose means that the trust bits of a root do not include TLS servers.
 	ErrPurpose = errors.New("its trust bits are not for TLS servers")
-	// ErrStatus means that no root program includes a root any more, or not yet.
+	// ErrStatus means that no root program includes the root now.
 	ErrStatus = errors.New("its status is not Included")
-	// ErrColumn means that a table has no column of a kind.
+	// ErrColumn means that a table lacks a column that is needed.
 	ErrColumn = errors.New("a column is missing")
 )
 
 // TableRow is a root of a table of CCADB.
 type TableRow struct {
-	// Name is what the table calls it, and PEM its certificate.
+	// Name is the name of the root in the table, and PEM its certificate.
 	Name string
 	PEM  []byte
-	// Fingerprint is SHA-256 over the certificate, as the table has it; nil where it has none.
+	// Fingerprint is the SHA-256 fingerprint in the table. It is nil if the table has no such column, and empty if the
+	// value is not hexadecimal.
 	Fingerprint []byte
-	// Why is ErrPurpose or ErrStatus if the root is not one of TLS servers. Where the table has no such column, it is
-	// nil.
+	// Why is ErrPurpose or ErrStatus if the root is not for TLS servers or not included, and otherwise nil. A column
+	// that the table does not have is not checked.
 	Why error
 }
 
 // Table is a table of CCADB.
 type Table struct {
 	Rows []TableRow
-	// HasPurposes and HasStatuses report whether it has columns of trust bits and of statuses.
+	// HasPurposes and HasStatuses are whether the table has columns of trust bits and of statuses.
 	HasPurposes, HasStatuses bool
 	// Columns are the names of all columns.
 	Columns []string
@@ -52,45 +53,45 @@ var (
 	pemColumn     = regexp.MustCompile(`PEM`)
 )
 
-// columns are the places of the columns of a table; -1 for none.
+// columns holds the indexes of the columns of a table, or -1 for a column that the table does not have.
 type columns struct {
 	pem, name, hash    int
 	purposes, statuses []int
 }
 
-// columnsOf finds the columns by their names. Of several columns of one kind, the first counts, except trust bits and
-// statuses, of which all do.
+// columnsOf finds the columns by their names. If there are several columns of trust bits or of statuses, all of them
+// count. If there are several columns of another kind, the first one counts.
 func columnsOf(header []string) columns {
-	of := columns{pem: -1, name: -1, hash: -1}
-	first := func(at *int, is bool, column int) {
-		if is && *at < 0 {
-			*at = column
+	found := columns{pem: -1, name: -1, hash: -1}
+	setFirst := func(index *int, matches bool, column int) {
+		if matches && *index < 0 {
+			*index = column
 		}
 	}
 	for at, name := range header {
 		name = strings.TrimSpace(strings.TrimPrefix(name, "\ufeff"))
-		first(&of.pem, pemColumn.MatchString(name), at)
-		first(&of.name, nameColumn.MatchString(name), at)
-		first(&of.hash, hashColumn.MatchString(name), at)
+		setFirst(&found.pem, pemColumn.MatchString(name), at)
+		setFirst(&found.name, nameColumn.MatchString(name), at)
+		setFirst(&found.hash, hashColumn.MatchString(name), at)
 		if purposeColumn.MatchString(name) {
-			of.purposes = append(of.purposes, at)
+			found.purposes = append(found.purposes, at)
 		}
 		if statusColumn.MatchString(name) {
-			of.statuses = append(of.statuses, at)
+			found.statuses = append(found.statuses, at)
 		}
 	}
-	return of
+	return found
 }
 
-// items are the parts of a value of CCADB, in lower case and without spaces.
+// items returns the parts of a value of CCADB, in lower case and without spaces.
 func items(value string) (found []string) {
-	for _, part := range strings.FieldsFunc(value, func(sign rune) bool { return sign == ';' || sign == ',' }) {
+	for _, part := range strings.FieldsFunc(value, func(char rune) bool { return char == ';' || char == ',' }) {
 		found = append(found, strings.ToLower(strings.Join(strings.Fields(part), "")))
 	}
 	return found
 }
 
-// hasServers reports whether trust bits have TLS servers, which CCADB calls Websites or Server Authentication.
+// hasServers reports whether trust bits include TLS servers, which CCADB calls Websites or Server Authentication.
 func hasServers(value string) bool {
 	for _, item := range items(value) {
 		if item == "websites" || strings.HasPrefix(item, "serverauth") {
@@ -100,8 +101,8 @@ func hasServers(value string) bool {
 	return false
 }
 
-// isIncluded reports whether a status is that of a root that a program includes. The status over all programs names
-// each of them: "Apple: Included; Mozilla: Removed".
+// isIncluded reports whether a status says that a root program includes the root. The status column of all programs
+// names each program: "Apple: Included; Mozilla: Removed".
 func isIncluded(value string) bool {
 	for _, item := range items(value) {
 		if _, status, named := strings.Cut(item, ":"); named {
@@ -115,7 +116,7 @@ func isIncluded(value string) bool {
 }
 
 // ReadTable reads a table of CCADB (.csv). Its first line has the names of the columns. The column of certificates has
-// PEM in its name, and its values may be between apostrophes. The error wraps ErrColumn if there is none.
+// PEM in its name, and its values may be between apostrophes. If there is no such column, the error wraps ErrColumn.
 func ReadTable(text []byte) (*Table, error) {
 	if len(text) > MaxRootBytes {
 		return nil, fmt.Errorf("chains: roots: more than %d bytes", MaxRootBytes)
@@ -128,7 +129,7 @@ func ReadTable(text []byte) (*Table, error) {
 	}
 	at := columnsOf(header)
 	if at.pem < 0 {
-		return nil, fmt.Errorf("%w: none has PEM in its name", ErrColumn)
+		return nil, fmt.Errorf("%w: no column has PEM in its name", ErrColumn)
 	}
 	table := &Table{HasPurposes: len(at.purposes) > 0, HasStatuses: len(at.statuses) > 0, Columns: header}
 	for {
@@ -143,31 +144,33 @@ func ReadTable(text []byte) (*Table, error) {
 	}
 }
 
-// row reads one line of a table.
-func (c columns) row(of []string) TableRow {
-	row := TableRow{PEM: []byte(strings.Trim(of[c.pem], "' \n"))}
+// row reads the values of one line of a table.
+func (c columns) row(values []string) TableRow {
+	row := TableRow{PEM: []byte(strings.Trim(values[c.pem], "' \n"))}
 	if c.name >= 0 {
-		row.Name = of[c.name]
+		row.Name = values[c.name]
 	}
 	if c.hash >= 0 {
-		// (a fingerprint that is none is not the certificate's)
-		row.Fingerprint, _ = hex.DecodeString(strings.ToLower(strings.ReplaceAll(strings.TrimSpace(of[c.hash]), ":", "")))
+		// A value that is not hexadecimal is no error here, since it never equals the certificate's fingerprint.
+		text := strings.ToLower(strings.ReplaceAll(strings.TrimSpace(values[c.hash]), ":", ""))
+		row.Fingerprint, _ = hex.DecodeString(text)
 		if row.Fingerprint == nil {
 			row.Fingerprint = []byte{}
 		}
 	}
-	any := func(columns []int, holds func(string) bool) bool {
+	// isAny reports whether a condition holds for any of the columns, or there are no such columns.
+	isAny := func(columns []int, holds func(string) bool) bool {
 		for _, at := range columns {
-			if holds(of[at]) {
+			if holds(values[at]) {
 				return true
 			}
 		}
 		return len(columns) == 0
 	}
 	switch {
-	case !any(c.purposes, hasServers):
+	case !isAny(c.purposes, hasServers):
 		row.Why = ErrPurpose
-	case !any(c.statuses, isIncluded):
+	case !isAny(c.statuses, isIncluded):
 		row.Why = ErrStatus
 	}
 	return row

@@ -13,8 +13,8 @@ import (
 	tags "golang.org/x/crypto/cryptobyte/asn1"
 )
 
-// certificate has the fields of a submitted certificate that a log needs (RFC 5280, section 4.1): the issuer, the
-// subject, the validity, its extensions, the signed bytes and the signature. It ignores all other fields. So a
+// certificate holds the fields of a submitted certificate that a log needs (RFC 5280, section 4.1): the issuer, the
+// subject, the validity, the extensions, the signed bytes and the signature. All other fields are ignored. So a
 // certificate with a name, an address, a key or an extension that crypto/x509 refuses is logged too.
 type certificate struct {
 	raw             []byte
@@ -28,12 +28,13 @@ type certificate struct {
 	signature []byte
 }
 
-// extension is one of a certificate's: the content of its OBJECT IDENTIFIER and of its OCTET STRING.
+// extension is an extension of a certificate: the content of its OBJECT IDENTIFIER, and the content of its OCTET
+// STRING.
 type extension struct {
 	identifier, value []byte
 }
 
-// identifierOf is the content of an OBJECT IDENTIFIER in DER.
+// identifierOf returns the content of an OBJECT IDENTIFIER in DER.
 func identifierOf(oid asn1.ObjectIdentifier) []byte {
 	var b cryptobyte.Builder
 	b.AddASN1ObjectIdentifier(oid)
@@ -45,15 +46,15 @@ func identifierOf(oid asn1.ObjectIdentifier) []byte {
 	return content
 }
 
-// certificateOf returns of an issuer's certificate what is read of the first one of a chain.
+// certificateOf returns the fields of a certificate that crypto/x509 has read.
 func certificateOf(issuer *x509.Certificate) *certificate {
 	c := &certificate{
 		raw: issuer.Raw, tbs: issuer.RawTBSCertificate, issuer: issuer.RawIssuer, subject: issuer.RawSubject,
 		notBefore: issuer.NotBefore, notAfter: issuer.NotAfter,
 		algorithm: issuer.SignatureAlgorithm, signature: issuer.Signature,
 	}
-	for _, of := range issuer.Extensions {
-		c.extensions = append(c.extensions, extension{identifierOf(of.Id), of.Value})
+	for _, e := range issuer.Extensions {
+		c.extensions = append(c.extensions, extension{identifierOf(e.Id), e.Value})
 	}
 	return c
 }
@@ -68,15 +69,15 @@ func (c *certificate) value(identifier []byte) ([]byte, bool) {
 	return nil, false
 }
 
-// The extension of the extended key usage, and two of its purposes (RFC 5280, section 4.2.1.12).
+// The extended key usage extension, and two of its purposes (RFC 5280, section 4.2.1.12).
 var (
 	extendedKeyUsageID     = identifierOf(asn1.ObjectIdentifier{2, 5, 29, 37})
 	oidAnyExtendedKeyUsage = asn1.ObjectIdentifier{2, 5, 29, 37, 0}
 	oidServerAuth          = asn1.ObjectIdentifier{1, 3, 6, 1, 5, 5, 7, 3, 1}
 )
 
-// isForServers reports whether a certificate may be used by TLS servers, by its extended key usage. One without this
-// extension may be used for anything, and one whose extension cannot be read for nothing.
+// isForServers reports whether TLS servers may use a certificate, according to its extended key usage. A certificate
+// without this extension may be used for anything. If the extension cannot be read, it may be used for nothing.
 func isForServers(c *certificate) bool {
 	value, has := c.value(extendedKeyUsageID)
 	if !has {
@@ -97,7 +98,7 @@ func isForServers(c *certificate) bool {
 	return found
 }
 
-// readCertificate reads a certificate in DER as far as a log needs it.
+// readCertificate reads the fields of a certificate in DER that a log needs.
 func readCertificate(der []byte) (*certificate, error) {
 	c := &certificate{raw: der}
 	input := cryptobyte.String(der)
@@ -119,8 +120,9 @@ func readCertificate(der []byte) (*certificate, error) {
 	return c, nil
 }
 
-// readTBS reads the fields of a TBSCertificate. Its signature algorithm must be the one beside it (RFC 5280, section
-// 4.1.1.2), which no signature covers. Otherwise one certificate could be submitted in many forms.
+// readTBS reads the fields of a TBSCertificate. Its signature algorithm must be the same as the one outside of the
+// TBSCertificate (RFC 5280, section 4.1.1.2), which no signature covers. Otherwise one certificate could be submitted
+// in many forms.
 func (c *certificate) readTBS(tbs, algorithm cryptobyte.String) error {
 	var fields, inner, issuer, validity, subject, explicit cryptobyte.String
 	var has bool
@@ -133,7 +135,7 @@ func (c *certificate) readTBS(tbs, algorithm cryptobyte.String) error {
 		return noDER("a TBSCertificate's field")
 	}
 	if !bytes.Equal(inner, algorithm) {
-		return fmt.Errorf("%w: the signature's algorithm differs from the TBSCertificate's", NoCertificate)
+		return fmt.Errorf("%w: the signature's algorithm differs from that in the TBSCertificate", NoCertificate)
 	}
 	c.issuer, c.subject = issuer, subject
 	var err error
@@ -191,11 +193,11 @@ func (c *certificate) readExtensions(extensions cryptobyte.String) error {
 	return nil
 }
 
-// anyKey is the SubjectPublicKeyInfo of some key of Ed25519 (RFC 8410, section 4).
+// anyKey is the SubjectPublicKeyInfo of an Ed25519 key (RFC 8410, section 4). Its value does not matter.
 var anyKey = append([]byte("\x30\x2a\x30\x05\x06\x03\x2b\x65\x70\x03\x21\x00"), make([]byte, ed25519.PublicKeySize)...)
 
-// commonAlgorithms are the algorithms of most signatures, by their AlgorithmIdentifier (RFC 5758, section 3.2, and RFC
-// 4055, section 5), as crypto/x509 reads them.
+// commonAlgorithms maps the AlgorithmIdentifiers of most signatures (RFC 5758, section 3.2, and RFC 4055, section 5) to
+// the algorithms that crypto/x509 reads from them.
 var commonAlgorithms = map[string]x509.SignatureAlgorithm{
 	"\x30\x0a\x06\x08\x2a\x86\x48\xce\x3d\x04\x03\x02":             x509.ECDSAWithSHA256,
 	"\x30\x0a\x06\x08\x2a\x86\x48\xce\x3d\x04\x03\x03":             x509.ECDSAWithSHA384,
@@ -203,8 +205,8 @@ var commonAlgorithms = map[string]x509.SignatureAlgorithm{
 	"\x30\x0d\x06\x09\x2a\x86\x48\x86\xf7\x0d\x01\x01\x0c\x05\x00": x509.SHA384WithRSA,
 }
 
-// readSignature reads the algorithm and the signature. A signature whose last byte isn't whole is refused: it would be
-// one more form of the same.
+// readSignature reads the algorithm and the signature. It refuses a signature whose last byte has unused bits, which
+// would be another form of the same certificate.
 func (c *certificate) readSignature(algorithm, signature cryptobyte.String) (err error) {
 	var isCommon bool
 	if c.algorithm, isCommon = commonAlgorithms[string(algorithm)]; !isCommon {
@@ -218,8 +220,8 @@ func (c *certificate) readSignature(algorithm, signature cryptobyte.String) (err
 	return nil
 }
 
-// readAlgorithm has crypto/x509 read the algorithm of a signature, out of a certificate that has nothing else of this
-// one.
+// readAlgorithm lets crypto/x509 read the algorithm of a signature. It puts the algorithm and the signature into a
+// certificate that has no other field of the submitted one.
 func readAlgorithm(algorithm, signature cryptobyte.String) (x509.SignatureAlgorithm, error) {
 	name, timestamp := []byte{0x30, 0}, []byte("\x17\x0d700101000000Z")
 	var b cryptobyte.Builder

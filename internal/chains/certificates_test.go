@@ -16,14 +16,15 @@ import (
 
 var oidAltNames = asn1.ObjectIdentifier{2, 5, 29, 17}
 
-// altNames is an extension subjectAltName with one GeneralName (RFC 5280, section 4.2.1.6): its tag, and its content.
+// altNames returns an extension subjectAltName with one GeneralName (RFC 5280, section 4.2.1.6), which has this tag and
+// this content.
 func altNames(tag byte, content string) pkix.Extension {
 	name := append([]byte{tag, byte(len(content))}, content...)
 	return pkix.Extension{Id: oidAltNames, Value: append([]byte{0x30, byte(len(name))}, name...)}
 }
 
-// signed is a certificate in DER whose parts are those of another one, changed, with a signature by the key.
-func signed(t testing.TB, der []byte, key *ecdsa.PrivateKey, change func(tbs []byte) []byte) []byte {
+// resigned returns a copy of a certificate in DER whose TBSCertificate is changed, with a new signature by the key.
+func resigned(t testing.TB, der []byte, key *ecdsa.PrivateKey, change func(tbs []byte) []byte) []byte {
 	t.Helper()
 	parts, err := inside(der)
 	if err != nil || len(parts) != 3 {
@@ -57,9 +58,9 @@ func otherCurve(t testing.TB) func([]byte) []byte {
 	}
 }
 
-// TestMisissuedAreShown: certificates that crypto/x509 doesn't read, and that an authority signed, are taken as they
-// are.
-func TestMisissuedAreShown(t *testing.T) {
+// TestAcceptsMisissued: certificates that crypto/x509 cannot read, and that an authority signed, are accepted
+// unchanged.
+func TestAcceptsMisissued(t *testing.T) {
 	key := newKey(t)
 	root := authority("root")
 	roots, err := ParseRoots(inPEM(signedBy(t, root, root, &key.PublicKey, key)))
@@ -76,17 +77,17 @@ func TestMisissuedAreShown(t *testing.T) {
 		change     func([]byte) []byte
 	}{
 		{"a dNSName in UTF-8", []pkix.Extension{altNames(0x82, "bücher.example")}, same},
-		{"a mail in UTF-8", []pkix.Extension{altNames(0x81, "a@bücher.example")}, same},
+		{"an email address in UTF-8", []pkix.Extension{altNames(0x81, "a@bücher.example")}, same},
 		{"an address of 5 octets", []pkix.Extension{altNames(0x87, "\x0a\x00\x00\x01\x05")}, same},
-		{"a URI that isn't one", []pkix.Extension{altNames(0x86, "http://[::1")}, same},
-		{"an extension that stands twice", []pkix.Extension{unknown, unknown}, same},
-		{"a curve that nobody knows", nil, otherCurve(t)},
+		{"an invalid URI", []pkix.Extension{altNames(0x86, "http://[::1")}, same},
+		{"an extension that occurs twice", []pkix.Extension{unknown, unknown}, same},
+		{"an unknown curve", nil, otherCurve(t)},
 	} {
 		template := &x509.Certificate{
 			SerialNumber: big.NewInt(7), NotBefore: root.NotBefore, NotAfter: root.NotAfter,
 			ExtraExtensions: test.extensions,
 		}
-		der := signed(t, signedBy(t, template, root, &newKey(t).PublicKey, key), key, test.change)
+		der := resigned(t, signedBy(t, template, root, &newKey(t).PublicKey, key), key, test.change)
 		if _, err := x509.ParseCertificate(der); err == nil {
 			t.Errorf("%s: crypto/x509 reads it", test.what)
 		}
@@ -105,7 +106,7 @@ func TestMisissuedAreShown(t *testing.T) {
 			t.Errorf("%s, outside of the window: %v", test.what, err)
 		}
 		template.ExtraExtensions = append(append([]pkix.Extension{}, test.extensions...), poisonous)
-		der = signed(t, signedBy(t, template, root, &newKey(t).PublicKey, key), key, test.change)
+		der = resigned(t, signedBy(t, template, root, &newKey(t).PublicKey, key), key, test.change)
 		entry, err = c.Precertificate([][]byte{der})
 		if err != nil {
 			t.Errorf("%s, as a precertificate: %v", test.what, err)
@@ -115,16 +116,16 @@ func TestMisissuedAreShown(t *testing.T) {
 		if err != nil {
 			t.Fatal(err)
 		}
-		want, _, err := plainly(parts[0].FullBytes)
+		want, _, err := cutByASN1(parts[0].FullBytes)
 		if err != nil || !bytes.Equal(entry.TBSCertificate, want) || !bytes.Equal(entry.Precertificate, der) {
 			t.Errorf("%s, as a precertificate: another entry, %v", test.what, err)
 		}
 	}
 }
 
-// TestOtherFormOfASignature: an ECDSA signature (r, s) is as valid as (r, n - s), which anybody with the certificate
-// can make without the key. Both are accepted, and are two entries. The two forms of a precertificate have the same
-// entry except for the submitted bytes, since it does not contain the precertificate's signature.
+// TestOtherFormOfASignature: if the ECDSA signature (r, s) is valid, (r, n - s) is valid, too. It can be made from the
+// certificate without the key. Certificates with both forms are accepted, and are two entries. The entries of the two
+// forms of a precertificate differ only in the submitted bytes, since the log's leaf does not contain the signature.
 func TestOtherFormOfASignature(t *testing.T) {
 	key := newKey(t)
 	root := authority("root")
@@ -168,7 +169,7 @@ func TestOtherFormOfASignature(t *testing.T) {
 		}
 	}
 	if bytes.Equal(first, second) || !bytes.Equal(rewritten(second), first) {
-		t.Error("it isn't another form of the same signature")
+		t.Error("the rewritten signature is not another form of the same signature")
 	}
 	template.ExtraExtensions = []pkix.Extension{{Id: oidPoison, Critical: true, Value: []byte{5, 0}}}
 	der := signedBy(t, template, root, &newKey(t).PublicKey, key)
@@ -182,13 +183,13 @@ func TestOtherFormOfASignature(t *testing.T) {
 	}
 	if !bytes.Equal(one.TBSCertificate, two.TBSCertificate) || one.IssuerKeyHash != two.IssuerKeyHash ||
 		bytes.Equal(one.Precertificate, two.Precertificate) {
-		t.Error("a precertificate and its other form aren't one entry")
+		t.Error("a precertificate and its other form have different entries")
 	}
 }
 
-// TestReadAsByLibrary: of what crypto/x509 reads, the same is read here.
+// TestReadAsByLibrary: readCertificate reads the same fields as crypto/x509.
 func TestReadAsByLibrary(t *testing.T) {
-	a := madeByOpenssl(t)
+	a := opensslCertificates(t)
 	all := seeds(t)
 	for _, name := range []string{"leaf", "precertificate", "root", "old-root", "of-rsa-sha1", "of-rsa-sha512",
 		"of-rsa-md5", "of-ed25519", "ed25519", "long"} {
@@ -204,29 +205,29 @@ func TestReadAsByLibrary(t *testing.T) {
 			t.Errorf("certificate %d: %v", i, err)
 			continue
 		}
-		of := certificateOf(want)
-		if !got.notAfter.Equal(of.notAfter) {
+		library := certificateOf(want)
+		if !got.notAfter.Equal(library.notAfter) {
 			t.Errorf("certificate %d ends %v", i, got.notAfter)
 		}
-		got.notAfter, of.notAfter = time.Time{}, time.Time{}
-		if len(got.extensions) != len(of.extensions) {
+		got.notAfter, library.notAfter = time.Time{}, time.Time{}
+		if len(got.extensions) != len(library.extensions) {
 			t.Fatalf("certificate %d: %d extensions", i, len(got.extensions))
 		}
-		for j := range of.extensions {
-			if !bytes.Equal(got.extensions[j].identifier, of.extensions[j].identifier) ||
-				!bytes.Equal(got.extensions[j].value, of.extensions[j].value) {
+		for j := range library.extensions {
+			if !bytes.Equal(got.extensions[j].identifier, library.extensions[j].identifier) ||
+				!bytes.Equal(got.extensions[j].value, library.extensions[j].value) {
 				t.Errorf("certificate %d, extension %d", i, j)
 			}
 		}
-		got.extensions, of.extensions = nil, nil
-		if !reflect.DeepEqual(got, of) {
-			t.Errorf("certificate %d: %v, and by crypto/x509 %v", i, got, of)
+		got.extensions, library.extensions = nil, nil
+		if !reflect.DeepEqual(got, library) {
+			t.Errorf("certificate %d: %v, and crypto/x509 reads %v", i, got, library)
 		}
 	}
 }
 
-// TestCommonAlgorithms: crypto/x509 reads the algorithms in the table as the table has them, and a signature of them
-// has to consist of whole bytes.
+// TestCommonAlgorithms: crypto/x509 reads the same algorithms as in the table commonAlgorithms. A signature must
+// consist of whole bytes.
 func TestCommonAlgorithms(t *testing.T) {
 	for algorithm, known := range commonAlgorithms {
 		if read, err := readAlgorithm([]byte(algorithm), []byte("\x03\x02\x00\x01")); err != nil || read != known {
@@ -245,14 +246,15 @@ func TestCommonAlgorithms(t *testing.T) {
 	}
 }
 
-// built is a certificate's parts, of which each may be another one.
+// built holds the parts of a certificate, which tests may replace.
 type built struct {
 	fields    []string // of the TBSCertificate
 	algorithm string
 	signature string
-	behind    string
+	after     string // the bytes after the signature
 }
 
+// element returns an element of DER with a tag.
 func element(tag byte, parts ...string) string {
 	content := ""
 	for _, part := range parts {
@@ -268,11 +270,11 @@ func element(tag byte, parts ...string) string {
 }
 
 func (b built) der() []byte {
-	return []byte(element(0x30, element(0x30, b.fields...), b.algorithm, b.signature, b.behind))
+	return []byte(element(0x30, element(0x30, b.fields...), b.algorithm, b.signature, b.after))
 }
 
-// TestUnreadCertificates: bytes that are no certificate in DER, in each place that is looked at.
-func TestUnreadCertificates(t *testing.T) {
+// TestRefusesWrongDER: a certificate is refused if any of the fields that are read is not valid DER.
+func TestRefusesWrongDER(t *testing.T) {
 	const (
 		algorithm  = "\x30\x05\x06\x03\x2b\x65\x70"
 		name       = "\x30\x00"
@@ -283,7 +285,7 @@ func TestUnreadCertificates(t *testing.T) {
 		item       = "\x30\x08\x06\x02\x2a\x03\x04\x02\x05\x00"
 	)
 	validity, list := element(0x30, timestamps), element(0xa3, element(0x30, item))
-	sound := func(change func(*built)) []byte {
+	valid := func(change func(*built)) []byte {
 		b := built{[]string{version, number, algorithm, name, validity, name, string(anyKey), list},
 			algorithm, signature, ""}
 		if change != nil {
@@ -292,10 +294,10 @@ func TestUnreadCertificates(t *testing.T) {
 		return b.der()
 	}
 	field := func(at int, text string) func(*built) { return func(b *built) { b.fields[at] = text } }
-	read, err := readCertificate(sound(nil))
+	read, err := readCertificate(valid(nil))
 	if err != nil || !read.notAfter.Equal(time.Date(2050, 1, 1, 0, 0, 0, 0, time.UTC)) || len(read.extensions) != 1 ||
 		read.algorithm != x509.PureEd25519 {
-		t.Fatalf("a sound one: %v, %v", read, err)
+		t.Fatalf("a valid certificate: %v, %v", read, err)
 	}
 	for what, change := range map[string]func(*built){
 		"no version, no extensions": func(b *built) { b.fields = b.fields[1:7] },
@@ -303,52 +305,52 @@ func TestUnreadCertificates(t *testing.T) {
 		"a critical extension": field(7, element(0xa3, element(0x30,
 			element(0x30, "\x06\x02\x2a\x03\x01\x01\xff\x04\x00")))),
 	} {
-		if _, err := readCertificate(sound(change)); err != nil {
+		if _, err := readCertificate(valid(change)); err != nil {
 			t.Errorf("%s: %v", what, err)
 		}
 	}
 	for what, change := range map[string]func(*built){
-		"a byte behind the signature":    func(b *built) { b.behind = "\x05\x00" },
-		"another algorithm beside it":    func(b *built) { b.algorithm = "\x30\x07\x06\x03\x2b\x65\x70\x05\x00" },
-		"no bit string":                  func(b *built) { b.signature = "\x04\x02\x00\x01" },
-		"a signature with unused bits":   func(b *built) { b.signature = "\x03\x02\x01\x02" },
-		"a signature with too many":      func(b *built) { b.signature = "\x03\x02\x09\x02" },
-		"no serial number":               field(1, ""),
-		"an issuer that is a set":        field(3, "\x31\x00"),
-		"a validity of one moment":       field(4, element(0x30, timestamps[:15])),
-		"a validity of three":            field(4, element(0x30, timestamps, timestamps[:15])),
-		"a moment that isn't one":        field(4, element(0x30, "\x17\x0d701301000000Z", timestamps[15:])),
-		"a moment of another kind":       field(4, element(0x30, "\x13\x0d700101000000Z", timestamps[15:])),
-		"a subject that is a set":        field(5, "\x31\x00"),
-		"no key":                         field(6, ""),
-		"a field behind the extensions":  field(7, list+"\x05\x00"),
-		"an extension's list that isn't": field(7, element(0xa3, element(0x31, item))),
-		"bytes behind the extensions":    field(7, element(0xa3, element(0x30, item), "\x05\x00")),
-		"an extension without a value":   field(7, element(0xa3, element(0x30, "\x30\x04\x06\x02\x2a\x03"))),
-		"an extension with two":          field(7, element(0xa3, element(0x30, element(0x30, item[2:], "\x04\x00")))),
-		"an extension without a name":    field(7, element(0xa3, element(0x30, "\x30\x02\x04\x00"))),
-		"an extension that is a set":     field(7, element(0xa3, element(0x30, "\x31"+item[1:]))),
-		"a length that is padded":        field(4, "\x30\x81"+validity[1:]),
-		"a key's length that has no end": field(6, "\x30\x80\x00\x00"),
-		"an algorithm that can't be read": func(b *built) {
+		"bytes after the signature":       func(b *built) { b.after = "\x05\x00" },
+		"another algorithm outside":       func(b *built) { b.algorithm = "\x30\x07\x06\x03\x2b\x65\x70\x05\x00" },
+		"no bit string":                   func(b *built) { b.signature = "\x04\x02\x00\x01" },
+		"a signature with unused bits":    func(b *built) { b.signature = "\x03\x02\x01\x02" },
+		"a signature with 9 unused bits":  func(b *built) { b.signature = "\x03\x02\x09\x02" },
+		"no serial number":                field(1, ""),
+		"an issuer that is a set":         field(3, "\x31\x00"),
+		"a validity of one timestamp":     field(4, element(0x30, timestamps[:15])),
+		"a validity of three timestamps":  field(4, element(0x30, timestamps, timestamps[:15])),
+		"an invalid timestamp":            field(4, element(0x30, "\x17\x0d701301000000Z", timestamps[15:])),
+		"a timestamp of another type":     field(4, element(0x30, "\x13\x0d700101000000Z", timestamps[15:])),
+		"a subject that is a set":         field(5, "\x31\x00"),
+		"no key":                          field(6, ""),
+		"a field after the extensions":    field(7, list+"\x05\x00"),
+		"a list of extensions as a set":   field(7, element(0xa3, element(0x31, item))),
+		"bytes after the extensions":      field(7, element(0xa3, element(0x30, item), "\x05\x00")),
+		"an extension without a value":    field(7, element(0xa3, element(0x30, "\x30\x04\x06\x02\x2a\x03"))),
+		"an extension with two values":    field(7, element(0xa3, element(0x30, element(0x30, item[2:], "\x04\x00")))),
+		"an extension without a name":     field(7, element(0xa3, element(0x30, "\x30\x02\x04\x00"))),
+		"an extension that is a set":      field(7, element(0xa3, element(0x30, "\x31"+item[1:]))),
+		"a length that is padded":         field(4, "\x30\x81"+validity[1:]),
+		"a key with an indefinite length": field(6, "\x30\x80\x00\x00"),
+		"an algorithm that cannot be read": func(b *built) {
 			b.fields[2], b.algorithm = "\x30\x02\x05\x00",
 				"\x30\x02\x05\x00"
 		},
-		"an algorithm that isn't there": func(b *built) { b.fields[2], b.algorithm = "", "" },
+		"no algorithm": func(b *built) { b.fields[2], b.algorithm = "", "" },
 		"an extension's flag that is text": field(7, element(0xa3,
 			element(0x30, element(0x30, "\x06\x02\x2a\x03\x0c\x00\x04\x00")))),
 	} {
-		if got, err := readCertificate(sound(change)); got != nil || RefusalOf(err) != NoCertificate {
+		if got, err := readCertificate(valid(change)); got != nil || RefusalOf(err) != NoCertificate {
 			t.Errorf("%s: %v, %v", what, got != nil, err)
 		}
 	}
-	whole := sound(nil)
+	whole := valid(nil)
 	for cut := range whole {
 		if _, err := readCertificate(whole[:cut]); RefusalOf(err) != NoCertificate {
 			t.Errorf("its first %d bytes: %v", cut, err)
 		}
 	}
 	if _, err := readCertificate(append(whole, 0)); RefusalOf(err) != NoCertificate {
-		t.Errorf("a byte behind it: %v", err)
+		t.Errorf("a byte after it: %v", err)
 	}
 }

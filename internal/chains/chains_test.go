@@ -17,8 +17,8 @@ import (
 	"time"
 )
 
-func TestCertificatesAreTaken(t *testing.T) {
-	a := madeByOpenssl(t)
+func TestAcceptsCertificates(t *testing.T) {
+	a := opensslCertificates(t)
 	c := NewChecker(a.roots(t, "root", "old-root"), Rules{}, byASN1{})
 	for _, test := range []struct {
 		what      string
@@ -27,23 +27,23 @@ func TestCertificatesAreTaken(t *testing.T) {
 	}{
 		{"a chain up to its root", []string{"leaf", "middle", "root"}, []string{"middle", "root"}},
 		{"a chain whose root is left out", []string{"leaf", "middle"}, []string{"middle", "root"}},
-		{"what the root issued", []string{"of-root"}, []string{"root"}},
-		{"an authority's own", []string{"middle"}, []string{"root"}},
+		{"a certificate that the root issued", []string{"of-root"}, []string{"root"}},
+		{"the certificate of an authority", []string{"middle"}, []string{"root"}},
 		{"a root", []string{"root"}, nil},
 		{"an RSA key", []string{"of-rsa", "rsa"}, []string{"rsa", "root"}},
 		{"SHA-1", []string{"of-rsa-sha1", "rsa"}, []string{"rsa", "root"}},
 		{"SHA-512", []string{"of-rsa-sha512", "rsa"}, []string{"rsa", "root"}},
 		{"an Ed25519 key", []string{"of-ed25519", "ed25519"}, []string{"ed25519", "root"}},
-		{"one that expired", []string{"expired", "middle"}, []string{"middle", "root"}},
-		{"one that isn't valid yet", []string{"not-yet", "middle"}, []string{"middle", "root"}},
-		{"a critical extension that nobody knows", []string{"unknown-critical", "middle"}, []string{"middle", "root"}},
+		{"an expired certificate", []string{"expired", "middle"}, []string{"middle", "root"}},
+		{"a certificate that is not valid yet", []string{"not-yet", "middle"}, []string{"middle", "root"}},
+		{"an unknown critical extension", []string{"unknown-critical", "middle"}, []string{"middle", "root"}},
 		{"a path longer than its issuer may have", []string{"of-below-shallow", "below-shallow", "shallow"},
 			[]string{"below-shallow", "shallow", "root"}},
-		{"a name that its issuer mayn't give", []string{"of-constrained", "constrained"},
+		{"a name that its issuer may not use", []string{"of-constrained", "constrained"},
 			[]string{"constrained", "root"}},
 		{"a root of version 1", []string{"of-old-root"}, []string{"old-root"}},
 		{"400 names", []string{"long", "middle"}, []string{"middle", "root"}},
-		{"a precertificate signing certificate's own", []string{"signing", "middle"}, []string{"middle", "root"}},
+		{"a precertificate signing certificate", []string{"signing", "middle"}, []string{"middle", "root"}},
 	} {
 		entry, err := c.Certificate(a.chain(t, test.submitted...))
 		if err != nil {
@@ -63,20 +63,22 @@ func TestCertificatesAreTaken(t *testing.T) {
 
 // refused is a chain, and why it is refused.
 type refused struct {
-	why       Refusal
-	what      string
-	chain     [][]byte
-	precert   bool
-	roots     string
-	from, til string
+	why      Refusal
+	what     string
+	chain    [][]byte
+	precert  bool
+	roots    string
+	from, to string // the window
 }
 
-// wrongly damages a certificate: the last byte of its signature.
-func wrongly(der []byte) []byte {
-	damaged := append([]byte{}, der...)
-	damaged[len(damaged)-1] ^= 1
-	return damaged
+// damaged returns a certificate with another last byte of its signature.
+func damaged(der []byte) []byte {
+	copied := append([]byte{}, der...)
+	copied[len(copied)-1] ^= 1
+	return copied
 }
+
+// refusals returns chains that are refused, with at least one for each Refusal that Rules do not cause.
 
 func refusals(t testing.TB, a *authorities) []refused {
 	chain := func(names ...string) [][]byte { return a.chain(t, names...) }
@@ -85,46 +87,46 @@ func refusals(t testing.TB, a *authorities) []refused {
 	for i := range seventeen {
 		seventeen[i] = root
 	}
-	half := make([]byte, LongestCertificate)
+	longest := make([]byte, MaxCertificateBytes)
 	large, ofLarge := ofALargeKey(t)
 	return []refused{
 		{why: EmptyChain, what: "none"},
 		{why: EmptyChain, what: "none, of a precertificate", precert: true},
 		{why: ChainTooLong, what: "too many", chain: seventeen},
-		{why: ChainTooLong, what: "too many bytes", chain: [][]byte{half, half, half}},
-		{why: CertificateTooLong, what: "one too long", chain: [][]byte{append(half, 0), root}},
+		{why: ChainTooLong, what: "too many bytes", chain: [][]byte{longest, longest, longest}},
+		{why: CertificateTooLong, what: "one too long", chain: [][]byte{append(longest, 0), root}},
 		{why: NoCertificate, what: "no bytes", chain: [][]byte{{}}},
 		{why: NoCertificate, what: "no DER", chain: [][]byte{[]byte("-----BEGIN CERTIFICATE-----"), root}},
 		{why: NoCertificate, what: "cut off", chain: [][]byte{leaf[:len(leaf)-1], middle}},
-		{why: NoCertificate, what: "a byte behind it", chain: [][]byte{append(leaf[:len(leaf):len(leaf)], 0), middle}},
+		{why: NoCertificate, what: "a byte after it", chain: [][]byte{append(leaf[:len(leaf):len(leaf)], 0), middle}},
 		{why: NoCertificate, what: "an issuer cut off", chain: [][]byte{leaf, middle[:100]}},
 		{why: NotIssuedByNext, what: "another order", chain: chain("middle", "leaf")},
 		{why: NotIssuedByNext, what: "a gap", chain: chain("leaf", "root")},
 		{why: NotIssuedByNext, what: "one twice", chain: chain("leaf", "leaf", "middle")},
-		{why: NotIssuedByNext, what: "one more behind it", chain: chain("leaf", "middle", "root", "other")},
+		{why: NotIssuedByNext, what: "another one after it", chain: chain("leaf", "middle", "root", "other")},
 		{why: UnknownRoot, what: "another root", chain: chain("of-other")},
 		{why: UnknownRoot, what: "another root, with it", chain: chain("of-other", "other")},
 		{why: UnknownRoot, what: "a leaf without its issuers", chain: chain("leaf")},
-		{why: UnknownRoot, what: "the last one's signature isn't the root's", chain: [][]byte{leaf, wrongly(middle)}},
-		{why: UnknownRoot, what: "a damaged root", chain: [][]byte{leaf, middle, wrongly(root)}},
-		{why: UnknownRoot, what: "the root's own name, another key", chain: sameName(t, root)},
+		{why: UnknownRoot, what: "the root did not sign the last one", chain: [][]byte{leaf, damaged(middle)}},
+		{why: UnknownRoot, what: "a damaged root", chain: [][]byte{leaf, middle, damaged(root)}},
+		{why: UnknownRoot, what: "the root's name, and another key", chain: sameName(t, root)},
 		{why: NotAnAuthority, what: "a leaf issued it", chain: chain("of-leaf", "leaf", "middle")},
 		{why: NotAnAuthority, what: "an authority for revocations issued it",
 			chain: chain("of-crl-signer", "crl-signer")},
 		{why: NotAnAuthority, what: "one of version 1 issued it", chain: ofVersion1(t, a), roots: "root"},
 		{why: KeyTooLong, what: "a large key", chain: [][]byte{ofLarge, large}, roots: "large"},
-		{why: BadSignature, what: "a damaged one", chain: [][]byte{wrongly(leaf), middle}},
-		{why: BadSignature, what: "a damaged one between", chain: [][]byte{leaf, wrongly(middle), root}},
+		{why: BadSignature, what: "a damaged one", chain: [][]byte{damaged(leaf), middle}},
+		{why: BadSignature, what: "a damaged one in the middle", chain: [][]byte{leaf, damaged(middle), root}},
 		{why: BadSignature, what: "MD5", chain: chain("of-rsa-md5", "rsa")},
 		{why: BadSignature, what: "a damaged precertificate",
-			chain: [][]byte{wrongly(chain("precertificate")[0]), middle}, precert: true},
+			chain: [][]byte{damaged(chain("precertificate")[0]), middle}, precert: true},
 		{why: OutsideWindow, what: "at its end", chain: chain("leaf", "middle"), from: "2026-01-01T00:00:00Z",
-			til: "2027-01-01T00:00:00Z"},
+			to: "2027-01-01T00:00:00Z"},
 		{why: OutsideWindow, what: "before it", chain: chain("leaf", "middle"), from: "2027-01-01T00:00:01Z"},
 		{why: OutsideWindow, what: "a precertificate", chain: chain("precertificate", "middle"), precert: true,
-			til: "2027-01-01T00:00:00Z"},
+			to: "2027-01-01T00:00:00Z"},
 		{why: IsPrecertificate, what: "a precertificate", chain: chain("precertificate", "middle")},
-		{why: IsPrecertificate, what: "one with a poison that isn't critical",
+		{why: IsPrecertificate, what: "one with a poison that is not critical",
 			chain: chain("poison-uncritical", "middle")},
 		{why: NoPoison, what: "a certificate", chain: chain("leaf", "middle"), precert: true},
 		{why: NoPoison, what: "a root", chain: chain("root"), precert: true},
@@ -136,20 +138,20 @@ func refusals(t testing.TB, a *authorities) []refused {
 			roots: "signing-root"},
 		{why: NoFinalIssuer, what: "a root with the poison", chain: chain("precertificate"), precert: true,
 			roots: "precertificate"},
-		{why: NoAuthorityKey, what: "a signing certificate without",
+		{why: NoAuthorityKey, what: "a signing certificate without a key identifier",
 			chain: chain("signed-with-key", "signing-without-key", "middle"), precert: true},
 	}
 }
 
 func TestChainsAreRefused(t *testing.T) {
-	a := madeByOpenssl(t)
-	// (TestRules has these three)
+	a := opensslCertificates(t)
+	// TestRules tests these three refusals.
 	reached := map[Refusal]bool{Expired: true, NotYetValid: true, NotForServers: true}
 	for _, test := range refusals(t, a) {
 		if test.roots == "" {
 			test.roots = "root"
 		}
-		window := Window{timestamp(t, test.from), timestamp(t, test.til)}
+		window := Window{timestamp(t, test.from), timestamp(t, test.to)}
 		c := NewChecker(rootsNamed(t, a, test), Rules{Window: window}, byASN1{})
 		call := c.Certificate
 		if test.precert {
@@ -171,7 +173,7 @@ func TestChainsAreRefused(t *testing.T) {
 	}
 }
 
-// rootsNamed returns the roots of a refusal: of openssl's certificates, or the last of its own chain.
+// rootsNamed returns the root for a refused chain: one of openssl's certificates, or the last certificate of the chain.
 func rootsNamed(t testing.TB, a *authorities, test refused) *Roots {
 	if test.roots != "large" {
 		return a.roots(t, test.roots)
@@ -187,14 +189,14 @@ func timestamp(t testing.TB, text string) time.Time {
 	if text == "" {
 		return time.Time{}
 	}
-	at, err := time.Parse(time.RFC3339, text)
+	parsed, err := time.Parse(time.RFC3339, text)
 	if err != nil {
 		t.Fatal(err)
 	}
-	return at
+	return parsed
 }
 
-// authority is a template for crypto/x509.
+// authority returns the template of an authority for crypto/x509.
 func authority(name string) *x509.Certificate {
 	return &x509.Certificate{
 		SerialNumber: big.NewInt(1), Subject: pkix.Name{CommonName: name}, IsCA: true, BasicConstraintsValid: true,
@@ -210,7 +212,7 @@ func newKey(t testing.TB) *ecdsa.PrivateKey {
 	return key
 }
 
-// signedBy makes a certificate by crypto/x509.
+// signedBy returns a certificate in DER that crypto/x509 makes.
 func signedBy(t testing.TB, template, parent *x509.Certificate, public any, key any) []byte {
 	der, err := x509.CreateCertificate(rand.Reader, template, parent, public, key)
 	if err != nil {
@@ -219,8 +221,9 @@ func signedBy(t testing.TB, template, parent *x509.Certificate, public any, key 
 	return der
 }
 
-// ofALargeKey returns an authority whose RSA key is too large, and a certificate in its name.
-func ofALargeKey(t testing.TB) (large, of []byte) {
+// ofALargeKey returns the certificate of an authority whose RSA key is too large, and a certificate with this authority
+// as its issuer.
+func ofALargeKey(t testing.TB) (large, leaf []byte) {
 	modulus := new(big.Int).Lsh(big.NewInt(1), MaxKeyBits)
 	modulus.SetBit(modulus, 0, 1)
 	key, parent := newKey(t), authority("large")
@@ -264,7 +267,7 @@ func read(t testing.TB, path string) []byte {
 	return content
 }
 
-// TestChainOfSixteen: as many as may be.
+// TestChainOfSixteen: a chain of MaxCertificates is accepted, and a chain of one more is refused.
 func TestChainOfSixteen(t *testing.T) {
 	key := newKey(t)
 	parent := authority("0")
@@ -295,11 +298,11 @@ func TestChainOfSixteen(t *testing.T) {
 }
 
 func TestWindow(t *testing.T) {
-	a := madeByOpenssl(t)
+	a := opensslCertificates(t)
 	roots, chain := a.roots(t, "root"), a.chain(t, "leaf", "middle")
 	for _, test := range []struct {
-		from, to string
-		taken    bool
+		from, to   string
+		isAccepted bool
 	}{
 		{"", "", true},
 		{"2027-01-01T00:00:00Z", "2027-01-01T00:00:01Z", true},
@@ -310,14 +313,14 @@ func TestWindow(t *testing.T) {
 	} {
 		_, err := NewChecker(roots, Rules{Window: Window{timestamp(t, test.from), timestamp(t, test.to)}},
 			byASN1{}).Certificate(chain)
-		if (err == nil) != test.taken || err != nil && RefusalOf(err) != OutsideWindow {
+		if (err == nil) != test.isAccepted || err != nil && RefusalOf(err) != OutsideWindow {
 			t.Errorf("from %q to %q: %v", test.from, test.to, err)
 		}
 	}
 }
 
 func TestRoots(t *testing.T) {
-	a := madeByOpenssl(t)
+	a := opensslCertificates(t)
 	root, other := a.pem(t, "root"), a.pem(t, "other")
 	text := bytes.Join([][]byte{[]byte("the roots\n"), root, []byte("\nonce more:\n"), root, other,
 		[]byte("end\n")}, nil)
@@ -330,7 +333,7 @@ func TestRoots(t *testing.T) {
 		"no PEM":         []byte("a text"),
 		"a key":          append(root[:len(root):len(root)], read(t, a.path("root.key"))...),
 		"no certificate": append(inPEM([]byte("nothing")), root...),
-		"a block that isn't read": append([]byte(
+		"a block that cannot be read": append([]byte(
 			"-----BEGIN CERTIFICATE-----\n*\n-----END CERTIFICATE-----\n"), root...),
 		"a block cut off":       append(root[:len(root):len(root)], other[:200]...),
 		"a block cut off first": append(append([]byte{}, other[:200]...), root...),
@@ -343,7 +346,7 @@ func TestRoots(t *testing.T) {
 }
 
 func TestReload(t *testing.T) {
-	a := madeByOpenssl(t)
+	a := opensslCertificates(t)
 	file := filepath.Join(t.TempDir(), "roots.pem")
 	write := func(text []byte) {
 		if err := os.WriteFile(file, text, 0o600); err != nil {
@@ -357,7 +360,7 @@ func TestReload(t *testing.T) {
 	}
 	write(a.pem(t, "root"))
 	if added, removed, err := c.Reload(RootFiles{Paths: []string{file}}); added != 1 || removed != 1 || err != nil {
-		t.Errorf("%d are new and %d gone: %v", added, removed, err)
+		t.Errorf("%d are new and %d were removed: %v", added, removed, err)
 	}
 	write([]byte("damaged"))
 	if _, _, err := c.Reload(RootFiles{Paths: []string{file}}); err == nil {
@@ -367,7 +370,7 @@ func TestReload(t *testing.T) {
 		t.Error("an absent file is read")
 	}
 	if _, err := c.Certificate(chain); err != nil {
-		t.Errorf("behind: %v", err)
+		t.Errorf("after: %v", err)
 	}
 	if got := c.Roots().Certificates(); !reflect.DeepEqual(got, a.chain(t, "root")) {
 		t.Errorf("%d roots", len(got))

@@ -11,8 +11,8 @@ import (
 // 3.1).
 var poisonID = []byte{0x2b, 6, 1, 4, 1, 0xd6, 0x79, 2, 4, 3}
 
-// extensionsIn splits a TBSCertificate into all bytes of the fields before its extensions, and the extensions one after
-// the other; none if it has no such field.
+// extensionsIn splits a TBSCertificate. It returns all bytes of the fields before the extensions, and the bytes of all
+// extensions. There are none if the TBSCertificate has no such field.
 func extensionsIn(tbs []byte) (before, extensions cryptobyte.String, ok bool) {
 	input := cryptobyte.String(tbs)
 	var fields, explicit cryptobyte.String
@@ -36,9 +36,9 @@ func extensionsIn(tbs []byte) (before, extensions cryptobyte.String, ok bool) {
 	return before, extensions, ok
 }
 
-// withoutPoison returns extensions without the one that is the poison, which must be there once.
+// withoutPoison returns extensions without the poison. ok is whether the poison occurs exactly once.
 func withoutPoison(extensions cryptobyte.String) (kept []byte, ok bool) {
-	cut := 0
+	poisons := 0
 	for !extensions.Empty() {
 		var whole, content, identifier cryptobyte.String
 		if !extensions.ReadASN1Element(&whole, asn1.SEQUENCE) {
@@ -49,23 +49,23 @@ func withoutPoison(extensions cryptobyte.String) (kept []byte, ok bool) {
 			return nil, false
 		}
 		if bytes.Equal(identifier, poisonID) {
-			cut++
+			poisons++
 		} else {
 			kept = append(kept, whole...)
 		}
 	}
-	return kept, cut == 1
+	return kept, poisons == 1
 }
 
-// isCut reports whether an entry is a precertificate's TBSCertificate without the poison extension, and otherwise the
-// same, except the lengths around. The function is proved to reply that. This also guards the way to it and back: a
-// wrong entry has no root that it can be compared with.
+// isCut reports whether an entry is a precertificate's TBSCertificate without the poison extension, and has no other
+// difference except in the lengths around it. The function that makes entries is proved to do so. This check also finds
+// faults of the call itself. A wrong entry would not be found later, since there is no root hash to compare it with.
 func isCut(tbs, entry []byte) bool {
 	before, extensions, ok := extensionsIn(tbs)
-	entryBefore, left, entryOK := extensionsIn(entry)
+	entryBefore, entryExtensions, entryOK := extensionsIn(entry)
 	if !ok || !entryOK {
 		return false
 	}
 	kept, ok := withoutPoison(extensions)
-	return ok && bytes.Equal(before, entryBefore) && bytes.Equal(kept, left)
+	return ok && bytes.Equal(before, entryBefore) && bytes.Equal(kept, entryExtensions)
 }

@@ -10,7 +10,7 @@ import (
 	"wagtenib/bindings/go/wagtenib"
 )
 
-// tbsWith is a TBSCertificate of empty fields with these extensions (RFC 5280, section 4.1).
+// tbsWith returns a TBSCertificate with empty fields and with these extensions (RFC 5280, section 4.1).
 func tbsWith(t *testing.T, extensions string) []byte {
 	t.Helper()
 	wrapped := func(tag byte, content []byte) []byte { return append([]byte{tag, byte(len(content))}, content...) }
@@ -25,7 +25,7 @@ func tbsWith(t *testing.T, extensions string) []byte {
 	return wrapped(0x30, fields)
 }
 
-// TestPrecertificates has the proved function cut out the poison.
+// TestPrecertificates: the proved function removes the poison.
 func TestPrecertificates(t *testing.T) {
 	c := NewCutter()
 	const poison, number, other = "3013060a2b06010401d6790204030101ff04020500",
@@ -50,9 +50,10 @@ func TestPrecertificates(t *testing.T) {
 	}
 }
 
-// TestWrongCuts has a function reply with entries that aren't the precertificate's: another certificate's, one bit of
-// the right one changed, one byte less, the order of its extensions, or an extension more or less. None may be used.
-func TestWrongCuts(t *testing.T) {
+// TestRefusesWrongEntries uses a function that returns wrong entries for a precertificate: the entry of another
+// certificate, or one with another bit, without a byte, with another order of extensions, or with one extension more or
+// less. None may be used.
+func TestRefusesWrongEntries(t *testing.T) {
 	t.Parallel()
 	const poison, one, two = "3013060a2b06010401d6790204030101ff04020500", "3009060355041d0402aabb",
 		"3009060355041e0402ccdd"
@@ -62,51 +63,51 @@ func TestWrongCuts(t *testing.T) {
 	wrongs := [][]byte{tbs, another, tbsWith(t, two+one), tbsWith(t, one), tbsWith(t, one+two+two), tbsWith(t, ""),
 		right[:len(right)-1], append(append([]byte{}, right...), 0), {0x30, 0}}
 	for at := range right {
-		bent := append([]byte{}, right...)
-		bent[at] ^= 1
-		wrongs = append(wrongs, bent)
+		changed := append([]byte{}, right...)
+		changed[at] ^= 1
+		wrongs = append(wrongs, changed)
 	}
 	for _, wrong := range wrongs {
 		if isCut(tbs, wrong) {
-			t.Errorf("%x is taken for the entry of %x", wrong, tbs)
+			t.Errorf("%x is accepted as the entry of %x", wrong, tbs)
 		}
 	}
-	// The entry of a precertificate without other extensions has none, and no list of them.
+	// If a precertificate has no other extensions, its entry has no extensions and no list of them.
 	if !isCut(tbs, right) || !isCut(tbsWith(t, poison), tbsWith(t, "")) ||
 		isCut(tbsWith(t, poison+one+poison), tbsWith(t, one)) || isCut(right, right) {
-		t.Error("what is an entry isn't taken for one, or the other way round")
+		t.Error("a correct entry is refused, or a wrong one is accepted")
 	}
-	for _, of := range []struct {
+	for _, test := range []struct {
 		entry []byte
 		right bool
 	}{{right, true}, {another, false}, {nil, false}, {tbs[:1], false}} {
-		if entry, err := returning(of.entry, nil).WithoutPoison(tbs); of.right != (err == nil) ||
-			of.right != (entry != nil) || !of.right && !errors.Is(err, errCut) {
-			t.Errorf("%x: %x, %v", of.entry, entry, err)
+		if entry, err := cutterReturning(test.entry, nil).WithoutPoison(tbs); test.right != (err == nil) ||
+			test.right != (entry != nil) || !test.right && !errors.Is(err, errCut) {
+			t.Errorf("%x: %x, %v", test.entry, entry, err)
 		}
 	}
 }
 
-// returning returns a cutter over a function that returns this for every TBSCertificate.
-func returning(entry []byte, err error) Cutter {
+// cutterReturning returns a cutter over a function that returns the same results for every TBSCertificate.
+func cutterReturning(entry []byte, err error) Cutter {
 	return CutterOver(func([]byte) ([]byte, error) { return entry, err })
 }
 
-// TestRefusalsAreFound: each error of the function is found by its name, and comes with no entry.
+// TestRefusalsAreFound: for each error of the function, errors.Is finds its kind, and there is no entry.
 func TestRefusalsAreFound(t *testing.T) {
 	t.Parallel()
 	tbs := tbsWith(t, "")
 	unfit := func(code wagtenib.Code) error { return &wagtenib.CertificateError{Code: code, Field: 14} }
-	for _, of := range []struct{ err, want error }{
+	for _, test := range []struct{ err, want error }{
 		{unfit(wagtenib.ErrNoExtension), wagtenib.ErrNoExtension},
 		{unfit(wagtenib.ErrSecondExtension), wagtenib.ErrSecondExtension},
 		{unfit(wagtenib.ErrBadPoison), wagtenib.ErrBadPoison},
 		{unfit(wagtenib.ErrDERTruncated), errUnread}, {unfit(wagtenib.ErrDERTrailing), errUnread},
 		{wagtenib.ErrMemory, wagtenib.ErrMemory},
 	} {
-		if entry, err := returning(tbs, of.err).WithoutPoison(tbs); !errors.Is(err, of.want) ||
-			!errors.Is(err, of.err) || entry != nil {
-			t.Errorf("%v: %x, %v", of.err, entry, err)
+		if entry, err := cutterReturning(tbs, test.err).WithoutPoison(tbs); !errors.Is(err, test.want) ||
+			!errors.Is(err, test.err) || entry != nil {
+			t.Errorf("%v: %x, %v", test.err, entry, err)
 		}
 	}
 }

@@ -12,7 +12,7 @@ import (
 	"wagtenib/bindings/go/wagtenib"
 )
 
-// The one form of the poison extension: its OID, critical, and NULL in an OCTET STRING.
+// poison is the only valid form of the poison extension: its OID, critical, and NULL in an OCTET STRING.
 var poison = []byte{0x30, 0x13, 0x06, 0x0a, 0x2b, 0x06, 0x01, 0x04, 0x01, 0xd6, 0x79, 0x02, 0x04, 0x03, 0x01, 0x01,
 	0xff, 0x04, 0x02, 0x05, 0x00}
 
@@ -20,11 +20,11 @@ var poison = []byte{0x30, 0x13, 0x06, 0x0a, 0x2b, 0x06, 0x01, 0x04, 0x01, 0xd6, 
 type byASN1 struct{}
 
 func (byASN1) WithoutPoison(tbs []byte) ([]byte, error) {
-	made, _, err := plainly(tbs)
+	made, _, err := cutByASN1(tbs)
 	return made, err
 }
 
-// listOf returns the fields of a TBSCertificate before its extensions, and these.
+// listOf returns the fields of a TBSCertificate before its extensions, and the extensions.
 func listOf(tbs []byte) (fields, extensions []asn1.RawValue, err error) {
 	fields, err = inside(tbs)
 	if err != nil || len(fields) == 0 {
@@ -44,8 +44,8 @@ func listOf(tbs []byte) (fields, extensions []asn1.RawValue, err error) {
 	return fields[:last], extensions, nil
 }
 
-// plainly takes the poison extension out, and also gives the place where it was.
-func plainly(tbs []byte) (made []byte, place int, err error) {
+// cutByASN1 removes the poison extension. It returns the entry, and the place of the poison among the extensions.
+func cutByASN1(tbs []byte) (made []byte, place int, err error) {
 	fields, extensions, err := listOf(tbs)
 	if err != nil {
 		return nil, 0, err
@@ -74,19 +74,19 @@ func plainly(tbs []byte) (made []byte, place int, err error) {
 	return wrapped(asn1.ClassUniversal, asn1.TagSequence, fields).FullBytes, place, nil
 }
 
-// answers is a cutter that answers so.
-type answers struct {
+// fakeCutter is a cutter that always returns the same results.
+type fakeCutter struct {
 	entry []byte
 	err   error
 }
 
-func (a answers) WithoutPoison([]byte) ([]byte, error) { return a.entry, a.err }
+func (a fakeCutter) WithoutPoison([]byte) ([]byte, error) { return a.entry, a.err }
 
 // TestCutters: a TBSCertificate that a cutter refuses is refused by name. An error of the cutter itself is returned.
 func TestCutters(t *testing.T) {
-	a := madeByOpenssl(t)
+	a := opensslCertificates(t)
 	chain := a.chain(t, "precertificate", "middle")
-	gone := errors.New("it is gone")
+	other := errors.New("another error")
 	for _, test := range []struct {
 		err  error
 		want Refusal
@@ -94,21 +94,22 @@ func TestCutters(t *testing.T) {
 		{wagtenib.ErrNoExtension, NoPoison}, {wagtenib.ErrSecondExtension, NoPoison},
 		{wagtenib.ErrBadPoison, BadPoison},
 		{fmt.Errorf("%w: trailing in tbs of the certificate", errUnread), NoCertificate},
-		{wagtenib.ErrMemory, ""}, {gone, ""},
+		{wagtenib.ErrMemory, ""}, {other, ""},
 	} {
 		entry, err := NewChecker(a.roots(t, "root"), Rules{},
-			answers{[]byte("an entry"), test.err}).Precertificate(chain)
+			fakeCutter{[]byte("an entry"), test.err}).Precertificate(chain)
 		if entry != nil || RefusalOf(err) != test.want || test.want == "" && !errors.Is(err, test.err) {
 			t.Errorf("%v: %v, %v", test.err, entry != nil, err)
 		}
 	}
-	entry, err := NewChecker(a.roots(t, "root"), Rules{}, answers{entry: []byte("an entry")}).Precertificate(chain)
+	entry, err := NewChecker(a.roots(t, "root"), Rules{}, fakeCutter{entry: []byte("an entry")}).Precertificate(chain)
 	if err != nil || string(entry.TBSCertificate) != "an entry" {
 		t.Errorf("another entry: %v", err)
 	}
 }
 
-// TestPoisonTwice: of two poison extensions none is cut out, by the proved function and by encoding/asn1.
+// TestPoisonTwice: a TBSCertificate with two poison extensions is refused, by the proved function and by the cutter
+// that uses encoding/asn1.
 func TestPoisonTwice(t *testing.T) {
 	cutters := []Cutter{NewCutter(), byASN1{}}
 	for _, line := range realPrecertificates(t)[:1] {
@@ -124,13 +125,13 @@ func TestPoisonTwice(t *testing.T) {
 			}
 			again := poisoned(t, poisoned(t, entry, 0), 1)
 			if _, err := cutter.WithoutPoison(again); !errors.Is(err, wagtenib.ErrSecondExtension) {
-				t.Errorf("%T: two of them: %v", cutter, err)
+				t.Errorf("%T: two poison extensions: %v", cutter, err)
 			}
 			if _, err := cutter.WithoutPoison(entry); !errors.Is(err, wagtenib.ErrNoExtension) {
-				t.Errorf("%T: none of them: %v", cutter, err)
+				t.Errorf("%T: no poison extension: %v", cutter, err)
 			}
 			if _, err := cutter.WithoutPoison(append(append([]byte{}, tbs...), 0)); !errors.Is(err, errUnread) {
-				t.Errorf("%T: a byte behind it: %v", cutter, err)
+				t.Errorf("%T: a byte after it: %v", cutter, err)
 			}
 		}
 	}

@@ -12,7 +12,7 @@ import (
 	"time"
 )
 
-// seeds are certificates: the real precertificates and their issuers, and some of crypto/x509's.
+// seeds returns certificates: the real precertificates with their issuers, and some that crypto/x509 makes.
 func seeds(t testing.TB) (certificates [][]byte) {
 	for _, line := range realPrecertificates(t) {
 		certificates = append(certificates, line.Chain...)
@@ -31,7 +31,7 @@ func seeds(t testing.TB) (certificates [][]byte) {
 	return append(certificates, signedBy(t, template, template, &key.PublicKey, key))
 }
 
-// values reads the values of DER that follow one another, by encoding/asn1.
+// values returns the values in a sequence of DER values, as encoding/asn1 reads them.
 func values(der []byte) (found []asn1.RawValue, err error) {
 	for err == nil && len(der) > 0 {
 		var value asn1.RawValue
@@ -41,12 +41,12 @@ func values(der []byte) (found []asn1.RawValue, err error) {
 	return found, err
 }
 
-// inside returns the values in the one value that these bytes are.
+// inside returns the values inside of a value. The bytes must be one value in DER.
 func inside(der []byte) ([]asn1.RawValue, error) {
 	var value asn1.RawValue
 	rest, err := asn1.Unmarshal(der, &value)
 	if err == nil && len(rest) > 0 {
-		err = errors.New("bytes behind it")
+		err = errors.New("there are bytes after it")
 	}
 	if err != nil {
 		return nil, err
@@ -54,19 +54,19 @@ func inside(der []byte) ([]asn1.RawValue, error) {
 	return values(value.Bytes)
 }
 
-// wrapped puts values into one.
+// wrapped returns a value that contains these values.
 func wrapped(class, tag int, inner []asn1.RawValue) asn1.RawValue {
 	var content []byte
 	for _, value := range inner {
 		content = append(content, value.FullBytes...)
 	}
 	whole := asn1.RawValue{Class: class, Tag: tag, IsCompound: true, Bytes: content}
-	// A value whose tag is below 31 has an encoding.
+	// The error is ignored, since a value whose tag is below 31 always has an encoding.
 	whole.FullBytes, _ = asn1.Marshal(whole)
 	return whole
 }
 
-// poisoned puts the poison extension back to its place.
+// poisoned returns a TBSCertificate with the poison extension at a place among its extensions.
 func poisoned(t *testing.T, tbs []byte, place int) []byte {
 	fields, err := inside(tbs)
 	if err != nil {
@@ -90,8 +90,8 @@ func poisoned(t *testing.T, tbs []byte, place int) []byte {
 	return wrapped(asn1.ClassUniversal, asn1.TagSequence, fields).FullBytes
 }
 
-// FuzzFinalIssuer: a TBSCertificate with another issuer is made, whose name and key are the ones that were given, with
-// the poison where it was, or it is refused.
+// FuzzFinalIssuer: withFinalIssuer returns a TBSCertificate with the given name and key identifier, and with the poison
+// at the same place, or it refuses the TBSCertificate.
 func FuzzFinalIssuer(f *testing.F) {
 	for _, der := range seeds(f) {
 		if certificate, err := x509.ParseCertificate(der); err == nil {
@@ -100,12 +100,12 @@ func FuzzFinalIssuer(f *testing.F) {
 	}
 	f.Fuzz(func(t *testing.T, tbs, name, key []byte) {
 		if _, err := inside(name); err != nil || name[0] != 0x30 {
-			return // crypto/x509 reads no such name
+			return // crypto/x509 does not read such a name
 		}
 		made, err := withFinalIssuer(tbs, &finalIssuer{name, key})
 		if err != nil {
 			if RefusalOf(err) == "" {
-				t.Errorf("an error without a name: %v", err)
+				t.Errorf("an error that is not a refusal: %v", err)
 			}
 			return
 		}
@@ -113,21 +113,21 @@ func FuzzFinalIssuer(f *testing.F) {
 		if err != nil || !bytes.Equal(again, made) || !bytes.Contains(made, name) {
 			t.Errorf("%x, %v", made, err)
 		}
-		entry, place, err := plainly(tbs)
+		entry, place, err := cutByASN1(tbs)
 		if err != nil {
 			return
 		}
-		if _, also, err := plainly(made); err != nil || also != place {
-			t.Errorf("%x: the poison is at %d, and was at %d: %v", made, also, place, err)
+		if _, newPlace, err := cutByASN1(made); err != nil || newPlace != place {
+			t.Errorf("%x: the poison is at %d, and was at %d: %v", made, newPlace, place, err)
 		}
-		if back := poisoned(t, entry, place); !bytes.Equal(back, tbs) {
-			t.Errorf("%x\nwith the poison put back is\n%x", tbs, back)
+		if restored := poisoned(t, entry, place); !bytes.Equal(restored, tbs) {
+			t.Errorf("%x\nwith the poison put back is\n%x", tbs, restored)
 		}
 	})
 }
 
-// FuzzChain: whatever two certificates are, with any signatures, a chain of them has an entry that is made of them, or
-// it is refused by name.
+// FuzzChain: for any two certificates with any signatures, their chain has an entry that is made from them, or it is
+// refused with a Refusal.
 func FuzzChain(f *testing.F) {
 	all := seeds(f)
 	roots, err := ParseRoots(inPEM(all[1]))
@@ -138,7 +138,7 @@ func FuzzChain(f *testing.F) {
 		f.Add(all[i], all[(i+1)%len(all)])
 	}
 	c := NewChecker(roots, Rules{}, byASN1{})
-	c.signed = func(*certificate, *x509.Certificate) error { return nil }
+	c.checkSignature = func(*certificate, *x509.Certificate) error { return nil }
 	f.Fuzz(func(t *testing.T, first, second []byte) {
 		for _, chain := range [][][]byte{{first}, {first, second}} {
 			entry, err := c.Certificate(chain)
@@ -153,14 +153,14 @@ func FuzzChain(f *testing.F) {
 				t.Errorf("a precertificate: %v", err)
 			}
 			if entry != nil {
-				ofItsIssuer(t, entry, first)
+				checkEntry(t, entry, first)
 			}
 		}
 	})
 }
 
-// ofItsIssuer: the key is that of one of the issuers.
-func ofItsIssuer(t *testing.T, entry *Entry, first []byte) {
+// checkEntry checks that the entry of a precertificate contains it, and has the key hash of one of its issuers.
+func checkEntry(t *testing.T, entry *Entry, first []byte) {
 	found := false
 	for _, der := range entry.Issuers {
 		issuer, err := x509.ParseCertificate(der)
@@ -171,7 +171,7 @@ func ofItsIssuer(t *testing.T, entry *Entry, first []byte) {
 	}
 }
 
-// FuzzRoots: any text has roots, or it is an error.
+// FuzzRoots: for any text, ParseRoots returns at least one root, or an error.
 func FuzzRoots(f *testing.F) {
 	f.Add(inPEM(seeds(f)...))
 	f.Fuzz(func(t *testing.T, text []byte) {

@@ -12,12 +12,13 @@ import (
 	"testing"
 )
 
-// authorities are certificates and their keys, made by openssl in a folder; NAME.pem and NAME.key for each.
+// authorities holds certificates and their keys, which openssl made in a folder. The files of each are NAME.pem and
+// NAME.key.
 type authorities struct {
 	folder string
 }
 
-// configuration is openssl's: a section for each kind of certificate.
+// configuration is the configuration of openssl, with a section for each kind of certificate.
 const configuration = `
 [req]
 distinguished_name = name
@@ -108,50 +109,50 @@ func newAuthorities() (*authorities, error) {
 
 func (a *authorities) path(name string) string { return filepath.Join(a.folder, name) }
 
-// openssl runs it in the folder.
-func (a *authorities) openssl(words ...string) ([]byte, error) {
-	command := exec.Command("openssl", words...)
+// openssl runs openssl in the folder, and returns its output.
+func (a *authorities) openssl(arguments ...string) ([]byte, error) {
+	command := exec.Command("openssl", arguments...)
 	command.Dir = a.folder
-	var said bytes.Buffer
-	command.Stderr = &said
+	var stderr bytes.Buffer
+	command.Stderr = &stderr
 	output, err := command.Output()
 	if err != nil {
-		return nil, fmt.Errorf("openssl %s: %v: %s", strings.Join(words, " "), err, said.String())
+		return nil, fmt.Errorf("openssl %s: %v: %s", strings.Join(arguments, " "), err, stderr.String())
 	}
 	return output, nil
 }
 
-// subject is the name of a certificate with both kinds of strings.
+// subject returns the name of a certificate, which has both kinds of strings.
 func subject(name string) string { return "/O=Ein Hündchen/CN=" + name }
 
 func (a *authorities) request(name, key string) error {
-	words := append([]string{"req", "-new", "-utf8", "-config", "configuration", "-nodes", "-subj", subject(name),
+	arguments := append([]string{"req", "-new", "-utf8", "-config", "configuration", "-nodes", "-subj", subject(name),
 		"-keyout", name + ".key", "-out", name + ".csr"}, "-newkey")
-	_, err := a.openssl(append(words, strings.Fields(key)...)...)
+	_, err := a.openssl(append(arguments, strings.Fields(key)...)...)
 	return err
 }
 
 const ellipticKey = "ec -pkeyopt ec_paramgen_curve:P-256"
 
-// made says of a certificate how it is made.
+// made holds how a certificate is made.
 type made struct {
 	name, issuer, section  string
 	key, digest, from, to  string
 	serial, ofTheRequestOf string
 }
 
-// make makes a certificate. Its issuer is the name of another one, or its own.
+// make makes a certificate. Its issuer is the name of another certificate, or its own name.
 func (a *authorities) make(m made) error {
-	with := func(value *string, other string) {
+	setDefault := func(value *string, other string) {
 		if *value == "" {
 			*value = other
 		}
 	}
-	with(&m.key, ellipticKey)
-	with(&m.digest, "sha256")
-	with(&m.from, "20260101000000Z")
-	with(&m.to, "20270101000000Z")
-	with(&m.serial, "1234567890ABCDEF")
+	setDefault(&m.key, ellipticKey)
+	setDefault(&m.digest, "sha256")
+	setDefault(&m.from, "20260101000000Z")
+	setDefault(&m.to, "20270101000000Z")
+	setDefault(&m.serial, "1234567890ABCDEF")
 	request := m.ofTheRequestOf
 	if request == "" {
 		request = m.name
@@ -165,26 +166,26 @@ func (a *authorities) make(m made) error {
 			return err
 		}
 	}
-	words := []string{"ca", "-batch", "-notext", "-utf8", "-config", "configuration", "-extensions", m.section,
+	arguments := []string{"ca", "-batch", "-notext", "-utf8", "-config", "configuration", "-extensions", m.section,
 		"-md", m.digest,
 		"-startdate", m.from, "-enddate", m.to, "-in", request + ".csr", "-out", m.name + ".pem", "-keyfile",
 		m.issuer + ".key"}
 	if m.issuer == m.name {
-		words = append(words, "-selfsign")
+		arguments = append(arguments, "-selfsign")
 	} else {
-		words = append(words, "-cert", m.issuer+".pem")
+		arguments = append(arguments, "-cert", m.issuer+".pem")
 	}
-	_, err := a.openssl(words...)
+	_, err := a.openssl(arguments...)
 	return err
 }
 
 var (
-	openssled     *authorities
-	opensslFault  error
-	opensslMaking sync.Once
+	opensslMade *authorities
+	opensslErr  error
+	opensslOnce sync.Once
 )
 
-// everyCertificate has the tests' certificates, each after its issuer.
+// everyCertificate holds the certificates of the tests, each after its issuer.
 var everyCertificate = []made{
 	{name: "root", issuer: "root", section: "authority", to: "20400101000000Z"},
 	{name: "other", issuer: "other", section: "authority"},
@@ -236,27 +237,27 @@ var everyCertificate = []made{
 	{name: "of-signing-root", issuer: "signing-root", section: "precertificate"},
 }
 
-// made by openssl, once for all tests.
-func madeByOpenssl(t testing.TB) *authorities {
+// opensslCertificates returns the certificates that openssl makes once for all tests.
+func opensslCertificates(t testing.TB) *authorities {
 	t.Helper()
 	if _, err := exec.LookPath("openssl"); err != nil {
-		t.Skip("openssl isn't installed")
+		t.Skip("openssl is not installed")
 	}
-	opensslMaking.Do(func() {
-		if openssled, opensslFault = newAuthorities(); opensslFault != nil {
+	opensslOnce.Do(func() {
+		if opensslMade, opensslErr = newAuthorities(); opensslErr != nil {
 			return
 		}
 		for _, m := range everyCertificate {
-			if opensslFault = openssled.make(m); opensslFault != nil {
+			if opensslErr = opensslMade.make(m); opensslErr != nil {
 				return
 			}
 		}
-		opensslFault = openssled.makeOldRoot()
+		opensslErr = opensslMade.makeOldRoot()
 	})
-	if opensslFault != nil {
-		t.Fatal(opensslFault)
+	if opensslErr != nil {
+		t.Fatal(opensslErr)
 	}
-	return openssled
+	return opensslMade
 }
 
 // makeOldRoot makes a root of version 1, and a certificate that it issued.
@@ -273,13 +274,13 @@ func (a *authorities) makeOldRoot() error {
 
 func TestMain(m *testing.M) {
 	status := m.Run()
-	if openssled != nil {
-		os.RemoveAll(openssled.folder)
+	if opensslMade != nil {
+		os.RemoveAll(opensslMade.folder)
 	}
 	os.Exit(status)
 }
 
-// pem returns a certificate's file.
+// pem returns the content of a certificate's file.
 func (a *authorities) pem(t testing.TB, name string) []byte {
 	t.Helper()
 	text, err := os.ReadFile(a.path(name + ".pem"))
@@ -303,7 +304,7 @@ func (a *authorities) chain(t testing.TB, names ...string) (chain [][]byte) {
 	return chain
 }
 
-// roots returns roots of these certificates.
+// roots returns these certificates as roots.
 func (a *authorities) roots(t testing.TB, names ...string) *Roots {
 	t.Helper()
 	var text []byte
@@ -317,7 +318,7 @@ func (a *authorities) roots(t testing.TB, names ...string) *Roots {
 	return roots
 }
 
-// keyHash is SHA-256 over a certificate's key, as openssl has both.
+// keyHash returns SHA-256 over a certificate's key. openssl extracts the key and computes the hash.
 func (a *authorities) keyHash(t testing.TB, name string) string {
 	t.Helper()
 	key, err := a.openssl("x509", "-in", name+".pem", "-pubkey", "-noout")
@@ -327,23 +328,24 @@ func (a *authorities) keyHash(t testing.TB, name string) string {
 	if err == nil {
 		_, err = a.openssl("pkey", "-pubin", "-in", "key.pem", "-outform", "DER", "-out", "key.der")
 	}
-	hash, hashing := a.openssl("dgst", "-sha256", "-r", "key.der")
-	if err != nil || hashing != nil {
-		t.Fatal(err, hashing)
+	hash, hashErr := a.openssl("dgst", "-sha256", "-r", "key.der")
+	if err != nil || hashErr != nil {
+		t.Fatal(err, hashErr)
 	}
 	return strings.Fields(string(hash))[0]
 }
 
-// tbs is a certificate's TBSCertificate, as openssl cuts it.
+// tbs returns a certificate's TBSCertificate, which openssl cuts out.
 func (a *authorities) tbs(t testing.TB, name string) []byte {
 	t.Helper()
-	listed, err := a.openssl("asn1parse", "-in", name+".pem")
+	listing, err := a.openssl("asn1parse", "-in", name+".pem")
 	if err != nil {
 		t.Fatal(err)
 	}
 	// The second line is that of the first value in the certificate: "    4:d=1  hl=4 l= 123 cons: SEQUENCE".
-	at := strings.TrimSpace(strings.SplitN(strings.Split(string(listed), "\n")[1], ":", 2)[0])
-	if _, err := a.openssl("asn1parse", "-in", name+".pem", "-strparse", at, "-noout", "-out", "tbs.der"); err != nil {
+	offset := strings.TrimSpace(strings.SplitN(strings.Split(string(listing), "\n")[1], ":", 2)[0])
+	if _, err := a.openssl("asn1parse", "-in", name+".pem", "-strparse", offset, "-noout", "-out",
+		"tbs.der"); err != nil {
 		t.Fatal(err)
 	}
 	tbs, err := os.ReadFile(a.path("tbs.der"))

@@ -6,7 +6,7 @@ import (
 	"wagtenib/internal/testutil"
 )
 
-// TestPageSaysBounds: the bounds that docs/SERVICE.md says of chains are those that are here.
+// TestPageSaysBounds: the bounds of chains in docs/SERVICE.md are those of the code.
 func TestPageSaysBounds(t *testing.T) {
 	testutil.Says(t, testutil.Page(t, "../../docs/SERVICE.md"), map[string]bool{
 		"A chain has at most 16 certificates.":              MaxCertificates == 16,

@@ -21,7 +21,7 @@ var (
 	authorityKeyID = identifierOf(asn1.ObjectIdentifier{2, 5, 29, 35})
 )
 
-// The tags of a TBSCertificate's fields that may be left out (RFC 5280, section 4.1).
+// The tags of the optional fields of a TBSCertificate (RFC 5280, section 4.1).
 var (
 	tagVersion       = tags.Tag(0).ContextSpecific().Constructed()
 	tagIssuerUnique  = tags.Tag(1).ContextSpecific()
@@ -44,37 +44,37 @@ func signsPrecertificates(certificate *x509.Certificate) bool {
 	return false
 }
 
-// finalIssuer is what a TBSCertificate has of the issuer of the final certificate: its name, and the value of the
-// authority key identifier, or nil.
+// finalIssuer holds the fields of a TBSCertificate that depend on the issuer of the final certificate: the issuer's
+// name, and the value of the authority key identifier, which is nil if there is none.
 type finalIssuer struct {
 	name, authorityKey []byte
 }
 
-// finalIssuerBehind returns what a precertificate signing certificate says of who issued it.
-func finalIssuerBehind(signing *x509.Certificate) *finalIssuer {
+// finalIssuerOf returns the fields for the issuer of a precertificate signing certificate.
+func finalIssuerOf(signing *x509.Certificate) *finalIssuer {
 	value, _ := certificateOf(signing).value(authorityKeyID)
 	return &finalIssuer{signing.RawIssuer, value}
 }
 
-// noDER is the error where bytes aren't what they have to be in DER.
+// noDER returns the error for a part of a certificate that is not valid DER.
 func noDER(what string) error {
 	return fmt.Errorf("%w: %s is not valid DER", NoCertificate, what)
 }
 
-// Cutter makes the entry of a precertificate from its TBSCertificate: the same without the poison extension. All other
-// bytes stay as they are, except the lengths around them. NewCutter returns one, which is proved to do so.
+// Cutter makes the entry of a precertificate. This is its TBSCertificate without the poison extension. All other bytes
+// are unchanged, except the lengths around them. The cutter that NewCutter returns is proved to do so.
 type Cutter interface {
 	WithoutPoison(tbs []byte) ([]byte, error)
 }
 
-// entryOf asks for the entry of a precertificate's TBSCertificate.
+// entryOf returns the cutter's entry for a precertificate's TBSCertificate, or the refusal for the cutter's error.
 func (c *Checker) entryOf(tbs []byte) ([]byte, error) {
 	entry, err := c.cutter.WithoutPoison(tbs)
 	switch {
 	case err == nil:
 		return entry, nil
 	case errors.Is(err, wagtenib.ErrNoExtension), errors.Is(err, wagtenib.ErrSecondExtension):
-		return nil, fmt.Errorf("%w: it has to be there once: %v", NoPoison, err)
+		return nil, fmt.Errorf("%w: it must occur exactly once: %v", NoPoison, err)
 	case errors.Is(err, wagtenib.ErrBadPoison):
 		return nil, fmt.Errorf("%w: it is not critical, or its value is not NULL", BadPoison)
 	case errors.Is(err, errUnread):
@@ -83,20 +83,20 @@ func (c *Checker) entryOf(tbs []byte) ([]byte, error) {
 	return nil, err
 }
 
-// withFinalIssuer returns a TBSCertificate of a precertificate signing certificate, with the name and the authority key
-// identifier of the final issuer (RFC 6962, section 3.2). All other bytes stay the same, except the lengths around
-// them.
+// withFinalIssuer takes the TBSCertificate of a precertificate that a precertificate signing certificate signed. It
+// returns it with the name and the authority key identifier of the final issuer (RFC 6962, section 3.2). All other
+// bytes are unchanged, except the lengths around them.
 func withFinalIssuer(tbs []byte, final *finalIssuer) ([]byte, error) {
 	input := cryptobyte.String(tbs)
 	var fields cryptobyte.String
 	if !input.ReadASN1(&fields, tags.SEQUENCE) || !input.Empty() {
 		return nil, noDER("a TBSCertificate")
 	}
-	before, behind, extensions, err := fieldsOf(fields)
+	before, after, extensions, err := fieldsOf(fields)
 	if err != nil {
 		return nil, err
 	}
-	issued, err := extensionsOf(extensions, final)
+	finalExtensions, err := extensionsOf(extensions, final)
 	if err != nil {
 		return nil, err
 	}
@@ -104,9 +104,9 @@ func withFinalIssuer(tbs []byte, final *finalIssuer) ([]byte, error) {
 	b.AddASN1(tags.SEQUENCE, func(b *cryptobyte.Builder) {
 		b.AddBytes(before)
 		b.AddBytes(final.name)
-		b.AddBytes(behind)
+		b.AddBytes(after)
 		b.AddASN1(tagExtensions, func(b *cryptobyte.Builder) {
-			b.AddASN1(tags.SEQUENCE, func(b *cryptobyte.Builder) { b.AddBytes(issued) })
+			b.AddASN1(tags.SEQUENCE, func(b *cryptobyte.Builder) { b.AddBytes(finalExtensions) })
 		})
 	})
 	made, err := b.Bytes()
@@ -116,9 +116,9 @@ func withFinalIssuer(tbs []byte, final *finalIssuer) ([]byte, error) {
 	return made, nil
 }
 
-// fieldsOf splits the fields of a TBSCertificate: the bytes of each field before the issuer, those of each field after
-// it, and the extensions.
-func fieldsOf(fields cryptobyte.String) (before, behind []byte, extensions cryptobyte.String, err error) {
+// fieldsOf splits the fields of a TBSCertificate into the bytes of all fields before the issuer, the bytes of all
+// fields between the issuer and the extensions, and the extensions.
+func fieldsOf(fields cryptobyte.String) (before, after []byte, extensions cryptobyte.String, err error) {
 	read := func(into *[]byte, tag tags.Tag) bool {
 		var element cryptobyte.String
 		if !fields.ReadASN1Element(&element, tag) {
@@ -133,11 +133,11 @@ func fieldsOf(fields cryptobyte.String) (before, behind []byte, extensions crypt
 	var issuer []byte
 	// serialNumber, signature; issuer; validity, subject, subjectPublicKeyInfo
 	if !read(&before, tags.INTEGER) || !read(&before, tags.SEQUENCE) || !read(&issuer, tags.SEQUENCE) ||
-		!read(&behind, tags.SEQUENCE) || !read(&behind, tags.SEQUENCE) || !read(&behind, tags.SEQUENCE) {
+		!read(&after, tags.SEQUENCE) || !read(&after, tags.SEQUENCE) || !read(&after, tags.SEQUENCE) {
 		return nil, nil, nil, noDER("a TBSCertificate's field")
 	}
 	for _, tag := range []tags.Tag{tagIssuerUnique, tagSubjectUnique} {
-		if fields.PeekASN1Tag(tag) && !read(&behind, tag) {
+		if fields.PeekASN1Tag(tag) && !read(&after, tag) {
 			return nil, nil, nil, noDER("a unique identifier")
 		}
 	}
@@ -146,10 +146,10 @@ func fieldsOf(fields cryptobyte.String) (before, behind []byte, extensions crypt
 		return nil, nil, nil, noDER("a list of extensions")
 	}
 	extensions, err = listIn(explicit)
-	return before, behind, extensions, err
+	return before, after, extensions, err
 }
 
-// listIn returns the list that is all of an explicit tag.
+// listIn returns the list of extensions, which must be the only content of its explicit tag.
 func listIn(explicit cryptobyte.String) (list cryptobyte.String, err error) {
 	if !explicit.ReadASN1(&list, tags.SEQUENCE) || !explicit.Empty() {
 		return nil, noDER("a list of extensions")
@@ -157,9 +157,9 @@ func listIn(explicit cryptobyte.String) (list cryptobyte.String, err error) {
 	return list, nil
 }
 
-// extensionsOf returns the extensions with the authority key identifier of the final issuer, one after the other.
+// extensionsOf returns the bytes of the extensions, with the authority key identifier of the final issuer.
 func extensionsOf(extensions cryptobyte.String, final *finalIssuer) ([]byte, error) {
-	var issued []byte
+	var finalExtensions []byte
 	for !extensions.Empty() {
 		var element, content, identifier cryptobyte.String
 		if !extensions.ReadASN1Element(&element, tags.SEQUENCE) {
@@ -176,12 +176,12 @@ func extensionsOf(extensions cryptobyte.String, final *finalIssuer) ([]byte, err
 			}
 			whole = replaced
 		}
-		issued = append(issued, whole...)
+		finalExtensions = append(finalExtensions, whole...)
 	}
-	return issued, nil
+	return finalExtensions, nil
 }
 
-// withValue returns an extension with another value; whether it is critical stays as it is.
+// withValue returns an extension with another value. It does not change whether the extension is critical.
 func withValue(extension cryptobyte.String, value []byte) ([]byte, error) {
 	if value == nil {
 		return nil, fmt.Errorf("%w: the precertificate has one", NoAuthorityKey)

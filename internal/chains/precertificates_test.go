@@ -19,10 +19,10 @@ func inPEM(certificates ...[]byte) (text []byte) {
 	return text
 }
 
-// TestPrecertificatesAreTheirFinalCertificates: openssl issues a precertificate and, of the same request, serial number
-// and dates, the final certificate. The entry's TBSCertificate is the final one's, as openssl cuts it.
-func TestPrecertificatesAreTheirFinalCertificates(t *testing.T) {
-	a := madeByOpenssl(t)
+// TestEntriesEqualFinalCertificates: openssl issues a precertificate and, with the same request, serial number and
+// dates, the final certificate. The entry's TBSCertificate is that of the final certificate, which openssl cuts out.
+func TestEntriesEqualFinalCertificates(t *testing.T) {
+	a := opensslCertificates(t)
 	c := NewChecker(a.roots(t, "root"), Rules{}, NewCutter())
 	for _, test := range []struct {
 		final, issuer      string
@@ -47,7 +47,7 @@ func TestPrecertificatesAreTheirFinalCertificates(t *testing.T) {
 			t.Errorf("%s: the issuer's key hash is %s, and openssl has %s", test.submitted, got, want)
 		}
 		if want := a.tbs(t, test.final); !bytes.Equal(entry.TBSCertificate, want) {
-			t.Errorf("%s: the TBSCertificate\n%x\nisn't that of openssl\n%x", test.submitted,
+			t.Errorf("%s: the TBSCertificate\n%x\nis not that of openssl\n%x", test.submitted,
 				entry.TBSCertificate, want)
 		}
 		if entry.Type != PrecertEntry || entry.Certificate != nil ||
@@ -60,8 +60,8 @@ func TestPrecertificatesAreTheirFinalCertificates(t *testing.T) {
 	}
 }
 
-// TestReplacedValue: an extension gets another value, and is as critical as it was. (RFC 5280, section 4.2.1.1, has it
-// uncritical; a log takes what was issued.)
+// TestReplacedValue: an extension gets another value, and is as critical as it was. RFC 5280, section 4.2.1.1, says
+// that it must not be critical, but a log accepts certificates as they were issued.
 func TestReplacedValue(t *testing.T) {
 	for _, test := range []struct{ extension, value, want string }{
 		{"300a0603551d230403300102", "8001ff", "300a0603551d2304038001ff"},
@@ -80,7 +80,7 @@ func TestReplacedValue(t *testing.T) {
 		"no sequence":            "0603551d23",
 		"no value":               "30050603551d23",
 		"a value that is no DER": "300a0603551d230404300102",
-		"bytes behind it":        "300c0603551d2304033001020500",
+		"bytes after it":         "300c0603551d2304033001020500",
 		"no boolean":             "300d0603551d230102ff0403300102",
 	} {
 		if got, err := withValue(unhex(t, wrong), []byte{1}); RefusalOf(err) != NoCertificate {
@@ -98,8 +98,8 @@ func unhex(t *testing.T, text string) []byte {
 	return bytes
 }
 
-// realPrecertificates reads the precertificates of examples/real-chains.jsonl, with the issuer's key hash and the
-// TBSCertificate of each, which came from another program.
+// realPrecertificates returns the precertificates in examples/real-chains.jsonl, with the issuer's key hash and the
+// TBSCertificate of each, which another program computed.
 func realPrecertificates(t testing.TB) (found []real) {
 	t.Helper()
 	file, err := os.Open("../../examples/real-chains.jsonl")
@@ -121,6 +121,7 @@ func realPrecertificates(t testing.TB) (found []real) {
 	return found
 }
 
+// real is a line of examples/real-chains.jsonl.
 type real struct {
 	Op    string
 	Hash  string `json:"issuer_key_hash"`

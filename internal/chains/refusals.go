@@ -2,8 +2,8 @@ package chains
 
 import "errors"
 
-// Refusal is the reason why a chain is not accepted: one word of the list below. Errors of this package wrap one, with
-// a text after it.
+// Refusal is the reason why a chain is not accepted: one of the names below. Errors of this package wrap one, with a
+// text after it.
 type Refusal string
 
 func (r Refusal) Error() string { return string(r) }
@@ -12,43 +12,45 @@ func (r Refusal) Error() string { return string(r) }
 const (
 	// EmptyChain: there is no certificate.
 	EmptyChain Refusal = "empty-chain"
-	// ChainTooLong: there are more than MaxCertificates, or they have more than MaxBytes together.
+	// ChainTooLong: there are more than MaxCertificates certificates, or they have more than MaxBytes bytes together.
 	ChainTooLong Refusal = "chain-too-long"
-	// CertificateTooLong: one has more than LongestCertificate bytes.
+	// CertificateTooLong: a certificate has more than MaxCertificateBytes bytes.
 	CertificateTooLong Refusal = "certificate-too-long"
-	// NoCertificate: bytes aren't a certificate, or an issuer's that crypto/x509 reads.
+	// NoCertificate: bytes are not a certificate, or crypto/x509 cannot read an issuer.
 	NoCertificate Refusal = "no-certificate"
-	// NotIssuedByNext: a certificate's issuer isn't the subject of the next one.
+	// NotIssuedByNext: a certificate's issuer is not the subject of the next one.
 	NotIssuedByNext Refusal = "not-issued-by-next"
-	// UnknownRoot: the last one is no root of the log, and no root issued it.
+	// UnknownRoot: the last certificate is not a root of the log, and no root issued it.
 	UnknownRoot Refusal = "unknown-root"
 	// NotAnAuthority: an issuer may not issue certificates (basicConstraints, keyUsage).
 	NotAnAuthority Refusal = "not-an-authority"
-	// KeyTooLong: an issuer has an RSA key of more than MaxKeyBits.
+	// KeyTooLong: an issuer has an RSA key of more than MaxKeyBits bits.
 	KeyTooLong Refusal = "key-too-long"
-	// BadSignature: a signature isn't the issuer's, or is of a kind that crypto/x509 doesn't check (MD5, DSA).
+	// BadSignature: a signature is not the issuer's, or is of a kind that crypto/x509 does not check (MD5, DSA).
 	BadSignature Refusal = "bad-signature"
 	// OutsideWindow: the first certificate's notAfter is outside of the log's window.
 	OutsideWindow Refusal = "outside-window"
-	// Expired: the first one has expired, and the log accepts none such.
+	// Expired: the first certificate has expired, and the log refuses expired certificates.
 	Expired Refusal = "expired"
-	// NotYetValid: the validity of the first one has not begun, and the log accepts none such.
+	// NotYetValid: the validity of the first certificate has not begun, and the log refuses such certificates.
 	NotYetValid Refusal = "not-yet-valid"
-	// NotForServers: the first one is not for TLS servers (extended key usage), and the log accepts only those.
+	// NotForServers: the first certificate is not for TLS servers (extended key usage), and the log accepts only those.
 	NotForServers Refusal = "not-for-servers"
 	// IsPrecertificate: a certificate has the poison extension.
 	IsPrecertificate Refusal = "is-precertificate"
 	// NoPoison: a precertificate lacks the poison extension.
 	NoPoison Refusal = "no-poison"
-	// BadPoison: the poison extension isn't critical, or its value isn't NULL.
+	// BadPoison: the poison extension is not critical, or its value is not NULL.
 	BadPoison Refusal = "bad-poison"
-	// NoFinalIssuer: no issuer of the final certificate comes after a precertificate signing certificate.
+	// NoFinalIssuer: the chain has no issuer of the final certificate. The precertificate is a root, or its
+	// precertificate signing certificate is a root.
 	NoFinalIssuer Refusal = "no-final-issuer"
-	// NoAuthorityKey: a precertificate names an authority's key, and the precertificate signing certificate doesn't.
+	// NoAuthorityKey: a precertificate has an authority key identifier, and the precertificate signing certificate has
+	// none.
 	NoAuthorityKey Refusal = "no-authority-key"
 )
 
-// Refusals are all of them.
+// Refusals lists all refusals.
 var Refusals = []Refusal{
 	EmptyChain, ChainTooLong, CertificateTooLong, NoCertificate, NotIssuedByNext, UnknownRoot, NotAnAuthority,
 	KeyTooLong, BadSignature,
@@ -56,7 +58,7 @@ var Refusals = []Refusal{
 	NoAuthorityKey,
 }
 
-// RefusalOf returns the refusal that an error wraps, or none.
+// RefusalOf returns the refusal that an error wraps, or "" if it wraps none.
 func RefusalOf(err error) Refusal {
 	var refusal Refusal
 	errors.As(err, &refusal)

@@ -17,13 +17,13 @@ import (
 
 // The bounds of roots.
 const (
-	// MaxRoots is how many roots a log has.
+	// MaxRoots is the maximum number of roots of a log.
 	MaxRoots = 4096
-	// MaxRootBytes is how many bytes a file of them has.
+	// MaxRootBytes is the maximum number of bytes of a file of roots.
 	MaxRootBytes = 16 << 20
 )
 
-// Roots are the certificates that a log takes chains to. They don't change.
+// Roots holds the root certificates to which a log accepts chains. It does not change.
 type Roots struct {
 	certificates []*x509.Certificate
 	byHash       map[[32]byte]bool
@@ -31,10 +31,10 @@ type Roots struct {
 	leftOut      []LeftOut
 }
 
-// LeftOut is a root that isn't taken, and why.
+// LeftOut is a certificate that is not accepted as a root, and the reason.
 type LeftOut struct {
-	// From is the file that has it, Number its place among the file's certificates, from 1, and Name what the file
-	// calls it, if it does.
+	// From is the file that contains it. Number is its number among the file's certificates, from 1. Name is its name
+	// in the file, or empty.
 	From   string
 	Number int
 	Name   string
@@ -47,15 +47,15 @@ func (l LeftOut) String() string {
 	return fmt.Sprintf("%s, certificate %d (%ssha256 %x): %v", l.From, l.Number, l.Name, l.Fingerprint, l.Why)
 }
 
-// errRemoved is why a root that the list of RootFiles.Without names isn't taken.
-var errRemoved = errors.New("it is taken out by its fingerprint")
+// errRemoved: the list of RootFiles.Without contains the fingerprint of the root.
+var errRemoved = errors.New("the list of removed roots contains its fingerprint")
 
-// NoRoots are the roots of a log that takes no submissions.
+// NoRoots returns the roots of a log that accepts no submissions: none.
 func NoRoots() *Roots {
 	return &Roots{byHash: map[[32]byte]bool{}, bySubject: map[string][]*x509.Certificate{}}
 }
 
-// RootFiles say where a log's roots are.
+// RootFiles holds the paths of a log's roots, and which of the roots are accepted.
 type RootFiles struct {
 	// Paths are PEM files, files of CCADB (.csv with a column of PEM certificates), and folders with such files (.pem,
 	// .crt and .csv). The roots are the certificates in all of them. If a file of CCADB has columns of trust bits or of
@@ -64,13 +64,13 @@ type RootFiles struct {
 	// Without is a file with the SHA-256 fingerprint of a root in hexadecimal in each line, and comments after #. These
 	// roots are not accepted. An empty path means no file.
 	Without string
-	// AnyPurpose takes roots of a table of CCADB that are not for TLS servers, too.
+	// AnyPurpose is whether roots of a table of CCADB are also accepted if they are not for TLS servers.
 	AnyPurpose bool
 }
 
-// Load reads the roots of all files. A certificate that crypto/x509 doesn't read is left out, and named by LeftOut; a
-// file that can't be read, that is cut off, that has anything but certificates or has none that is read is an error: a
-// log would quietly lose some.
+// Load reads the roots of all files. A certificate that crypto/x509 cannot read is left out, and LeftOut returns it. A
+// file that cannot be read, that is cut off, or that contains no certificates or anything except certificates is an
+// error, since otherwise a log could lose roots without notice. It is also an error if there is no root at all.
 func (f RootFiles) Load() (*Roots, error) {
 	removed, err := f.removed()
 	if err != nil {
@@ -94,7 +94,7 @@ func (f RootFiles) Load() (*Roots, error) {
 	return roots, nil
 }
 
-// removed are the fingerprints of the roots that aren't to be taken.
+// removed returns the fingerprints of the roots that are not accepted.
 func (f RootFiles) removed() (map[[32]byte]bool, error) {
 	if f.Without == "" {
 		return nil, nil
@@ -112,14 +112,16 @@ func (f RootFiles) removed() (map[[32]byte]bool, error) {
 		}
 		hash, err := hex.DecodeString(line)
 		if err != nil || len(hash) != 32 {
-			return nil, fmt.Errorf("chains: roots: %s, line %d: it is no SHA-256 in hexadecimal", f.Without, number+1)
+			return nil, fmt.Errorf("chains: roots: %s, line %d: it is not a SHA-256 fingerprint in hexadecimal",
+				f.Without, number+1)
 		}
 		found[*(*[32]byte)(hash)] = true
 	}
 	return found, nil
 }
 
-// filesAt are the files that a path leads to: itself, or those of a folder that may have roots, by their names.
+// filesAt returns the files at a path. That is the path itself or, if it is a folder, the files in it whose names say
+// that they may contain roots.
 func filesAt(path string) ([]string, error) {
 	info, err := os.Stat(path)
 	if err != nil {
@@ -181,14 +183,14 @@ func (r *Roots) read(path string, f RootFiles, removed map[[32]byte]bool) error 
 		}
 		for _, der := range blocks {
 			number++
-			of := LeftOut{From: path, Number: number, Why: row.Why}
+			source := LeftOut{From: path, Number: number, Why: row.Why}
 			if row.Name != "" {
-				of.Name = fmt.Sprintf("%.80q, ", row.Name)
+				source.Name = fmt.Sprintf("%.80q, ", row.Name)
 			}
 			if errors.Is(row.Why, ErrPurpose) && f.AnyPurpose {
-				of.Why = nil
+				source.Why = nil
 			}
-			if err := r.take(der, removed, of); err != nil {
+			if err := r.addOrLeaveOut(der, removed, source); err != nil {
 				return err
 			}
 		}
@@ -199,22 +201,23 @@ func (r *Roots) read(path string, f RootFiles, removed map[[32]byte]bool) error 
 	return nil
 }
 
-// take adds one root, or says of it why it is left out.
-func (r *Roots) take(der []byte, removed map[[32]byte]bool, of LeftOut) error {
-	of.Fingerprint = sha256.Sum256(der)
-	if of.Why != nil {
-		r.leftOut = append(r.leftOut, of)
+// addOrLeaveOut adds a root, or records why it is left out. source says where the root is, and holds the reason if it
+// is known already that the root must be left out.
+func (r *Roots) addOrLeaveOut(der []byte, removed map[[32]byte]bool, source LeftOut) error {
+	source.Fingerprint = sha256.Sum256(der)
+	if source.Why != nil {
+		r.leftOut = append(r.leftOut, source)
 		return nil
 	}
-	if removed[of.Fingerprint] {
-		of.Why = errRemoved
-		r.leftOut = append(r.leftOut, of)
+	if removed[source.Fingerprint] {
+		source.Why = errRemoved
+		r.leftOut = append(r.leftOut, source)
 		return nil
 	}
 	certificate, err := x509.ParseCertificate(der)
 	if err != nil {
-		of.Why = err
-		r.leftOut = append(r.leftOut, of)
+		source.Why = err
+		r.leftOut = append(r.leftOut, source)
 		return nil
 	}
 	r.add(certificate)
@@ -224,8 +227,8 @@ func (r *Roots) take(der []byte, removed map[[32]byte]bool, of LeftOut) error {
 	return nil
 }
 
-// certificatesIn are the bytes of the certificates in PEM, with whatever text between them. A block of another kind, or
-// one that is cut off, is an error.
+// certificatesIn returns the bytes of the certificates in a PEM text, which may have any text between them. A block of
+// another kind, or one that is cut off, is an error.
 func certificatesIn(text []byte) ([][]byte, error) {
 	var found [][]byte
 	rest, number := text, 1
@@ -235,13 +238,13 @@ func certificatesIn(text []byte) ([][]byte, error) {
 			break
 		}
 		if block.Type != "CERTIFICATE" {
-			return nil, fmt.Errorf("block %d is a %.40q", number, block.Type)
+			return nil, fmt.Errorf("block %d is a %.40q, and must be a CERTIFICATE", number, block.Type)
 		}
 		found = append(found, block.Bytes)
 	}
 	// pem.Decode skips everything that it cannot read.
 	if begun := bytes.Count(text, []byte("-----BEGIN ")); begun != number-1 {
-		return nil, fmt.Errorf("%d blocks begin, and %d are read", begun, number-1)
+		return nil, fmt.Errorf("%d blocks begin, and only %d can be read", begun, number-1)
 	}
 	return found, nil
 }
@@ -258,7 +261,7 @@ func ParseRoots(text []byte) (*Roots, error) {
 	}
 	roots := NoRoots()
 	for at, der := range blocks {
-		if err := roots.take(der, nil, LeftOut{Number: at + 1}); err != nil {
+		if err := roots.addOrLeaveOut(der, nil, LeftOut{Number: at + 1}); err != nil {
 			return nil, err
 		}
 	}
@@ -271,11 +274,11 @@ func ParseRoots(text []byte) (*Roots, error) {
 	return roots, nil
 }
 
-// LeftOut are the certificates of the files that aren't among the roots, in the files' order.
+// LeftOut returns the certificates of the files that are not among the roots, in the order of the files.
 func (r *Roots) LeftOut() []LeftOut { return append([]LeftOut{}, r.leftOut...) }
 
-// changed counts the roots that others lack, and the other way round.
-func (r *Roots) changed(before *Roots) (added, removed int) {
+// countChanges returns how many roots were added to the roots before, and how many were removed from them.
+func (r *Roots) countChanges(before *Roots) (added, removed int) {
 	for hash := range r.byHash {
 		if !before.byHash[hash] {
 			added++
@@ -300,15 +303,17 @@ func (r *Roots) add(certificate *x509.Certificate) {
 	r.bySubject[subject] = append(r.bySubject[subject], certificate)
 }
 
-// has reports whether a certificate with this name, in DER, is a root.
-func (r *Roots) has(name, der []byte) bool {
-	return slices.ContainsFunc(r.withSubject(name), func(of *x509.Certificate) bool { return bytes.Equal(of.Raw, der) })
+// contains reports whether a certificate is a root. It takes the subject's name and the certificate, both in DER.
+func (r *Roots) contains(name, der []byte) bool {
+	return slices.ContainsFunc(r.withSubject(name), func(root *x509.Certificate) bool {
+		return bytes.Equal(root.Raw, der)
+	})
 }
 
-// withSubject are the roots with this name, in DER.
+// withSubject returns the roots with this subject, whose name is in DER.
 func (r *Roots) withSubject(name []byte) []*x509.Certificate { return r.bySubject[string(name)] }
 
-// Certificates are the roots in DER, in the file's order: the answer to get-roots.
+// Certificates returns the roots in DER, in the order of the files. This is the answer to get-roots.
 func (r *Roots) Certificates() [][]byte {
 	certificates := make([][]byte, len(r.certificates))
 	for i, certificate := range r.certificates {

@@ -14,8 +14,8 @@ import (
 	"wagtenib/internal/testutil"
 )
 
-// puts returns what writes files of a folder, and says where.
-func puts(t *testing.T, folder string) func(name string, text []byte) string {
+// fileWriter returns a function that writes a file in a folder, and returns its path.
+func fileWriter(t *testing.T, folder string) func(name string, text []byte) string {
 	return func(name string, text []byte) string {
 		t.Helper()
 		path := filepath.Join(folder, name)
@@ -25,14 +25,14 @@ func puts(t *testing.T, folder string) func(name string, text []byte) string {
 	}
 }
 
-// TestRootFiles: the roots are those of all files. A certificate that is left out is named, and no other is lost.
+// TestRootFiles: the roots of all files are read. A certificate that is left out is named, and no other is lost.
 func TestRootFiles(t *testing.T) {
-	a := madeByOpenssl(t)
+	a := opensslCertificates(t)
 	root, other := a.pem(t, "root"), a.pem(t, "other")
 	both := a.chain(t, "root", "other")
 	folder := t.TempDir()
-	put := puts(t, folder)
-	// As CCADB writes it: the PEM between apostrophes, in a column of that name.
+	put := fileWriter(t, folder)
+	// CCADB writes PEM between apostrophes, in a column with PEM in its name.
 	var ccadb bytes.Buffer
 	rows := csv.NewWriter(&ccadb)
 	rows.WriteAll([][]string{{"CA Owner", "Common Name or Certificate Name", "PEM Info"},
@@ -45,10 +45,10 @@ func TestRootFiles(t *testing.T) {
 	put("dir/1.crt", root)
 	put("dir/2.pem", append(append([]byte{}, strange...), other...))
 	put("dir/read.me", []byte("-----BEGIN nothing"))
-	list := put("without", []byte(fmt.Sprintf("# a root that went\n%X  # in capitals\n", removed)))
+	list := put("without", []byte(fmt.Sprintf("# a removed root\n%X  # in capitals\n", removed)))
 	colons := put("colons", []byte(strings.TrimSuffix(strings.ReplaceAll(fmt.Sprintf("% x", removed), " ", ":"), ":")))
 	for _, c := range []struct {
-		of      RootFiles
+		files   RootFiles
 		roots   [][]byte
 		leftOut string
 	}{
@@ -60,27 +60,28 @@ func TestRootFiles(t *testing.T) {
 			fmt.Sprintf(`[%s, certificate 1 (sha256 %x): x509: malformed certificate]`,
 				filepath.Join(folder, "dir", "2.pem"), fingerprint)},
 		{RootFiles{Paths: []string{pemAt, otherAt}, Without: list}, both[1:],
-			fmt.Sprintf(`[%s, certificate 1 (sha256 %x): it is taken out by its fingerprint]`, pemAt, removed)},
+			fmt.Sprintf(`[%s, certificate 1 (sha256 %x): the list of removed roots contains its fingerprint]`, pemAt,
+				removed)},
 		{RootFiles{Paths: []string{otherAt}, Without: colons}, both[1:], "[]"},
 	} {
-		roots, err := c.of.Load()
+		roots, err := c.files.Load()
 		if err != nil {
-			t.Errorf("%v: %v", c.of, err)
+			t.Errorf("%v: %v", c.files, err)
 			continue
 		}
 		if got := roots.Certificates(); !reflect.DeepEqual(got, c.roots) {
-			t.Errorf("%v: %d roots", c.of, len(got))
+			t.Errorf("%v: %d roots", c.files, len(got))
 		}
 		if got := fmt.Sprint(roots.LeftOut()); got != c.leftOut {
-			t.Errorf("%v: left out are %s", c.of, got)
+			t.Errorf("%v: left out are %s", c.files, got)
 		}
 	}
-	for what, of := range map[string]RootFiles{
+	for what, files := range map[string]RootFiles{
 		"none":              {},
 		"an absent file":    {Paths: []string{pemAt, filepath.Join(folder, "absent")}},
 		"an empty file":     {Paths: []string{pemAt, put("empty.pem", nil)}},
 		"none that is read": {Paths: []string{put("strange.pem", strange)}},
-		"all taken out":     {Paths: []string{pemAt}, Without: list},
+		"all removed":       {Paths: []string{pemAt}, Without: list},
 		"a key": {Paths: []string{put("key.pem",
 			append(append([]byte{}, root...), read(t, a.path("root.key"))...))}},
 		"cut off": {Paths: []string{put("cut.pem",
@@ -97,7 +98,7 @@ func TestRootFiles(t *testing.T) {
 		"a list with a short line":   {Paths: []string{pemAt}, Without: put("short", []byte("00ff\n"))},
 		"a file in a folder cut off": {Paths: []string{filepath.Dir(put("second/cut.pem", other[:200]))}},
 	} {
-		if roots, err := of.Load(); err == nil {
+		if roots, err := files.Load(); err == nil {
 			t.Errorf("%s: %d roots are read", what, len(roots.Certificates()))
 		}
 	}

@@ -9,7 +9,7 @@ import (
 	"time"
 )
 
-// TestRules: a certificate is refused by the name of the rule that it breaks. crypto/x509 writes the certificates.
+// TestRules: a certificate is refused with the Refusal of the rule that it breaks. crypto/x509 makes the certificates.
 func TestRules(t *testing.T) {
 	key := newKey(t)
 	root := authority("root")
@@ -36,8 +36,8 @@ func TestRules(t *testing.T) {
 		change func(*x509.Certificate)
 		want   Refusal
 	}{
-		"no purpose is named": {servers, func(*x509.Certificate) {}, ""},
-		"servers":             {servers, purposed(x509.ExtKeyUsageServerAuth), ""},
+		"no key usage extension": {servers, func(*x509.Certificate) {}, ""},
+		"servers":                {servers, purposed(x509.ExtKeyUsageServerAuth), ""},
 		"clients and servers": {servers, purposed(x509.ExtKeyUsageClientAuth,
 			x509.ExtKeyUsageServerAuth), ""},
 		"any purpose":               {servers, purposed(x509.ExtKeyUsageAny), ""},
@@ -71,12 +71,12 @@ func TestRules(t *testing.T) {
 		c := NewChecker(roots, test.rules, byASN1{})
 		if _, err := c.Certificate([][]byte{der}); (err == nil) != (test.want == "") || err != nil &&
 			RefusalOf(err) != test.want {
-			t.Errorf("%s: %v, and %q is wanted", what, err, test.want)
+			t.Errorf("%s: %v, and %q is expected", what, err, test.want)
 		}
 		template.ExtraExtensions = append(template.ExtraExtensions, poison)
 		if _, err := c.Precertificate([][]byte{signedBy(t, template, root, &newKey(t).PublicKey,
 			key)}); (err == nil) != (test.want == "") || err != nil && RefusalOf(err) != test.want {
-			t.Errorf("%s, as a precertificate: %v, and %q is wanted", what, err, test.want)
+			t.Errorf("%s, as a precertificate: %v, and %q is expected", what, err, test.want)
 		}
 	}
 }

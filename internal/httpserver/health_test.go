@@ -72,7 +72,7 @@ func TestMetricsAndHealth(t *testing.T) {
 		`ctserve_store_seconds_count{call="swap",store="lock"} 0`,
 		`ctserve_store_failures_total{call="find",store="index"} 0`,
 		fmt.Sprintf(`ctserve_store_seconds_sum{call="put",store="objects"} %v`,
-			f.front.options.Stores.All()[0].Took.Seconds()),
+			f.front.options.Stores.All()[0].Duration.Seconds()),
 		`ctserve_witness_lag{witness="w.example"} 14`, `ctserve_witness_cosignatures_total{witness="w.example"} 15`,
 		`ctserve_witness_ahead{witness="w.example"} 1`,
 	} {

@@ -110,7 +110,7 @@ var (
 	descUnknownSwaps = described("ctserve_unknown_swaps_total",
 		"Swaps of the lock whose outcome was only known after reading it.")
 	descDuplicates = described("ctserve_duplicates_total", "Submissions that were already in the log.")
-	descResumed    = described("ctserve_resumed_steps_total", "Steps of other nodes that this node completed.")
+	descResumed    = described("ctserve_resumed_steps_total", "Steps of other nodes, or of this node before a restart, that this node completed.")
 	descForwarded  = described("ctserve_forwarded_submissions_total",
 		"Submissions that were forwarded to another node, which answered them.")
 	descSignerStarts = described("ctserve_signer_starts_total",
@@ -134,7 +134,7 @@ var (
 		"Staged batches that were deleted because nothing needs them.")
 	descStaged          = described("ctserve_staged_batches", "Staged batches in the store when they were last listed.")
 	descJanitorFailures = described("ctserve_janitor_failures_total",
-		"Failed deletions of partial tiles, heads and staged batches.")
+		"Failed deletions of partial tiles, heads and staged batches, and failed writes of the index.")
 	descDeletedTo = described("ctserve_partial_tiles_deleted_to",
 		"Number of entries up to which all partial tiles were deleted, as far as this node knows.")
 	descReadNext = described("ctserve_scrub_next_tile", "Index of the data tile (256 entries) that is checked next.")
@@ -256,7 +256,7 @@ func (s metricSink) witnesses(f loginterface.Metrics) {
 // stores collects the calls of each store.
 func (s metricSink) stores(calls *stores.Calls) {
 	for _, call := range calls.All() {
-		s.to <- prometheus.MustNewConstSummary(descStore, call.Count, call.Took.Seconds(), nil, call.Store, call.Name)
+		s.to <- prometheus.MustNewConstSummary(descStore, call.Count, call.Duration.Seconds(), nil, call.Store, call.Name)
 		s.count(descFailed, call.Failed, call.Store, call.Name)
 	}
 }

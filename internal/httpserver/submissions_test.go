@@ -92,7 +92,7 @@ func TestChainsAreRefusedByName(t *testing.T) {
 		{"empty-chain", "add-chain", nil},
 		{"no-certificate", "add-chain", [][]byte{[]byte("none")}},
 		{"chain-too-long", "add-chain", bytes.SplitN(bytes.Repeat([]byte("a"), 17), nil, 17)},
-		{"certificate-too-long", "add-chain", [][]byte{make([]byte, chains.LongestCertificate+1)}},
+		{"certificate-too-long", "add-chain", [][]byte{make([]byte, chains.MaxCertificateBytes+1)}},
 		{"not-issued-by-next", "add-chain", [][]byte{certificate, other.Root.Raw}},
 		{"unknown-root", "add-chain", [][]byte{foreign}},
 		{"unknown-root", "add-chain", [][]byte{foreign, other.Root.Raw}},

@@ -69,7 +69,7 @@ func TestLeafIndexEndsWithItsContext(t *testing.T) {
 	testutil.Must(t, err)
 	short, cancel := context.WithTimeout(ctx, 300*time.Millisecond)
 	defer cancel()
-	testutil.Wants(t, other.add(short, 1, hashesOf(1, 2)), context.DeadlineExceeded)
+	testutil.WantError(t, other.add(short, 1, hashesOf(1, 2)), context.DeadlineExceeded)
 	// The database can still be read.
 	checkFound(t, other, 0, 0, 1)
 	testutil.Must(t, holding.Rollback())
@@ -79,7 +79,7 @@ func TestLeafIndexEndsWithItsContext(t *testing.T) {
 	other.writes <- struct{}{}
 	ended, end := context.WithCancel(ctx)
 	end()
-	testutil.Wants(t, other.add(ended, 2, hashesOf(2, 3)), context.Canceled)
+	testutil.WantError(t, other.add(ended, 2, hashesOf(2, 3)), context.Canceled)
 	<-other.writes
 }
 

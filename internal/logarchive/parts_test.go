@@ -49,5 +49,5 @@ func TestForkOfTheArchivedSize(t *testing.T) {
 		t.Fatal("it is archived without entries")
 	}
 	w.fork(t, 10, 300)
-	testutil.Wants(t, w.make(), logarchive.ErrFork)
+	testutil.WantError(t, w.make(), logarchive.ErrFork)
 }

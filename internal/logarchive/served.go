@@ -61,7 +61,7 @@ func Open(ctx context.Context, path string) (s *Served, err error) {
 	if s.head, err = headOf(signed, of); err != nil {
 		return nil, err
 	}
-	if err := stores.ObjectsThere("folder:" + filepath.Join(path, objectsName)); err != nil {
+	if err := stores.CheckObjectsExist("folder:" + filepath.Join(path, objectsName)); err != nil {
 		return nil, fmt.Errorf("%w: %w", ErrDamaged, err)
 	}
 	if s.objects, err = stores.OpenFolder(filepath.Join(path, objectsName)); err != nil {

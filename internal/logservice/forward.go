@@ -76,7 +76,7 @@ func (f *Forwarder) leader() (*url.URL, error) {
 	}
 	f.mu.Lock()
 	defer f.mu.Unlock()
-	if f.log.config.Machine.Clock.Elapsed() < f.awayUntil[address] {
+	if f.log.config.Machine.Clock.Elapsed() < f.awayUntil[to.String()] {
 		return nil, errAway
 	}
 	return to, nil
@@ -93,7 +93,7 @@ func (f *Forwarder) Forward(w http.ResponseWriter, r *http.Request, client netip
 	if err != nil {
 		if r.Context().Err() == nil {
 			f.mu.Lock()
-			f.awayUntil = map[string]time.Duration{f.log.node.Leader(): f.log.config.Machine.Clock.Elapsed() + awayFor}
+			f.awayUntil = map[string]time.Duration{to.String(): f.log.config.Machine.Clock.Elapsed() + awayFor}
 			f.mu.Unlock()
 		}
 		return false, err

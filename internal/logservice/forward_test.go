@@ -3,7 +3,6 @@ package logservice_test
 import (
 	"crypto/tls"
 	"crypto/x509"
-	"errors"
 	"fmt"
 	"io"
 	"net/http"
@@ -122,36 +121,59 @@ func TestForward(t *testing.T) {
 	must(t, err)
 }
 
-// TestElsewhere checks that a submission that may be forwarded does not wait here while another node makes the steps,
-// and that one that must not be forwarded does.
-func TestElsewhere(t *testing.T) {
+// TestForwardsToNewLeaderAtOnce lets the node that makes the steps change while the old one has not answered. After the
+// old one has failed, the next submission must be forwarded to the new one at once.
+func TestForwardsToNewLeaderAtOnce(t *testing.T) {
 	t.Parallel()
 	p, o := newPlace(t), newOtherNode(t)
+	// The old node holds the first submission until release is closed.
+	var requests atomic.Int64
+	asked, release := make(chan struct{}), make(chan struct{})
+	old := httptest.NewTLSServer(http.HandlerFunc(func(w http.ResponseWriter, r *http.Request) {
+		if r.Method == http.MethodPost && requests.Add(1) == 1 {
+			close(asked)
+			<-release
+		}
+		w.WriteHeader(http.StatusServiceUnavailable)
+	}))
+	t.Cleanup(old.Close)
 	config := p.config()
 	config.Address = "https://192.0.2.1"
-	held := &slow{Objects: config.Stores.Objects}
-	config.Stores.Objects = held
 	l := started(t, config)
-	// Nothing can be staged here, so both wait.
-	release := held.hold()
-	defer release()
-	movable, own := make(chan error, 1), make(chan error, 1)
+	f, other := l.Forward(o.config()), l.Forward(o.config())
+	defer f.Close()
+	defer other.Close()
+	failed := make(chan bool, 1)
 	go func() {
-		_, err := l.Submit(loginterface.Forwarded(limited(t)), entryOf(1))
-		own <- err
+		for {
+			if isAnswered, _, err := forwards(f); isAnswered || err != nil {
+				failed <- err != nil
+				return
+			}
+		}
 	}()
-	eventually(t, "it waits", func() bool { return l.Metrics().Queue == 1 })
-	go func() {
-		_, err := l.Submit(limited(t), entryOf(2))
-		movable <- err
-	}()
-	eventually(t, "both wait", func() bool { return l.Metrics().Queue == 2 })
+	p.leads(t, l, old.URL)
+	<-asked
 	p.leads(t, l, o.URL)
-	release()
-	if err := <-movable; err != nil && !errors.Is(err, loginterface.ErrElsewhere) {
-		t.Errorf("the submission that may be forwarded: %v", err)
+	eventually(t, "the new node makes the steps", func() bool {
+		isAnswered, _, _ := forwards(other)
+		return isAnswered
+	})
+	close(release)
+	if !<-failed {
+		t.Error("the old node's answer of 503 is passed on")
 	}
-	must(t, <-own)
+	eventually(t, "it is forwarded to the new node", func() bool {
+		isAnswered, _, err := forwards(f)
+		if err != nil {
+			t.Fatalf("the new node counts as away: %v", err)
+		}
+		if !isAnswered {
+			// A node follows another one for a few seconds only.
+			p.leads(t, l, o.URL)
+		}
+		return isAnswered
+	})
 }
 
 // TestForwardsOnlyOverTLS checks that nothing is forwarded to a node whose address is not https, as those of nodes of

@@ -27,7 +27,7 @@ import (
 	"wagtenib/internal/testutil"
 )
 
-var must, wants = testutil.Must, testutil.Wants
+var must, wants = testutil.Must, testutil.WantError
 
 // limited returns a context that ends with the longest time that a test may take.
 func limited(t testing.TB) context.Context { return testutil.Limited(t, testutil.Longest) }

@@ -136,9 +136,7 @@ type running struct {
 	cancel   context.CancelFunc
 	loopDone chan struct{}
 	others   *sync.WaitGroup
-	// failed is the error with which the loop ended.
-	failed error
-	logID  [32]byte
+	logID    [32]byte
 	// remotes are the witnesses.
 	remotes []*remote
 	// askNode asks the node that makes the steps for its time. It is nil before Forward is called.
@@ -188,7 +186,8 @@ func (l *Log) run(loop *node.Loop) {
 	r.cancel, r.loopDone, r.others = cancel, make(chan struct{}), &sync.WaitGroup{}
 	go func() {
 		defer close(r.loopDone)
-		r.failed = loop.Run(ctx)
+		// Run returns nil or the error of its context, which cancel ends.
+		_ = loop.Run(ctx)
 	}()
 	r.others.Add(3)
 	go func() {

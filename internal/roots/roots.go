@@ -1,8 +1,8 @@
-// Package roots keeps a file with the roots of tables of CCADB, which a log accepts beside those that its operator
-// added.
+// Package roots keeps a file with the roots of tables of CCADB. A log accepts these roots in addition to those that its
+// operator added.
 //
-// It replaces its own file only, whole, and not if too many roots would go: a table that was cut off, or a column that
-// has another meaning, must not take roots from a log.
+// The package replaces only its own file, as a whole. It does not replace it if too many roots would be removed: a log
+// must not lose roots because a table was cut off, or because a column has another meaning.
 package roots
 
 import (
@@ -20,40 +20,40 @@ import (
 	"wagtenib/internal/stores"
 )
 
-// The reasons for which the file stays as it is. Each is found by errors.Is.
+// The reasons for which the file is not replaced. Use errors.Is.
 var (
-	// ErrFall means that more roots would go than may.
+	// ErrFall means that more roots would be removed than the limit allows.
 	ErrFall = errors.New("roots: too many roots would be removed")
-	// ErrNone means that the tables have no root of TLS servers.
+	// ErrNone means that the tables have no root that is included and for TLS servers.
 	ErrNone = errors.New("roots: the tables have no root that is for TLS servers and included")
-	// ErrFile means that the file has something that this package did not write.
+	// ErrFile means that this package did not write the file.
 	ErrFile = errors.New("roots: the file was not written by this program (move it to another name in the folder)")
 )
 
-// Source is a table of CCADB, and what its user calls it.
+// Source is a table of CCADB. The user gives its name, which is used in messages.
 type Source struct {
 	Name string
 	Text []byte
-	// AllIncluded says that the table has only roots that are included, and so no column of statuses.
+	// AllIncluded is whether all roots of the table are included, so that the table needs no column of statuses.
 	AllIncluded bool
 }
 
 // Root is a root of the file.
 type Root struct {
 	Fingerprint [sha256.Size]byte
-	Name        string // as the table has it
+	Name        string // the name in the table
 	der         []byte
 }
 
 func (r Root) String() string { return fmt.Sprintf("%x %s", r.Fingerprint, r.Name) }
 
-// Damaged is a row of a table whose certificate is not read.
+// Damaged is a row of a table whose certificate cannot be read, or has another fingerprint than the row.
 type Damaged struct {
 	Source string
 	Row    int // from 1, without the header
 	Name   string
 	Why    error
-	// Stays says that the file has a root with the fingerprint of the row, which stays.
+	// Stays is whether the file has a root with the fingerprint of the row. Such a root is kept.
 	Stays bool
 
 	fingerprint []byte
@@ -63,34 +63,35 @@ func (d Damaged) String() string {
 	return fmt.Sprintf("%s, row %d (%.80q): %v", d.Source, d.Row, d.Name, d.Why)
 }
 
-// Change is what became of a file, or would become of it.
+// Change holds how a file was changed, or how it would be changed.
 type Change struct {
-	Roots                     int // in the file
+	Roots                     int // in the file after the change
 	Added, Removed            []Root
 	OtherPurpose, OtherStatus int // rows that were left out
 	Damaged                   []Damaged
 }
 
-// wanted are the roots of tables.
+// wanted collects the roots of tables that the file must have.
 type wanted struct {
 	roots  map[[sha256.Size]byte]Root
 	change Change
 }
 
-// fileName is the name of the file in the folder of roots. begins is its first line.
+// fileName is the name of the file in the folder of roots. firstLine is its first line.
 const (
-	fileName = "ccadb.pem"
-	begins   = "# Written by ctserve roots. The next run replaces it: add other roots in files of their own.\n"
+	fileName  = "ccadb.pem"
+	firstLine = "# Written by ctserve roots. The next run replaces it: add other roots in files of their own.\n"
 )
 
 // File returns the path of the file in a folder of roots.
 func File(folder string) string { return filepath.Join(folder, fileName) }
 
-// Update replaces the file of a folder by the roots of tables that are for TLS servers and included. At most so many
-// per cent of the roots in it may go. If it fails, the file stays, and the change says what would have become of it.
-func Update(folder string, from []Source, maxFall float64) (Change, error) {
+// Update replaces the roots in the file of a folder by those roots of the tables that are included and for TLS servers.
+// maxFall is the maximum percentage of the file's roots that may be removed. If Update fails, it does not change the
+// file, and the returned Change says how the file would have been changed.
+func Update(folder string, sources []Source, maxFall float64) (Change, error) {
 	w := &wanted{roots: map[[sha256.Size]byte]Root{}}
-	for _, source := range from {
+	for _, source := range sources {
 		if err := w.add(source); err != nil {
 			return Change{}, err
 		}
@@ -127,7 +128,7 @@ func Update(folder string, from []Source, maxFall float64) (Change, error) {
 		return *change, ErrNone
 	}
 	if fall := 100 * float64(len(change.Removed)) / float64(max(len(before), 1)); fall > maxFall {
-		return *change, fmt.Errorf("%w: %d of %d, and at most %g %% may go (see what is wrong with the tables, or raise "+
+		return *change, fmt.Errorf("%w: %d of %d, and at most %g %% may be removed (check the tables, or raise "+
 			"--max-fall)", ErrFall, len(change.Removed), len(before), maxFall)
 	}
 	if len(change.Added)+len(change.Removed) == 0 && len(before) > 0 {
@@ -144,11 +145,11 @@ func (w *wanted) add(source Source) error {
 	}
 	columns := strings.Join(table.Columns, ", ")
 	if !table.HasPurposes {
-		return fmt.Errorf("roots: %s: %w: none of trust bits is among %s", source.Name, chains.ErrColumn, columns)
+		return fmt.Errorf("roots: %s: %w: no column of trust bits is among %s", source.Name, chains.ErrColumn, columns)
 	}
 	if !table.HasStatuses && !source.AllIncluded {
-		return fmt.Errorf("roots: %s: %w: none of statuses is among %s (if the table has included roots only, give "+
-			"--all-included)", source.Name, chains.ErrColumn, columns)
+		return fmt.Errorf("roots: %s: %w: no column of statuses is among %s (if all roots of the table are included, "+
+			"give --all-included)", source.Name, chains.ErrColumn, columns)
 	}
 	for at, row := range table.Rows {
 		switch {
@@ -169,7 +170,7 @@ func (w *wanted) add(source Source) error {
 	return nil
 }
 
-// rootOf reads the certificate of a row.
+// rootOf returns the root in a row.
 func rootOf(row chains.TableRow) (Root, error) {
 	block, rest := pem.Decode(row.PEM)
 	if block == nil || block.Type != "CERTIFICATE" || len(bytes.TrimSpace(rest)) > 0 {
@@ -185,13 +186,13 @@ func rootOf(row chains.TableRow) (Root, error) {
 	return Root{fingerprint, oneLine(row.Name), block.Bytes}, nil
 }
 
-// oneLine returns a name without anything that could end its line in the file.
+// oneLine returns a name with spaces in place of all characters that could end its line in the file.
 func oneLine(name string) string {
-	return strings.Map(func(sign rune) rune {
-		if sign < ' ' || sign == 0x7f {
+	return strings.Map(func(char rune) rune {
+		if char < ' ' || char == 0x7f {
 			return ' '
 		}
-		return sign
+		return char
 	}, name)
 }
 
@@ -199,14 +200,14 @@ func sortRoots(roots []Root) {
 	slices.SortFunc(roots, func(a, b Root) int { return bytes.Compare(a.Fingerprint[:], b.Fingerprint[:]) })
 }
 
-// file returns the content of the file, which follows from the roots alone.
+// file returns the content of the file. It depends only on the roots.
 func (w *wanted) file() []byte {
 	roots := make([]Root, 0, len(w.roots))
 	for _, root := range w.roots {
 		roots = append(roots, root)
 	}
 	sortRoots(roots)
-	content := []byte(begins)
+	content := []byte(firstLine)
 	for _, root := range roots {
 		content = fmt.Appendf(content, "# %s\n", root)
 		content = append(content, pem.EncodeToMemory(&pem.Block{Type: "CERTIFICATE", Bytes: root.der})...)
@@ -214,7 +215,7 @@ func (w *wanted) file() []byte {
 	return content
 }
 
-// read reads the roots of a file that Update wrote; none if there is no file.
+// read returns the roots in a file that Update wrote, or none if there is no file.
 func read(path string) (map[[sha256.Size]byte]Root, error) {
 	content, err := stores.KeptFile(path)
 	if errors.Is(err, stores.ErrAbsent) {
@@ -223,7 +224,7 @@ func read(path string) (map[[sha256.Size]byte]Root, error) {
 	if err != nil {
 		return nil, fmt.Errorf("roots: %w", err)
 	}
-	if !bytes.HasPrefix(content, []byte(begins)) {
+	if !bytes.HasPrefix(content, []byte(firstLine)) {
 		return nil, fmt.Errorf("%w: %s", ErrFile, path)
 	}
 	names := map[string]string{}

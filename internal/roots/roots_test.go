@@ -30,19 +30,19 @@ func certificate(t *testing.T, name string) []byte {
 	t.Helper()
 	key, err := ecdsa.GenerateKey(elliptic.P256(), rand.Reader)
 	testutil.Must(t, err)
-	of := &x509.Certificate{SerialNumber: big.NewInt(1), Subject: pkix.Name{CommonName: name}, IsCA: true,
+	template := &x509.Certificate{SerialNumber: big.NewInt(1), Subject: pkix.Name{CommonName: name}, IsCA: true,
 		NotBefore: time.Unix(1_700_000_000, 0), NotAfter: time.Unix(2_000_000_000, 0), BasicConstraintsValid: true}
-	der, err := x509.CreateCertificate(rand.Reader, of, of, key.Public(), key)
+	der, err := x509.CreateCertificate(rand.Reader, template, template, key.Public(), key)
 	testutil.Must(t, err)
 	return der
 }
 
-// quoted is a certificate as CCADB writes it: PEM between apostrophes.
+// quoted returns a certificate as CCADB writes it: in PEM, between apostrophes.
 func quoted(der []byte) string {
 	return "'" + string(pem.EncodeToMemory(&pem.Block{Type: "CERTIFICATE", Bytes: der})) + "'"
 }
 
-// world has the certificates of the tables by their names, and a folder of roots.
+// world holds the certificates of the tables by their names, and a folder of roots.
 type world struct {
 	t      *testing.T
 	der    map[string][]byte
@@ -58,7 +58,7 @@ func newWorld(t *testing.T, names ...string) *world {
 	return w
 }
 
-// row is a line of the table over all root programs.
+// row returns a line of the table of all root programs.
 func (w *world) row(name, bits, status string) []string {
 	return []string{"An owner", name, fmt.Sprintf("%X", sha256.Sum256(w.der[name])), bits, status, quoted(w.der[name])}
 }
@@ -67,10 +67,10 @@ func (w *world) row(name, bits, status string) []string {
 var header = []string{"CA Owner", "Certificate Name", "SHA-256 Fingerprint", "Trust Bits for Root Cert",
 	"Status of Root Cert", "X.509 Certificate (PEM)"}
 
-// table writes a table.
+// table returns the text of a table.
 func table(rows ...[]string) []byte {
 	var text bytes.Buffer
-	_ = csv.NewWriter(&text).WriteAll(rows) // (a buffer takes everything)
+	_ = csv.NewWriter(&text).WriteAll(rows) // Writing to a buffer never fails.
 	return text.Bytes()
 }
 
@@ -78,33 +78,34 @@ func (w *world) update(maxFall float64, rows ...[]string) (roots.Change, error) 
 	return roots.Update(w.folder, []roots.Source{{Name: "table", Text: table(rows...)}}, maxFall)
 }
 
-// wantsRoots sees which roots a log loads from the folder.
-func (w *world) wantsRoots(names ...string) {
+// wantRoots checks which roots a log loads from the folder.
+func (w *world) wantRoots(names ...string) {
 	w.t.Helper()
 	loaded, err := chains.RootFiles{Paths: []string{w.folder}}.Load()
 	testutil.Must(w.t, err)
 	var found []string
 	for _, der := range loaded.Certificates() {
-		of, err := x509.ParseCertificate(der)
+		parsed, err := x509.ParseCertificate(der)
 		testutil.Must(w.t, err)
-		found = append(found, of.Subject.CommonName)
+		found = append(found, parsed.Subject.CommonName)
 	}
 	slices.Sort(found)
 	if strings.Join(found, " ") != strings.Join(names, " ") {
-		w.t.Errorf("the roots are %v, and %v are due", found, names)
+		w.t.Errorf("the roots are %v, and %v are expected", found, names)
 	}
 }
 
-func namesOf(of []roots.Root) string {
+func namesOf(all []roots.Root) string {
 	var names []string
-	for _, root := range of {
+	for _, root := range all {
 		names = append(names, root.Name)
 	}
 	slices.Sort(names)
 	return strings.Join(names, " ")
 }
 
-// Of a table, those roots are kept that are for TLS servers and included. Those of other files stay.
+// TestKeepsTheRootsOfServers: the roots of a table that are included and for TLS servers are kept. The roots of other
+// files do not change.
 func TestKeepsTheRootsOfServers(t *testing.T) {
 	w := newWorld(t, "a", "b", "c", "mail", "code", "removed", "pending", "own")
 	testutil.Must(t, os.WriteFile(filepath.Join(w.folder, "own.pem"), []byte(strings.Trim(quoted(w.der["own"]), "'")), 0o644))
@@ -123,7 +124,7 @@ func TestKeepsTheRootsOfServers(t *testing.T) {
 		change.OtherStatus != 2 || len(change.Damaged) != 1 || change.Damaged[0].Row != 3 || change.Damaged[0].Name != "c" {
 		t.Errorf("%+v", change)
 	}
-	w.wantsRoots("a", "b", "own")
+	w.wantRoots("a", "b", "own")
 	// The same table again changes nothing, and writes nothing.
 	before, err := os.Stat(roots.File(w.folder))
 	testutil.Must(t, err)
@@ -136,8 +137,8 @@ func TestKeepsTheRootsOfServers(t *testing.T) {
 	}
 }
 
-// The columns of Mozilla's and Microsoft's reports, whose names differ, are found. A table without statuses is taken
-// only if the user says that all of its roots are included.
+// TestColumnsOfOtherReports: the columns of Mozilla's and Microsoft's reports are found although their names differ. A
+// table without statuses is accepted only if the user says that all of its roots are included.
 func TestColumnsOfOtherReports(t *testing.T) {
 	w := newWorld(t, "a", "b", "mail", "disabled")
 	hash := func(name string) string { return fmt.Sprintf("%X", sha256.Sum256(w.der[name])) }
@@ -158,10 +159,10 @@ func TestColumnsOfOtherReports(t *testing.T) {
 	if namesOf(change.Added) != "a b" || change.OtherPurpose != 1 || change.OtherStatus != 1 {
 		t.Errorf("%+v", change)
 	}
-	w.wantsRoots("a", "b")
+	w.wantRoots("a", "b")
 }
 
-// A table that would take too many roots away changes nothing, whatever is wrong with it.
+// TestRefusesAFall: a table that would remove too many roots changes nothing, whatever is wrong with it.
 func TestRefusesAFall(t *testing.T) {
 	var names []string
 	for i := range 20 {
@@ -182,9 +183,9 @@ func TestRefusesAFall(t *testing.T) {
 		}
 		return other
 	}
-	for what, of := range map[string]struct {
-		rows [][]string
-		due  error
+	for what, test := range map[string]struct {
+		rows     [][]string
+		expected error
 	}{
 		"half of the rows":      {rows[:11], roots.ErrFall},
 		"no rows":               {rows[:1], roots.ErrNone},
@@ -195,11 +196,11 @@ func TestRefusesAFall(t *testing.T) {
 		"other trust bits":      {replaced(rows, "Websites", "TLS"), roots.ErrNone},
 		"a row that is cut off": {append(slices.Clone(rows), []string{"An owner"}), csv.ErrFieldCount},
 	} {
-		if _, err := w.update(5, of.rows...); !errors.Is(err, of.due) {
-			t.Errorf("%s: %v, and %v is due", what, err, of.due)
+		if _, err := w.update(5, test.rows...); !errors.Is(err, test.expected) {
+			t.Errorf("%s: %v, and %v is expected", what, err, test.expected)
 		}
 		if after, err := os.ReadFile(roots.File(w.folder)); err != nil || !bytes.Equal(after, before) {
-			t.Errorf("%s: the file is another one: %v", what, err)
+			t.Errorf("%s: the file has changed: %v", what, err)
 		}
 	}
 	// One of twenty is five per cent.
@@ -226,8 +227,8 @@ func replaced(rows [][]string, from, to string) (other [][]string) {
 	return other
 }
 
-// A row whose certificate is damaged, or is another one than its fingerprint says, takes no root away that the file
-// has.
+// TestDamagedRowKeepsItsRoot: if the certificate of a row is damaged, or is not the one of its fingerprint, the file
+// keeps its root with that fingerprint.
 func TestDamagedRowKeepsItsRoot(t *testing.T) {
 	w := newWorld(t, "a", "b", "stranger")
 	_, err := w.update(5, header, w.row("a", "Websites", "Mozilla: Included"), w.row("b", "Websites", "Mozilla: Included"))
@@ -239,16 +240,16 @@ func TestDamagedRowKeepsItsRoot(t *testing.T) {
 	if len(change.Damaged) != 1 || !change.Damaged[0].Stays || len(change.Added)+len(change.Removed) != 0 {
 		t.Errorf("%+v", change)
 	}
-	w.wantsRoots("a", "b")
+	w.wantRoots("a", "b")
 }
 
-// A file that somebody else wrote under the name stays.
-func TestKeepsAnothersFile(t *testing.T) {
+// TestKeepsForeignFile: a file with the same name that another program wrote is not replaced.
+func TestKeepsForeignFile(t *testing.T) {
 	w := newWorld(t, "a", "own")
 	own := []byte(strings.Trim(quoted(w.der["own"]), "'"))
 	testutil.Must(t, os.WriteFile(roots.File(w.folder), own, 0o644))
 	if _, err := w.update(100, header, w.row("a", "Websites", "Mozilla: Included")); !errors.Is(err, roots.ErrFile) {
 		t.Errorf("%v", err)
 	}
-	w.wantsRoots("own")
+	w.wantRoots("own")
 }

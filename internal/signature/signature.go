@@ -1,7 +1,7 @@
 // Package signature verifies what a Certificate Transparency log signs: tree heads, checkpoints and timestamps.
 //
-// The bytes under a signature are made by the proved library. That a signature is the key's is decided by crypto/ecdsa
-// and crypto/rsa, and is not proved.
+// The proved library makes the bytes that were signed. crypto/ecdsa and crypto/rsa decide whether a signature is the
+// key's, which is not proved.
 package signature
 
 import (
@@ -22,13 +22,13 @@ import (
 	"wagtenib/bindings/go/wagtenib"
 )
 
-// The reasons for which a signed text is refused. Each is found by errors.Is.
+// The reasons for which a signed text is refused. Use errors.Is.
 var (
-	// ErrKey means that a public key is not one that a log may have (RFC 6962, section 2.1.4).
+	// ErrKey means that a log may not have this public key (RFC 6962, section 2.1.4).
 	ErrKey = errors.New("signature: not a log's key: it must be a SubjectPublicKeyInfo of ECDSA or RSA, in DER")
-	// ErrForm means that a text is not a signed tree head, whoever may have signed it.
+	// ErrForm means that a text is not a signed tree head, whatever its signature is.
 	ErrForm = errors.New("signature: not a signed tree head")
-	// ErrSigner means that a text is a signed tree head, and the log's key did not sign it.
+	// ErrSigner means that a text is a signed tree head, but the log's key did not sign it.
 	ErrSigner = errors.New("signature: not signed with the log's key")
 )
 
@@ -42,7 +42,7 @@ const (
 	noteAlgorithm = 5
 )
 
-// minRSABits is the size of the smallest RSA key of a log (RFC 6962, section 2.1.4).
+// minRSABits is the minimum size of a log's RSA key in bits (RFC 6962, section 2.1.4).
 const minRSABits = 2048
 
 // ParseKey reads a log's public key, a SubjectPublicKeyInfo in DER. The error is nil or wraps ErrKey.
@@ -56,7 +56,7 @@ func ParseKey(der []byte) (crypto.PublicKey, error) {
 		return key, nil
 	case *rsa.PublicKey:
 		if bits := key.N.BitLen(); bits < minRSABits {
-			return nil, fmt.Errorf("%w: RSA of %d bits, and %d is the least", ErrKey, bits, minRSABits)
+			return nil, fmt.Errorf("%w: RSA of %d bits, and the minimum is %d", ErrKey, bits, minRSABits)
 		}
 		return key, nil
 	}
@@ -73,7 +73,7 @@ func Verify(publicKey, message, digitallySigned []byte) error {
 	const header = 4
 	if len(digitallySigned) < header || int(binary.BigEndian.Uint16(digitallySigned[2:])) != len(
 		digitallySigned)-header {
-		return fmt.Errorf("%w: no DigitallySigned", ErrSigner)
+		return fmt.Errorf("%w: the signature is not a DigitallySigned", ErrSigner)
 	}
 	hash, algorithm, signed := digitallySigned[0], digitallySigned[1], digitallySigned[header:]
 	if hash != hashSHA256 {
@@ -93,8 +93,8 @@ func Verify(publicKey, message, digitallySigned []byte) error {
 	return ErrSigner
 }
 
-// logVerifier verifies an RFC6962NoteSignature (C2SP static-ct-api, "Checkpoints"). It keeps the timestamp of the
-// signature that it found right.
+// logVerifier verifies an RFC6962NoteSignature (C2SP static-ct-api, "Checkpoints"). It keeps the tree head of a valid
+// signature, with the signature's timestamp.
 type logVerifier struct {
 	origin    string
 	publicKey []byte
@@ -105,7 +105,8 @@ type logVerifier struct {
 func (v logVerifier) Name() string    { return v.origin }
 func (v logVerifier) KeyHash() uint32 { return v.id }
 
-// Verify checks one signature over the text of a checkpoint: 8 bytes of a timestamp, and after them a DigitallySigned.
+// Verify reports whether a signature over the text of a checkpoint is valid. The signature consists of a timestamp of 8
+// bytes and a DigitallySigned.
 func (v logVerifier) Verify(text, signed []byte) bool {
 	checkpoint, err := wagtenib.ReadCheckpoint(string(text))
 	const timestamp = 8
@@ -122,9 +123,9 @@ func (v logVerifier) Verify(text, signed []byte) bool {
 	return true
 }
 
-// OpenCheckpoint reads a tiled log's checkpoint, a signed note (C2SP signed-note, tlog-checkpoint, static-ct-api), and
-// verifies the log's signature. The signatures of others are not looked at. It returns the tree head. The error is nil,
-// or wraps ErrForm or ErrSigner.
+// OpenCheckpoint reads the checkpoint of a tiled log, which is a signed note (C2SP signed-note, tlog-checkpoint,
+// static-ct-api), and verifies the log's signature. It ignores all other signatures. It returns the tree head. The
+// error is nil, or wraps ErrForm or ErrSigner.
 func OpenCheckpoint(signed []byte, origin string, publicKey []byte) (wagtenib.TreeHead, error) {
 	logID := wagtenib.LogID(publicKey)
 	id := wagtenib.NoteKeyID(origin, noteAlgorithm, logID[:])
@@ -145,7 +146,7 @@ func OpenCheckpoint(signed []byte, origin string, publicKey []byte) (wagtenib.Tr
 		}
 		return wagtenib.TreeHead{}, fmt.Errorf("%w: checkpoint of %.100q, and %q is expected", ErrSigner, found, origin)
 	}
-	return wagtenib.TreeHead{}, fmt.Errorf("%w: no signed note", ErrForm)
+	return wagtenib.TreeHead{}, fmt.Errorf("%w: it is not a signed note", ErrForm)
 }
 
 // STH holds the answer to get-sth (RFC 6962, section 4.3).
@@ -184,9 +185,9 @@ func OpenSTH(answer, publicKey []byte) (wagtenib.TreeHead, error) {
 	return head, nil
 }
 
-// CheckpointOfSTH returns the head of an answer to get-sth, whose signature it verifies, as a checkpoint of a log with
-// this origin. The signature of a checkpoint is over the same bytes (C2SP static-ct-api, "Checkpoints"), so nobody has
-// to sign again. The error is that of OpenSTH, or says that the origin is none.
+// CheckpointOfSTH verifies an answer to get-sth, and returns its tree head as a checkpoint of a log with this origin.
+// The signature of a checkpoint is over the same bytes (C2SP static-ct-api, "Checkpoints"), so no new signature is
+// needed. The error is that of OpenSTH, or wraps ErrForm if the origin is invalid.
 func CheckpointOfSTH(answer []byte, origin string, publicKey []byte) ([]byte, error) {
 	head, err := OpenSTH(answer, publicKey)
 	if err != nil {
@@ -206,7 +207,7 @@ func CheckpointOfSTH(answer []byte, origin string, publicKey []byte) ([]byte, er
 	line := "— " + origin + " " + base64.StdEncoding.EncodeToString(signed) + "\n"
 	checkpoint := []byte(text + "\n" + line)
 	if again, err := OpenCheckpoint(checkpoint, origin, publicKey); err != nil || again != head {
-		return nil, fmt.Errorf("%w: no checkpoint of %q: %v", ErrForm, origin, err)
+		return nil, fmt.Errorf("%w: it cannot be a checkpoint of %q: %v", ErrForm, origin, err)
 	}
 	return checkpoint, nil
 }

@@ -22,7 +22,7 @@ import (
 	"wagtenib/internal/testlog"
 )
 
-// signer is a log's key of some kind.
+// signer holds a key, which may be of a kind that no log may have.
 type signer struct {
 	key       crypto.Signer
 	algorithm byte // in a DigitallySigned (RFC 5246, section 7.4.1.4.1)
@@ -31,12 +31,12 @@ type signer struct {
 // signers returns a key of each kind that a log may have (RFC 6962, section 2.1.4), and of others.
 func signers(t *testing.T) map[string]signer {
 	t.Helper()
-	small, err := rsa.GenerateKey(rand.Reader, 1024)
-	large, failed := rsa.GenerateKey(rand.Reader, 2048)
-	p256, missing := ecdsa.GenerateKey(elliptic.P256(), rand.Reader)
-	p384, absent := ecdsa.GenerateKey(elliptic.P384(), rand.Reader)
-	_, edwards, wrong := ed25519.GenerateKey(rand.Reader)
-	if err := errors.Join(err, failed, missing, absent, wrong); err != nil {
+	small, smallErr := rsa.GenerateKey(rand.Reader, 1024)
+	large, largeErr := rsa.GenerateKey(rand.Reader, 2048)
+	p256, p256Err := ecdsa.GenerateKey(elliptic.P256(), rand.Reader)
+	p384, p384Err := ecdsa.GenerateKey(elliptic.P384(), rand.Reader)
+	_, edwards, edwardsErr := ed25519.GenerateKey(rand.Reader)
+	if err := errors.Join(smallErr, largeErr, p256Err, p384Err, edwardsErr); err != nil {
 		t.Fatal(err)
 	}
 	return map[string]signer{"RSA of 1024 bits": {small, 1}, "RSA": {large, 1}, "P-256": {p256, 3}, "P-384": {p384, 3},
@@ -70,12 +70,12 @@ func (s signer) sign(t *testing.T, message []byte) []byte {
 func TestVerifies(t *testing.T) {
 	message := []byte("a message")
 	for name, s := range signers(t) {
-		due := map[string]error{"RSA of 1024 bits": signature.ErrKey, "Ed25519": signature.ErrKey}[name]
+		expected := map[string]error{"RSA of 1024 bits": signature.ErrKey, "Ed25519": signature.ErrKey}[name]
 		signed := s.sign(t, message)
-		if err := signature.Verify(s.public(t), message, signed); !errors.Is(err, due) {
-			t.Errorf("%s: %v, and %v is due", name, err, due)
+		if err := signature.Verify(s.public(t), message, signed); !errors.Is(err, expected) {
+			t.Errorf("%s: %v, and %v is expected", name, err, expected)
 		}
-		if due != nil {
+		if expected != nil {
 			continue
 		}
 		for at := range signed {
@@ -97,7 +97,8 @@ func TestVerifies(t *testing.T) {
 	}
 }
 
-// A checkpoint is opened by the log's signature, wherever it is among the lines, and refused without it.
+// TestOpensCheckpoints: a checkpoint is accepted if the log's signature is among the lines, in any place, and refused
+// without it.
 func TestOpensCheckpoints(t *testing.T) {
 	log, err := testlog.New("log.example/2027")
 	if err != nil {
@@ -120,11 +121,11 @@ func TestOpensCheckpoints(t *testing.T) {
 		t.Fatal(err)
 	}
 	_, edwards, _ := strings.Cut(string(both), "\n\n")
-	for what, of := range map[string]struct {
+	for what, test := range map[string]struct {
 		checkpoint string
-		due        error
+		expected   error
 	}{
-		"as it came":          {own, nil},
+		"unchanged":           {own, nil},
 		"after others":        {text + "\n\n" + grease + edwards + line, nil},
 		"before others":       {text + "\n\n" + line + edwards + grease, nil},
 		"without the log's":   {text + "\n\n" + edwards + grease, signature.ErrSigner},
@@ -136,9 +137,9 @@ func TestOpensCheckpoints(t *testing.T) {
 		"nothing":             {"", signature.ErrForm},
 		"a note of something": {"hello\n\n" + edwards, signature.ErrForm},
 	} {
-		head, err := signature.OpenCheckpoint([]byte(of.checkpoint), log.Origin, log.PublicKey())
-		if !errors.Is(err, of.due) {
-			t.Errorf("%s: %v, and %v is due", what, err, of.due)
+		head, err := signature.OpenCheckpoint([]byte(test.checkpoint), log.Origin, log.PublicKey())
+		if !errors.Is(err, test.expected) {
+			t.Errorf("%s: %v, and %v is expected", what, err, test.expected)
 		}
 		if err == nil && (head.TreeSize != 7 || head.Timestamp != 1234 || head.Root != [32]byte{9}) {
 			t.Errorf("%s: the head is %+v", what, head)
@@ -146,7 +147,7 @@ func TestOpensCheckpoints(t *testing.T) {
 	}
 }
 
-// An answer to get-sth is opened by keys of each kind, and refused if a field is another one or missing.
+// TestOpensSTHs: an answer to get-sth is accepted, and refused if a field has another value or is missing.
 func TestOpensSTHs(t *testing.T) {
 	s := signers(t)["RSA"]
 	root := [32]byte{5}
@@ -163,9 +164,9 @@ func TestOpensSTHs(t *testing.T) {
 	if err != nil || head.TreeSize != 7 || head.Timestamp != 1234 || head.Root != root {
 		t.Errorf("%+v, %v", head, err)
 	}
-	for what, of := range map[string]struct {
-		answer []byte
-		due    error
+	for what, test := range map[string]struct {
+		answer   []byte
+		expected error
 	}{
 		"another size":      {answer(8, 1234, root[:], signed), signature.ErrSigner},
 		"another timestamp": {answer(7, 1235, root[:], signed), signature.ErrSigner},
@@ -176,8 +177,8 @@ func TestOpensSTHs(t *testing.T) {
 		"a negative size":   {[]byte(`{"tree_size":-1}`), signature.ErrForm},
 		"a text for a size": {[]byte(`{"tree_size":"7"}`), signature.ErrForm},
 	} {
-		if _, err := signature.OpenSTH(of.answer, s.public(t)); !errors.Is(err, of.due) {
-			t.Errorf("%s: %v, and %v is due", what, err, of.due)
+		if _, err := signature.OpenSTH(test.answer, s.public(t)); !errors.Is(err, test.expected) {
+			t.Errorf("%s: %v, and %v is expected", what, err, test.expected)
 		}
 	}
 }

@@ -9,7 +9,7 @@ import (
 	"time"
 )
 
-// asker has one peer, for one exchange at a time, and opens it again if it has ended. Its methods may be called
+// asker holds one peer, for one exchange at a time, and opens it again if it has ended. Its methods may be called
 // concurrently.
 type asker struct {
 	open  func(context.Context) (*Peer, error)

@@ -20,8 +20,8 @@ import (
 
 func cat(context.Context) (*Peer, error) { return Start([]string{"cat"}) }
 
-// said returns what an asker reads.
-func said(c *asker, ctx context.Context, line string) (reply string, err error) {
+// askFor sends a line, and returns the reply that the asker reads.
+func askFor(c *asker, ctx context.Context, line string) (reply string, err error) {
 	err = c.ask(ctx, []byte(line), func(read []byte) error {
 		reply = string(read)
 		return nil
@@ -32,8 +32,9 @@ func said(c *asker, ctx context.Context, line string) (reply string, err error) 
 	return reply, nil
 }
 
-// TestUnaskedReply has a program reply twice to its first line, as one does that reads a line in two parts: the second
-// reply must not be taken for the one to the next line. The program is started again, and no request fails.
+// TestUnaskedReply starts a program that replies twice to its first line, like a program that reads a line in two
+// parts. The second reply must not be used as the reply to the next line. The program is started again, and no request
+// fails.
 func TestUnaskedReply(t *testing.T) {
 	t.Parallel()
 	folder := t.TempDir()
@@ -44,7 +45,7 @@ func TestUnaskedReply(t *testing.T) {
 	c := newAsker(func(context.Context) (*Peer, error) { return Start(program) }, testutil.Longest)
 	defer c.close()
 	for i := 1; i <= 3; i++ {
-		reply, err := said(c, limited(t), "asked\n")
+		reply, err := askFor(c, limited(t), "asked\n")
 		if err != nil || reply != "asked" {
 			t.Fatalf("%d: %q, %v", i, reply, err)
 		}
@@ -56,15 +57,15 @@ func TestUnaskedReply(t *testing.T) {
 		}
 	}
 	e := script(t, "echo early; read -r x; echo late")
-	testutil.Eventually(t, "it speaks", e.hasUnread)
+	testutil.Eventually(t, "the program has written a line", e.hasUnread)
 	reply, err := e.exchange(limited(t), testutil.Longest, []byte("x\n"))
-	if wants(t, err, ErrGone); reply != nil {
+	if wantError(t, err, ErrGone); reply != nil {
 		t.Errorf("%q", reply)
 	}
 }
 
-// TestWrongReplyEndsTheProgram has what reads a reply refuse it: the program is ended for a reply that is none, and for
-// nothing else, before anybody else asks it.
+// TestWrongReplyEndsTheProgram: if the function that reads a reply returns ErrReply, the program is ended before
+// another caller asks it. Other errors do not end it.
 func TestWrongReplyEndsTheProgram(t *testing.T) {
 	t.Parallel()
 	c := newAsker(func(context.Context) (*Peer, error) {
@@ -79,14 +80,14 @@ func TestWrongReplyEndsTheProgram(t *testing.T) {
 			return with
 		})
 		if err != with {
-			t.Errorf("%v in place of %v", err, with)
+			t.Errorf("%v instead of %v", err, with)
 		}
 	}
 	if len(pids) != 4 || pids[0] != pids[1] || pids[1] != pids[2] || pids[2] == pids[3] || c.opens.Load() != 2 {
 		t.Errorf("processes %q, started %d times", pids, c.opens.Load())
 	}
 	if pid, err := strconv.Atoi(pids[0]); err != nil || alive(pid) {
-		t.Errorf("process %s goes on, %v", pids[0], err)
+		t.Errorf("process %s still runs, %v", pids[0], err)
 	}
 }
 
@@ -94,16 +95,16 @@ func TestWrongReplyEndsTheProgram(t *testing.T) {
 func TestRestart(t *testing.T) {
 	ctx, c := context.Background(), newAsker(cat, testutil.Longest)
 	defer c.close()
-	if reply, err := said(c, ctx, "one\n"); err != nil || reply != "one" {
+	if reply, err := askFor(c, ctx, "one\n"); err != nil || reply != "one" {
 		t.Fatalf("%q, %v", reply, err)
 	}
 	e := <-c.turn
 	e.Close()
 	c.turn <- e
-	if _, err := said(c, ctx, "three\n"); !errors.Is(err, ErrGone) {
+	if _, err := askFor(c, ctx, "three\n"); !errors.Is(err, ErrGone) {
 		t.Fatal(err)
 	}
-	if reply, err := said(c, ctx, "four\n"); err != nil || reply != "four" {
+	if reply, err := askFor(c, ctx, "four\n"); err != nil || reply != "four" {
 		t.Fatalf("%q, %v", reply, err)
 	}
 	if c.opens.Load() != 2 {
@@ -111,34 +112,33 @@ func TestRestart(t *testing.T) {
 	}
 }
 
-// TestCallerWithAnEndedContext has callers ask with a context that has ended. They get no reply, and no peer is closed
-// or opened for them.
+// TestCallerWithAnEndedContext: callers whose context has ended get no reply, and no peer is closed or opened for them.
 func TestCallerWithAnEndedContext(t *testing.T) {
 	c := newAsker(cat, testutil.Longest)
 	defer c.close()
 	gone, cancel := context.WithCancel(context.Background())
 	cancel()
-	// (select chooses at random between two ready cases)
+	// The test repeats this, since select chooses at random between two ready cases.
 	for i := 0; i < 100; i++ {
-		if reply, err := said(c, gone, "one\n"); !errors.Is(err, ErrGone) {
+		if reply, err := askFor(c, gone, "one\n"); !errors.Is(err, ErrGone) {
 			t.Fatalf("%q, %v", reply, err)
 		}
 	}
-	if reply, err := said(c, context.Background(), "two\n"); err != nil || reply != "two" {
+	if reply, err := askFor(c, context.Background(), "two\n"); err != nil || reply != "two" {
 		t.Fatalf("%q, %v", reply, err)
 	}
 	for i := 0; i < 100; i++ {
-		if _, err := said(c, gone, "three\n"); !errors.Is(err, ErrGone) {
+		if _, err := askFor(c, gone, "three\n"); !errors.Is(err, ErrGone) {
 			t.Fatal(err)
 		}
 	}
-	if reply, err := said(c, context.Background(), "four\n"); err != nil || reply != "four" || c.opens.Load() != 1 {
+	if reply, err := askFor(c, context.Background(), "four\n"); err != nil || reply != "four" || c.opens.Load() != 1 {
 		t.Errorf("%q, %v, opened %d times", reply, err, c.opens.Load())
 	}
 }
 
-// TestCallerLeaves has callers leave while the program works on what they asked: it must not be killed for them, since
-// others share it, and its reply must not be given to the next caller.
+// TestCallerLeaves: if a caller's context ends while the program works on its request, the program must not be killed,
+// since other callers share it. The late reply must not be returned to the next caller.
 func TestCallerLeaves(t *testing.T) {
 	t.Parallel()
 	folder := t.TempDir()
@@ -146,7 +146,8 @@ func TestCallerLeaves(t *testing.T) {
 	for _, fifo := range []string{reads, goes} {
 		must(t, syscall.Mkfifo(fifo, 0o600))
 	}
-	// The program says in one FIFO that it has read a line, and replies once the other one says so.
+	// The program writes each line that it has read to one FIFO, and replies after it has read a line from the other
+	// one.
 	program := []string{"sh", "-c", `while read -r x; do echo "$x" >"$1"; read -r y <"$2"; echo "$x"; done`,
 		"sh", reads, goes}
 	c := newAsker(func(context.Context) (*Peer, error) { return Start(program) }, testutil.Longest)
@@ -155,18 +156,18 @@ func TestCallerLeaves(t *testing.T) {
 		ctx, leave := context.WithCancel(context.Background())
 		left := make(chan error, 1)
 		go func() {
-			_, err := said(c, ctx, "of a caller that leaves\n")
+			_, err := askFor(c, ctx, "of a caller that leaves\n")
 			left <- err
 		}()
 		if read, err := os.ReadFile(reads); err != nil || string(read) != "of a caller that leaves\n" {
 			t.Fatalf("%q, %v", read, err)
 		}
 		leave()
-		wants(t, <-left, ErrGone)
+		wantError(t, <-left, ErrGone)
 		must(t, os.WriteFile(goes, []byte("\n"), 0))
 		stays := make(chan error, 1)
 		go func() {
-			reply, err := said(c, context.Background(), "of a caller that stays\n")
+			reply, err := askFor(c, context.Background(), "of a caller that stays\n")
 			if err == nil && reply != "of a caller that stays" {
 				err = errors.New(reply)
 			}
@@ -183,7 +184,7 @@ func TestCallerLeaves(t *testing.T) {
 	}
 }
 
-// TestCloseInterrupts closes an asker while its program works on the request of a caller that has left. Close must not
+// TestCloseInterrupts closes an asker while its program works on the request of a caller that has left. close must not
 // wait for the limit.
 func TestCloseInterrupts(t *testing.T) {
 	t.Parallel()
@@ -195,37 +196,37 @@ func TestCloseInterrupts(t *testing.T) {
 	ctx, leave := context.WithCancel(context.Background())
 	left := make(chan error, 1)
 	go func() {
-		_, err := said(c, ctx, "x\n")
+		_, err := askFor(c, ctx, "x\n")
 		left <- err
 	}()
 	text, err := os.ReadFile(reads)
 	must(t, err)
 	leave()
-	wants(t, <-left, ErrGone)
+	wantError(t, <-left, ErrGone)
 	c.close()
 	pid, err := strconv.Atoi(strings.TrimSpace(string(text)))
 	must(t, err)
 	if alive(pid) {
-		t.Error("the process goes on")
+		t.Error("the process still runs")
 	}
 }
 
-// TestLongLine sends more than pipes hold, to a process that replies meanwhile.
+// TestLongLine sends a line that is longer than a pipe can hold, to a process that replies meanwhile.
 func TestLongLine(t *testing.T) {
 	c := newAsker(cat, testutil.Longest)
 	defer c.close()
 	line := strings.Repeat("x", 5_000_000)
-	if reply, err := said(c, context.Background(), line+"\n"); err != nil || reply != line {
+	if reply, err := askFor(c, context.Background(), line+"\n"); err != nil || reply != line {
 		t.Errorf("%d bytes, %v", len(reply), err)
 	}
 }
 
-// TestSocket asks at a socket, which is closed and opened again.
+// TestSocket asks a peer at a socket, whose connection is closed and opened again.
 func TestSocket(t *testing.T) {
 	path, ctx := filepath.Join(t.TempDir(), "socket"), context.Background()
 	c := newAsker(func(ctx context.Context) (*Peer, error) { return Dial(ctx, path) }, testutil.Longest)
 	defer c.close()
-	if _, err := said(c, ctx, "one\n"); !errors.Is(err, ErrGone) {
+	if _, err := askFor(c, ctx, "one\n"); !errors.Is(err, ErrGone) {
 		t.Fatal(err)
 	}
 	listener, err := net.Listen("unix", path)
@@ -234,7 +235,7 @@ func TestSocket(t *testing.T) {
 	}
 	defer listener.Close()
 	go func() {
-		// Each connection has one line answered.
+		// On each connection, one line is answered.
 		for {
 			connection, err := listener.Accept()
 			if err != nil {
@@ -246,10 +247,10 @@ func TestSocket(t *testing.T) {
 		}
 	}()
 	for i := 0; i < 3; i++ {
-		if reply, err := said(c, ctx, "two\n"); err != nil || reply != "two" {
+		if reply, err := askFor(c, ctx, "two\n"); err != nil || reply != "two" {
 			t.Errorf("%q, %v", reply, err)
 		}
-		if _, err := said(c, ctx, "three\n"); !errors.Is(err, ErrGone) {
+		if _, err := askFor(c, ctx, "three\n"); !errors.Is(err, ErrGone) {
 			t.Error(err)
 		}
 	}
@@ -279,6 +280,6 @@ func TestClosesAPeerWithoutAReply(t *testing.T) {
 	}
 	if err := syscall.Kill(pid, 0); !errors.Is(err, syscall.ESRCH) {
 		_ = syscall.Kill(pid, syscall.SIGKILL)
-		t.Errorf("process %d goes on: %v", pid, err)
+		t.Errorf("process %d still runs: %v", pid, err)
 	}
 }

@@ -11,9 +11,10 @@ import (
 )
 
 // A node verifies the signature of each head that its signer returns. It verifies only a sample of the timestamps,
-// because to verify one costs as much as all else that a signer does for it. The first provingTimestamps after a
-// signer was opened are verified all, and of each sampleWidth after them one at random.
-const provingTimestamps, sampleWidth = 256, 32
+// because verifying one costs as much as everything else that a signer does for it. After a signer was opened, its
+// first fullyVerified timestamps are all verified. After them, one timestamp of each sampleWidth is verified, at
+// random.
+const fullyVerified, sampleWidth = 256, 32
 
 // Client is a Signer that asks a signer in another process.
 type Client struct {
@@ -22,10 +23,10 @@ type Client struct {
 	guarded bool
 	// wrong counts the replies that had a wrong signature.
 	wrong atomic.Uint64
-	// opening is which opening of the signer the last timestamps are of, and unproved is how many of its next ones are
-	// verified all. They belong to whoever has the asker's turn.
-	opening  uint64
-	unproved int
+	// opening is the number of the opening of the signer that returned the last timestamps. verifyNext is how many of
+	// its next timestamps are all verified. Only the goroutine that has the asker's turn may use them.
+	opening    uint64
+	verifyNext int
 }
 
 // NewClient returns a client of the signer that open (Start or Dial) finds. If the signer is opened again later, it
@@ -47,7 +48,7 @@ func NewClient(ctx context.Context, open func(context.Context) (*Peer, error), t
 	return c, nil
 }
 
-// accept returns the peer if it has a key, the same as before. Otherwise it closes the peer.
+// accept returns the peer if it has a key, and the key is the same as before. Otherwise it closes the peer.
 func (c *Client) accept(ctx context.Context, peer *Peer, timeout time.Duration) (*Peer, error) {
 	text, err := peer.exchange(ctx, timeout, []byte("{\"open\":true}\n"))
 	if err != nil {
@@ -87,7 +88,7 @@ func (c *Client) Starts() uint64 { return c.asker.opens.Load() }
 // WrongSignatures returns how many replies of the signer had a wrong signature.
 func (c *Client) WrongSignatures() uint64 { return c.wrong.Load() }
 
-// exchange sends a request, and has check read its reply.
+// exchange sends a request, and calls check with its reply.
 func (c *Client) exchange(ctx context.Context, req request, check func(reply) error) error {
 	line, err := json.Marshal(req)
 	if err != nil {
@@ -96,7 +97,7 @@ func (c *Client) exchange(ctx context.Context, req request, check func(reply) er
 	return c.exchangeLine(ctx, line, check)
 }
 
-// exchangeLine sends a request's line, given without its line end, and has check read the reply.
+// exchangeLine sends a request's line, which is given without its line end, and calls check with the reply.
 func (c *Client) exchangeLine(ctx context.Context, line []byte, check func(reply) error) error {
 	if len(line) >= MaxLine {
 		return fmt.Errorf("%w: the request has %d bytes, more than %d", ErrReply, len(line), MaxLine-1)
@@ -157,8 +158,8 @@ func (c *Client) SignHead(ctx context.Context, head Head, consistency [][32]byte
 	return signature, nil
 }
 
-// verify reports whether there are as many signatures as messages, and whether those at some indexes are the key's. The
-// other process is not trusted.
+// verify returns an error unless there are as many signatures as messages, and the signatures at the given indexes are
+// the key's. The other process is not trusted.
 func (c *Client) verify(ctx context.Context, signatures, messages [][]byte, indexes []int) error {
 	if len(signatures) != len(messages) {
 		return fmt.Errorf("%w: it has %d signatures instead of %d", ErrReply, len(signatures), len(messages))
@@ -179,17 +180,17 @@ func (c *Client) verify(ctx context.Context, signatures, messages [][]byte, inde
 	return err
 }
 
-// sample returns which of the next timestamps are verified.
+// sample returns the indexes of the timestamps that must be verified among the next count ones.
 func (c *Client) sample(count int) (indexes []int) {
 	if opening := c.asker.opens.Load(); c.opening != opening {
-		c.opening, c.unproved = opening, provingTimestamps
+		c.opening, c.verifyNext = opening, fullyVerified
 	}
-	proving := min(c.unproved, count)
-	c.unproved -= proving
-	for at := range proving {
+	all := min(c.verifyNext, count)
+	c.verifyNext -= all
+	for at := range all {
 		indexes = append(indexes, at)
 	}
-	for from := proving; from < count; from += sampleWidth {
+	for from := all; from < count; from += sampleWidth {
 		indexes = append(indexes, from+rand.IntN(min(sampleWidth, count-from)))
 	}
 	return indexes
@@ -217,12 +218,12 @@ func (c *Client) SignTimestamps(ctx context.Context, receipts []Receipt) (signat
 	for len(receipts) > 0 {
 		part := receipts[:min(len(receipts), MaxReceipts)]
 		receipts = receipts[len(part):]
-		asked, messages := request{}, [][]byte{}
+		req, messages := request{}, [][]byte{}
 		for _, receipt := range part {
-			asked.Receipts = append(asked.Receipts, receiptLine{hashBytes(receipt.Path), receipt.Index, receipt.Leaf})
+			req.Receipts = append(req.Receipts, receiptLine{hashBytes(receipt.Path), receipt.Index, receipt.Leaf})
 			messages = append(messages, receipt.Leaf)
 		}
-		line, err := json.Marshal(asked)
+		line, err := json.Marshal(req)
 		if err != nil {
 			return nil, fmt.Errorf("signer: %w", err)
 		}

@@ -20,22 +20,23 @@ const (
 	maxAheadOfClock = 3_600_000
 )
 
-// Guard has the settings of a key's guard.
+// Guard holds the settings of a key's guard.
 type Guard struct {
 	// State keeps the text of the state, with the head that the guard approved last. All signers of one log share it.
-	// If two signers approve two heads at once, one of them wins. If they approve the same head, both write the same
-	// text, and both sign that head. No state occurs twice, since timestamps rise.
+	// If two signers approve two heads at the same time, one of them wins. If they approve the same head, both write
+	// the same text, and both sign that head. No state occurs twice, since timestamps rise.
 	State stores.Lock
 	// Create creates the state of a new log if there is none.
 	Create bool
 }
 
-// Guarded is a key with a guard, which is proved code in this process. It signs the bytes that the guard wrote, and
-// only after the lock has the state with these bytes in place of the one that the guard judged over.
+// Guarded is a key with a guard, which is proved code in this process. It signs only the bytes that the guard wrote. It
+// signs them only after it replaced the state in the lock, from which the guard approved them, by the state with these
+// bytes.
 type Guarded struct {
 	key   *Key
 	guard Guard
-	// turn is held by the goroutine that asks. The fields below belong to it.
+	// turn is held by the goroutine that uses the guard. Only that goroutine may use the fields below.
 	turn chan struct{}
 	// state is the state in the lock, or nil if the lock must be read. seen is the newest state that was read.
 	state *State
@@ -51,14 +52,14 @@ func NewGuarded(ctx context.Context, key *Key, guard Guard) (*Guarded, error) {
 			return nil, fmt.Errorf("signer: %w", err)
 		}
 	}
-	if _, err := g.look(ctx); err != nil {
+	if _, err := g.readState(ctx); err != nil {
 		return nil, err
 	}
 	return g, nil
 }
 
-// take waits for the turn.
-func (g *Guarded) take(ctx context.Context) error {
+// takeTurn waits for the turn until the context ends.
+func (g *Guarded) takeTurn(ctx context.Context) error {
 	select {
 	case g.turn <- struct{}{}:
 		return nil
@@ -67,9 +68,9 @@ func (g *Guarded) take(ctx context.Context) error {
 	}
 }
 
-// look reads the state in the lock. The error is ErrState only if the state is missing, damaged or rolled back. A
+// readState reads the state in the lock. The error is ErrState only if the state is missing, damaged or rolled back. A
 // lock that does not answer may have a valid state.
-func (g *Guarded) look(ctx context.Context) (State, error) {
+func (g *Guarded) readState(ctx context.Context) (State, error) {
 	g.state = nil
 	text, err := g.guard.State.Read(ctx)
 	if errors.Is(err, stores.ErrAbsent) {
@@ -80,7 +81,7 @@ func (g *Guarded) look(ctx context.Context) (State, error) {
 	}
 	state, err := ReadState(strings.TrimSuffix(text, "\n"))
 	if err == nil {
-		err = state.Since(g.seen)
+		err = state.CheckSince(g.seen)
 	}
 	if err != nil {
 		return State{}, err
@@ -95,12 +96,12 @@ func (g *Guarded) look(ctx context.Context) (State, error) {
 	return state, nil
 }
 
-// known returns the state in the lock. It reads the lock only if it must.
-func (g *Guarded) known(ctx context.Context) (State, error) {
+// currentState returns the state in the lock. It reads the lock only if the state is not known.
+func (g *Guarded) currentState(ctx context.Context) (State, error) {
 	if g.state != nil {
 		return *g.state, nil
 	}
-	return g.look(ctx)
+	return g.readState(ctx)
 }
 
 // maxAhead returns how far a head's timestamp may be after the last one's, in milliseconds. A head that is not ahead of
@@ -139,19 +140,19 @@ func (g *Guarded) IsGuarded() bool { return true }
 
 // Last returns the head in the lock now.
 func (g *Guarded) Last(ctx context.Context) (*Head, error) {
-	if err := g.take(ctx); err != nil {
+	if err := g.takeTurn(ctx); err != nil {
 		return nil, err
 	}
 	defer func() { <-g.turn }()
-	state, err := g.look(ctx)
+	state, err := g.readState(ctx)
 	return state.last, err
 }
 
-// begun returns the state over which a head is judged. A log's first head may have leaves. Before such a head the
-// lock gets the state of the empty tree's head, which nobody signs.
-func (g *Guarded) begun(ctx context.Context, head Head) (State, error) {
-	state, err := g.known(ctx)
-	if err != nil || !state.Begins(head) {
+// stateBefore returns the state from which the guard judges a head. If the log's first head has leaves, stateBefore
+// first stores the state after the head of the empty tree, which nobody signs.
+func (g *Guarded) stateBefore(ctx context.Context, head Head) (State, error) {
+	state, err := g.currentState(ctx)
+	if err != nil || !state.MustBegin(head) {
 		return state, err
 	}
 	empty, err := state.Begin(head)
@@ -168,11 +169,11 @@ func (g *Guarded) begun(ctx context.Context, head Head) (State, error) {
 // SignHead returns the signature of a head, as Signer says. The lock has the new state before the head is signed.
 // If the process ends in between, the head is approved but not signed.
 func (g *Guarded) SignHead(ctx context.Context, head Head, consistency [][32]byte) ([]byte, error) {
-	if err := g.take(ctx); err != nil {
+	if err := g.takeTurn(ctx); err != nil {
 		return nil, err
 	}
 	defer func() { <-g.turn }()
-	state, err := g.begun(ctx, head)
+	state, err := g.stateBefore(ctx, head)
 	if err != nil {
 		return nil, err
 	}
@@ -190,7 +191,7 @@ func (g *Guarded) SignHead(ctx context.Context, head Head, consistency [][32]byt
 
 // SignStep returns the signatures of a step's timestamps, as Signer says.
 func (g *Guarded) SignStep(ctx context.Context, step Step) ([][]byte, error) {
-	return g.signApproved(ctx, step.Leaves, func(state State) error { return state.Step(step) })
+	return g.signApproved(ctx, step.Leaves, func(state State) error { return state.CheckStep(step) })
 }
 
 // SignTimestamps returns the signatures of timestamps, as Signer says.
@@ -204,7 +205,7 @@ func (g *Guarded) SignTimestamps(ctx context.Context, receipts []Receipt) ([][]b
 			if ctx.Err() != nil {
 				return fmt.Errorf("signer: %w", ctx.Err())
 			}
-			if err := state.Receipt(receipt); err != nil {
+			if err := state.CheckReceipt(receipt); err != nil {
 				return err
 			}
 			g.phase("receipt")
@@ -213,13 +214,13 @@ func (g *Guarded) SignTimestamps(ctx context.Context, receipts []Receipt) ([][]b
 	})
 }
 
-// signApproved signs messages if the guard approves them over its state.
+// signApproved signs messages if the guard approves them.
 func (g *Guarded) signApproved(ctx context.Context, messages [][]byte, approve func(State) error) ([][]byte, error) {
-	if err := g.take(ctx); err != nil {
+	if err := g.takeTurn(ctx); err != nil {
 		return nil, err
 	}
 	defer func() { <-g.turn }()
-	state, err := g.known(ctx)
+	state, err := g.currentState(ctx)
 	if err != nil {
 		return nil, err
 	}

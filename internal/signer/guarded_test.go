@@ -9,7 +9,7 @@ import (
 // None of these is signed, and none changes what may be signed.
 func TestHeads(t *testing.T) {
 	t.Parallel()
-	through(t, func(t *testing.T, s Signer, key *Key) {
+	inBothProcesses(t, func(t *testing.T, s Signer, key *Key) {
 		ctx, right, fork := limited(t), listOf(t, 20, 20), listOf(t, 20, 3)
 		if last, err := s.Last(ctx); err != nil || last != nil || !s.IsGuarded() {
 			t.Fatalf("%v, %v, %v", last, err, s.IsGuarded())
@@ -28,20 +28,20 @@ func TestHeads(t *testing.T) {
 				continue
 			}
 			_, err := s.SignHead(ctx, right.head(t, size-1, timestamp+1), nil)
-			refused(t, "size-falls", err)
+			wantRefusal(t, "size-falls", err)
 			_, err = s.SignHead(ctx, right.head(t, size, timestamp-1), nil)
-			refused(t, "timestamp-not-later", err)
+			wantRefusal(t, "timestamp-not-later", err)
 			_, err = s.SignHead(ctx, fork.head(t, size, timestamp+1), nil)
-			refused(t, "fork", err)
+			wantRefusal(t, "fork", err)
 			_, err = s.SignHead(ctx, fork.head(t, size, timestamp), nil)
-			refused(t, "timestamp-not-later", err)
+			wantRefusal(t, "timestamp-not-later", err)
 			if size < 20 {
 				_, err = s.SignHead(ctx, fork.head(t, 20, timestamp+1), fork.proof(t, size, 20))
-				refused(t, "inconsistent", err)
+				wantRefusal(t, "inconsistent", err)
 				_, err = s.SignHead(ctx, right.head(t, 20, timestamp+1), fork.proof(t, size, 20))
-				refused(t, "inconsistent", err)
+				wantRefusal(t, "inconsistent", err)
 				_, err = s.SignHead(ctx, right.head(t, 20, timestamp+1), nil)
-				refused(t, "inconsistent", err)
+				wantRefusal(t, "inconsistent", err)
 			}
 			if last, err := s.Last(ctx); err != nil || *last != head {
 				t.Fatalf("the last head is %+v, %v", last, err)
@@ -50,11 +50,11 @@ func TestHeads(t *testing.T) {
 	})
 }
 
-// TestTimestampTooFar has a log continue that was stopped for long. No head passes that is more than an hour after the
-// last one and ahead of this machine's clock.
+// TestTimestampTooFar continues a log that was stopped for a long time. A head is refused if it is more than an hour
+// after the last one and ahead of this machine's clock.
 func TestTimestampTooFar(t *testing.T) {
 	t.Parallel()
-	through(t, func(t *testing.T, s Signer, key *Key) {
+	inBothProcesses(t, func(t *testing.T, s Signer, key *Key) {
 		ctx, right, fork := limited(t), listOf(t, 20, 20), listOf(t, 20, 3)
 		const hour = 3_600_000
 		now := uint64(time.Now().UnixMilli())
@@ -76,8 +76,8 @@ func TestTimestampTooFar(t *testing.T) {
 		for _, head := range []Head{right.head(t, 20, now+2*hour+1), right.head(t, 9, now+2*hour+1),
 			right.head(t, 8, 1<<63), fork.head(t, 9, now+3*hour)} {
 			_, err := s.SignHead(ctx, head, right.proof(t, 9, 20))
-			refused(t, "timestamp-too-far", err)
-			wants(t, err, TooFar)
+			wantRefusal(t, "timestamp-too-far", err)
+			wantError(t, err, TooFar)
 		}
 		_, err := s.SignHead(ctx, right.head(t, 20, now+2*hour), right.proof(t, 9, 20))
 		must(t, err)
@@ -87,10 +87,10 @@ func TestTimestampTooFar(t *testing.T) {
 // TestTimestamps asks for the timestamps of leaves in the last head's tree, and of other leaves.
 func TestTimestamps(t *testing.T) {
 	t.Parallel()
-	through(t, func(t *testing.T, s Signer, key *Key) {
+	inBothProcesses(t, func(t *testing.T, s Signer, key *Key) {
 		ctx, right, fork := limited(t), listOf(t, 300, 300), listOf(t, 300, 3)
 		_, err := s.SignTimestamps(ctx, []Receipt{right.receipt(t, 0, 1)})
-		refused(t, "no-head", err)
+		wantRefusal(t, "no-head", err)
 		_, err = s.SignHead(ctx, right.head(t, 290, 10), nil)
 		must(t, err)
 		var all []Receipt
@@ -122,7 +122,7 @@ func TestTimestamps(t *testing.T) {
 			"the path in another head's tree": {right.receipt(t, 100, 300), "not-there"},
 		} {
 			signatures, err := s.SignTimestamps(ctx, append(append([]Receipt{}, all[:5]...), wrong.receipt, all[20]))
-			if refused(t, wrong.name, err); len(signatures) != 0 {
+			if wantRefusal(t, wrong.name, err); len(signatures) != 0 {
 				t.Errorf("%s: %d were signed", what, len(signatures))
 			}
 		}
@@ -133,10 +133,10 @@ func TestTimestamps(t *testing.T) {
 // refused, and so is one whose extension has another leaf's index.
 func TestLeafIndexes(t *testing.T) {
 	t.Parallel()
-	through(t, func(t *testing.T, s Signer, key *Key) {
+	inBothProcesses(t, func(t *testing.T, s Signer, key *Key) {
 		ctx, l, later := limited(t), &list{}, leaf("later")
 		later[9] = 11
-		for _, leaf := range [][]byte{leaf("first"), later, naming("third", 3), naming("fourth", 3)} {
+		for _, leaf := range [][]byte{leaf("first"), later, leafNaming("third", 3), leafNaming("fourth", 3)} {
 			l.put(t, leaf)
 		}
 		_, err := s.SignHead(ctx, l.head(t, 4, 10), nil)
@@ -144,7 +144,7 @@ func TestLeafIndexes(t *testing.T) {
 		for i, name := range []string{"", "later-leaf", "other-index", ""} {
 			signatures, err := s.SignTimestamps(ctx, []Receipt{l.receipt(t, i, 4)})
 			if name != "" {
-				if refused(t, name, err); len(signatures) != 0 {
+				if wantRefusal(t, name, err); len(signatures) != 0 {
 					t.Errorf("%s: %d were signed", name, len(signatures))
 				}
 				continue

@@ -22,43 +22,43 @@ func TestStates(t *testing.T) {
 	ctx, key, right := limited(t), newKey(t), listOf(t, 9, 9)
 	first := right.head(t, 5, 100)
 	_, err := NewGuarded(ctx, key, Guard{State: lock(t, t.TempDir())})
-	wants(t, err, ErrState)
+	wantError(t, err, ErrState)
 	for _, text := range []string{"x", `{"guard":2,"last":null}`, `{"guard":1,"last":{}}`, `{"last":null,"guard":1}`,
 		`{"guard": 1, "last": null}`, textOf(&first)[1:],
 		strings.ReplaceAll(textOf(&first), ":", ": "), " " + textOf(&first), textOf(&first) + " ",
 		strings.Replace(textOf(&first), `"tree_size":5`, `"tree_size":05`, 1),
 		strings.Replace(textOf(&first), `"timestamp"`, `"x":1,"timestamp"`, 1)} {
-		of := Guard{State: lock(t, t.TempDir())}
-		must(t, of.State.Create(ctx, text))
-		if _, err := NewGuarded(ctx, key, of); !errors.Is(err, ErrState) {
+		guard := Guard{State: lock(t, t.TempDir())}
+		must(t, guard.State.Create(ctx, text))
+		if _, err := NewGuarded(ctx, key, guard); !errors.Is(err, ErrState) {
 			t.Errorf("%s: %v", text, err)
 		}
 	}
 	// An operator's text with a line end is accepted. A text that is not a state stays as it is.
-	of := Guard{State: lock(t, t.TempDir())}
-	must(t, of.State.Create(ctx, "x\n"))
-	_, err = NewGuarded(ctx, key, of)
-	wants(t, err, ErrState)
-	text, err := of.State.Read(ctx)
+	guard := Guard{State: lock(t, t.TempDir())}
+	must(t, guard.State.Create(ctx, "x\n"))
+	_, err = NewGuarded(ctx, key, guard)
+	wantError(t, err, ErrState)
+	text, err := guard.State.Read(ctx)
 	if must(t, err); text != "x\n" {
 		t.Errorf("%q", text)
 	}
-	must(t, of.State.Swap(ctx, "x\n", textOf(&first)+"\n"))
-	g, err := NewGuarded(ctx, key, of)
+	must(t, guard.State.Swap(ctx, "x\n", textOf(&first)+"\n"))
+	g, err := NewGuarded(ctx, key, guard)
 	must(t, err)
 	_, err = g.SignHead(ctx, right.head(t, 9, 101), right.proof(t, 5, 9))
 	must(t, err)
 	full := &unknownoutcome.Lock{Lock: lock(t, t.TempDir()), Every: 3, Fails: errors.New("a disk is full")}
 	_, err = NewGuarded(ctx, key, Guard{State: full, Create: true})
-	wants(t, err, full.Fails)
+	wantError(t, err, full.Fails)
 	must(t, full.Lock.Create(ctx, textOf(&first)+"\n"))
 	_, err = NewGuarded(ctx, key, Guard{State: full})
-	wants(t, err, full.Fails)
+	wantError(t, err, full.Fails)
 }
 
-// TestRolledBackState rolls back the guard's state while a signer runs, or writes another form of it. Nothing is signed
-// until the newest state is back.
-func TestRolledBackState(t *testing.T) {
+// TestRefusesRolledBackState rolls back the guard's state while a signer runs, or writes another form of it. Nothing is
+// signed until the newest state is restored.
+func TestRefusesRolledBackState(t *testing.T) {
 	t.Parallel()
 	folder, l, fork, ctx := t.TempDir(), listOf(t, 8, 8), listOf(t, 8, 0), limited(t)
 	text := filepath.Join(folder, "guard", "text")
@@ -77,8 +77,8 @@ func TestRolledBackState(t *testing.T) {
 		if _, err := g.Last(ctx); !errors.Is(err, ErrState) {
 			t.Errorf("%s: %v", state, err)
 		}
-		for _, of := range []*list{l, fork} {
-			if signed, err := g.SignHead(ctx, of.head(t, 8, 80), of.proof(t, 3, 8)); !errors.Is(err, ErrState) ||
+		for _, list := range []*list{l, fork} {
+			if signed, err := g.SignHead(ctx, list.head(t, 8, 80), list.proof(t, 3, 8)); !errors.Is(err, ErrState) ||
 				signed != nil {
 				t.Errorf("%s: signed, %v", state, err)
 			}
@@ -90,14 +90,14 @@ func TestRolledBackState(t *testing.T) {
 	must(t, err)
 	must(t, stores.KeepFile(text, old))
 	_, err = other.Last(ctx)
-	wants(t, err, ErrState)
+	wantError(t, err, ErrState)
 	must(t, stores.KeepFile(text, newest))
 	_, err = g.SignHead(ctx, l.head(t, 8, 80), l.proof(t, 5, 8))
 	must(t, err)
 }
 
-// TestTwoSigners has two signers with one state. The one with an older head gets ErrMoved, and continues from the
-// other's head. Of two forks at once only one is signed.
+// TestTwoSigners uses one state for two signers. The one with an older head gets ErrMoved, and continues from the head
+// of the other one. If they are asked for two forks at the same time, only one is signed.
 func TestTwoSigners(t *testing.T) {
 	t.Parallel()
 	ctx, key, folder, right, fork := limited(t), newKey(t), t.TempDir(), listOf(t, 20, 20), listOf(t, 20, 4)
@@ -113,11 +113,11 @@ func TestTwoSigners(t *testing.T) {
 	_, err = one.SignHead(ctx, right.head(t, 9, 101), right.proof(t, 5, 9))
 	must(t, err)
 	_, err = two.SignHead(ctx, fork.head(t, 9, 102), fork.proof(t, 5, 9))
-	refused(t, "inconsistent", err)
+	wantRefusal(t, "inconsistent", err)
 	_, err = two.SignHead(ctx, right.head(t, 8, 102), right.proof(t, 5, 8))
-	wants(t, err, ErrMoved)
+	wantError(t, err, ErrMoved)
 	_, err = two.SignHead(ctx, right.head(t, 8, 102), right.proof(t, 5, 8))
-	refused(t, "size-falls", err)
+	wantRefusal(t, "size-falls", err)
 	if last, err := two.Last(ctx); err != nil || *last != right.head(t, 9, 101) {
 		t.Errorf("%v, %v", last, err)
 	}
@@ -126,7 +126,7 @@ func TestTwoSigners(t *testing.T) {
 	if last, err := one.Last(ctx); err != nil || *last != right.head(t, 12, 102) {
 		t.Errorf("%v, %v", last, err)
 	}
-	apart := listOf(t, 20, 13)
+	later := listOf(t, 20, 13)
 	for timestamp := uint64(200); timestamp < 230; timestamp++ {
 		folder := t.TempDir()
 		a, b := guardedIn(t, key, folder), guardedIn(t, key, folder)
@@ -136,11 +136,11 @@ func TestTwoSigners(t *testing.T) {
 			failed <- err
 		}()
 		go func() {
-			_, err := b.SignHead(ctx, apart.head(t, 20, timestamp), nil)
+			_, err := b.SignHead(ctx, later.head(t, 20, timestamp), nil)
 			failed <- err
 		}()
 		if x, y := <-failed, <-failed; (x == nil) == (y == nil) ||
-			!errors.Is(fmt.Errorf("%w", orElse(x, y)), ErrMoved) {
+			!errors.Is(fmt.Errorf("%w", firstError(x, y)), ErrMoved) {
 			t.Errorf("%v and %v", x, y)
 		}
 		if timestamp > 202 {
@@ -149,14 +149,14 @@ func TestTwoSigners(t *testing.T) {
 	}
 }
 
-func orElse(one, other error) error {
+func firstError(one, other error) error {
 	if one != nil {
 		return one
 	}
 	return other
 }
 
-// TestFailedSwap has the swap of the state fail. Nothing is signed, and the signer forgets the head.
+// TestFailedSwap lets the swap of the state fail. Nothing is signed, and the signer forgets the head.
 func TestFailedSwap(t *testing.T) {
 	t.Parallel()
 	ctx, key, right, fork := limited(t), newKey(t), listOf(t, 20, 20), listOf(t, 20, 3)
@@ -168,12 +168,12 @@ func TestFailedSwap(t *testing.T) {
 	for _, fails := range []error{stores.ErrUnknown, errors.New("a disk is full")} {
 		state.Fails = fails
 		_, err = g.SignHead(ctx, fork.head(t, 8, 101), fork.proof(t, 4, 8))
-		refused(t, "inconsistent", err)
+		wantRefusal(t, "inconsistent", err)
 		_, err = g.SignHead(ctx, right.head(t, 8, 101), right.proof(t, 4, 8))
-		wants(t, err, fails)
+		wantError(t, err, fails)
 		// A leaf of the head that was not stored.
 		_, err = g.SignTimestamps(ctx, []Receipt{right.receipt(t, 7, 8)})
-		refused(t, "not-there", err)
+		wantRefusal(t, "not-there", err)
 		if last, err := g.Last(ctx); err != nil || last.Size != 4 {
 			t.Errorf("%+v, %v", last, err)
 		}
@@ -183,34 +183,34 @@ func TestFailedSwap(t *testing.T) {
 	must(t, err)
 }
 
-// lying is a lock whose Read returns another text than the one that it has.
-type lying struct {
+// misreadLock is a lock whose Read returns another text than the one that it has.
+type misreadLock struct {
 	stores.Lock
 	reads string
 }
 
-func (l *lying) Read(ctx context.Context) (string, error) {
+func (l *misreadLock) Read(ctx context.Context) (string, error) {
 	if l.reads != "" {
 		return l.reads, nil
 	}
 	return l.Lock.Read(ctx)
 }
 
-// TestLyingLock has the lock return an older state, one of a fork, one before the first head, and a later one.
-// The guard approves heads after these states, but the swap fails, so nothing is signed.
-func TestLyingLock(t *testing.T) {
+// TestSignsNothingForMisreadLock lets the lock return an older state, one of a fork, one before the first head, and a
+// later one. The guard approves heads after these states, but the swap fails, so nothing is signed.
+func TestSignsNothingForMisreadLock(t *testing.T) {
 	t.Parallel()
 	ctx, key, right, fork := limited(t), newKey(t), listOf(t, 20, 20), listOf(t, 20, 3)
 	older, other, later := right.head(t, 5, 100), fork.head(t, 9, 101), right.head(t, 12, 103)
 	for _, reads := range []string{none, textOf(&older), textOf(&other), textOf(&later)} {
-		state := &lying{Lock: lock(t, t.TempDir())}
+		state := &misreadLock{Lock: lock(t, t.TempDir())}
 		g, err := NewGuarded(ctx, key, Guard{State: state, Create: true})
 		must(t, err)
 		_, err = g.SignHead(ctx, older, nil)
 		must(t, err)
 		_, err = g.SignHead(ctx, right.head(t, 9, 102), right.proof(t, 5, 9))
 		must(t, err)
-		stood, err := state.Read(ctx)
+		before, err := state.Read(ctx)
 		must(t, err)
 		state.reads = reads
 		g, err = NewGuarded(ctx, key, Guard{State: state})
@@ -230,29 +230,29 @@ func TestLyingLock(t *testing.T) {
 		if last != nil {
 			// The head that the lock seems to have, again.
 			if signed, err := g.SignHead(ctx, *last, nil); !errors.Is(err, ErrMoved) || signed != nil {
-				t.Errorf("%s once more: %v", reads, err)
+				t.Errorf("%s: the same head again: %v", reads, err)
 			}
 		}
-		if text, err := state.Lock.Read(ctx); err != nil || text != stood {
+		if text, err := state.Lock.Read(ctx); err != nil || text != before {
 			t.Errorf("%s: the lock has %s, %v", reads, text, err)
 		}
 	}
 }
 
-// failing is a lock that cannot be read while fails is an error.
-type failing struct {
+// unreadableLock is a lock that cannot be read while fails is an error.
+type unreadableLock struct {
 	stores.Lock
 	mu    sync.Mutex
 	fails error
 }
 
-func (f *failing) set(err error) {
+func (f *unreadableLock) set(err error) {
 	f.mu.Lock()
 	defer f.mu.Unlock()
 	f.fails = err
 }
 
-func (f *failing) Read(ctx context.Context) (string, error) {
+func (f *unreadableLock) Read(ctx context.Context) (string, error) {
 	f.mu.Lock()
 	fails := f.fails
 	f.mu.Unlock()
@@ -262,12 +262,12 @@ func (f *failing) Read(ctx context.Context) (string, error) {
 	return f.Lock.Read(ctx)
 }
 
-// TestUnreadStates has reading the lock fail for a while. The state does not count as missing, and heads are signed
+// TestUnreadStates lets reading the lock fail for some time. The state does not count as missing, and heads are signed
 // again afterwards.
 func TestUnreadStates(t *testing.T) {
 	t.Parallel()
 	ctx, key, right := limited(t), newKey(t), listOf(t, 20, 20)
-	state := &failing{Lock: lock(t, t.TempDir())}
+	state := &unreadableLock{Lock: lock(t, t.TempDir())}
 	g, err := NewGuarded(ctx, key, Guard{State: state, Create: true})
 	must(t, err)
 	path := filepath.Join(t.TempDir(), "socket")
@@ -276,7 +276,7 @@ func TestUnreadStates(t *testing.T) {
 	for c == nil {
 		if c, err = NewClient(ctx, func(ctx context.Context) (*Peer, error) { return Dial(ctx, path) },
 			testutil.Longest); err != nil {
-			wants(t, err, ErrGone)
+			wantError(t, err, ErrGone)
 			time.Sleep(time.Millisecond)
 		}
 	}
@@ -300,7 +300,7 @@ func TestUnreadStates(t *testing.T) {
 	}
 }
 
-// TestConcurrentRequests has many goroutines ask one signer. Each gets the answer to its request.
+// TestConcurrentRequests lets many goroutines ask one signer. Each gets the answer to its request.
 func TestConcurrentRequests(t *testing.T) {
 	t.Parallel()
 	ctx, right := limited(t), listOf(t, 8, 8)

@@ -19,21 +19,21 @@ import (
 	"wagtenib/internal/testutil"
 )
 
-var must, wants = testutil.Must, testutil.Wants
+var must, wantError = testutil.Must, testutil.WantError
 
-// refused checks that an error is the refusal of this name.
-func refused(t testing.TB, name string, err error) {
+// wantRefusal checks that an error is the refusal of this name.
+func wantRefusal(t testing.TB, name string, err error) {
 	t.Helper()
 	var refusal Refusal
 	if !errors.As(err, &refusal) || refusal.Name != name {
-		t.Errorf("%v, and not a refusal by %s", err, name)
+		t.Errorf("%v, and not the refusal %s", err, name)
 	}
 }
 
 // none is the text of the state before the first head.
 const none = `{"guard":1,"last":null}`
 
-// textOf returns the text of a guard's state, as existing locks have it.
+// textOf returns the text of a guard's state, as existing locks contain it.
 func textOf(last *Head) string {
 	if last == nil {
 		return none
@@ -42,8 +42,8 @@ func textOf(last *Head) string {
 		base64.StdEncoding.EncodeToString(last.Root[:]), last.Timestamp, last.Size)
 }
 
-// kept returns what the lock of a guard's state has.
-func kept(t *testing.T, g *Guarded) string {
+// lockText returns the text in the lock of a guard's state.
+func lockText(t *testing.T, g *Guarded) string {
 	t.Helper()
 	text, err := g.guard.State.Read(limited(t))
 	must(t, err)
@@ -66,7 +66,7 @@ func lock(t testing.TB, folder string) stores.Lock {
 	return r
 }
 
-// leaf is a MerkleTreeLeaf of a certificate (RFC 6962, section 3.4).
+// leaf returns a MerkleTreeLeaf of a certificate (RFC 6962, section 3.4).
 func leaf(text string) []byte {
 	bytes := append([]byte{0, 0}, make([]byte, 10)...)
 	bytes[9] = 7
@@ -96,14 +96,14 @@ func (l *list) put(t testing.TB, leaf []byte) {
 	l.leaves, l.hashes = append(l.leaves, leaf), append(l.hashes, more...)
 }
 
-// naming is a leaf whose one extension names an index (leaf_index, C2SP static-ct-api).
-func naming(text string, index byte) []byte {
+// leafNaming returns a leaf whose only extension names an index (leaf_index, C2SP static-ct-api).
+func leafNaming(text string, index byte) []byte {
 	bytes := leaf(text)
 	return append(bytes[:len(bytes)-2], 0, 8, 0, 0, 5, 0, 0, 0, 0, index)
 }
 
-// listOf returns a list of leaves. The first ones, as many as same says, are those of every list, and the others are
-// those of a fork.
+// listOf returns a list of leaves. All lists have the same leaves up to the index same. The leaves after that are those
+// of a fork.
 func listOf(t testing.TB, size, same int) *list {
 	l := &list{}
 	for i := 0; i < size; i++ {
@@ -157,8 +157,8 @@ func guardedIn(t testing.TB, key *Key, folder string) *Guarded {
 	return g
 }
 
-// through runs a test of a signer with a guard twice: in this process, and through a socket.
-func through(t *testing.T, test func(t *testing.T, s Signer, key *Key)) {
+// inBothProcesses runs a test of a signer with a guard twice: in this process, and through a socket.
+func inBothProcesses(t *testing.T, test func(t *testing.T, s Signer, key *Key)) {
 	t.Run("here", func(t *testing.T) {
 		key := newKey(t)
 		test(t, guardedIn(t, key, t.TempDir()), key)
@@ -184,14 +184,14 @@ func through(t *testing.T, test func(t *testing.T, s Signer, key *Key)) {
 	})
 }
 
-// askedAtASocket returns a client of a signer at a socket, as a node has one.
-func askedAtASocket(ctx context.Context, t *testing.T, of Signer) *Client {
+// socketClient returns a client of a signer at a socket, as a node uses it.
+func socketClient(ctx context.Context, t *testing.T, s Signer) *Client {
 	t.Helper()
 	path := filepath.Join(t.TempDir(), "socket")
 	listener, err := listenAt(path)
 	must(t, err)
 	t.Cleanup(func() { listener.Close() })
-	go func() { _ = newServer().serve(ctx, of, listener) }()
+	go func() { _ = newServer().serve(ctx, s, listener) }()
 	c, err := NewClient(ctx, func(ctx context.Context) (*Peer, error) { return Dial(ctx, path) }, testutil.Longest)
 	must(t, err)
 	t.Cleanup(func() { c.Close() })

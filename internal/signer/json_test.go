@@ -8,7 +8,7 @@ import (
 	"testing"
 )
 
-// TestAppendsBase64 compares what is written with what encoding/json writes.
+// TestAppendsBase64 compares the lists that appendBase64List writes with those that encoding/json writes.
 func TestAppendsBase64(t *testing.T) {
 	for _, contents := range [][][]byte{{}, {{}}, {{1}, {2, 3}, {255, 254, 253}}, {[]byte(strings.Repeat("x", 1000))}} {
 		want, err := json.Marshal(contents)
@@ -36,7 +36,7 @@ func readForm(line string) (numbers []uint64, texts []string, ok bool) {
 	return numbers, texts, c.atEnd()
 }
 
-// TestCursorReadsOneForm reads what is of the form, and nothing else.
+// TestCursorReadsOneForm: a cursor reads a line of the expected form, and no line of another form.
 func TestCursorReadsOneForm(t *testing.T) {
 	for line, want := range map[string][]uint64{
 		`{"of":[]}`:             nil,

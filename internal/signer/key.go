@@ -29,7 +29,7 @@ var algorithms = [2]byte{4, 3}
 type Key struct {
 	private crypto.Signer
 	public  []byte
-	// module has the key's token. It is nil for a key from a file.
+	// module is the PKCS#11 module with the key's token. It is nil for a key from a file.
 	module io.Closer
 }
 
@@ -179,10 +179,10 @@ func (k *Key) signAll(ctx context.Context, messages [][]byte) ([][]byte, error) 
 // error, and stops if the context ends. A goroutine takes one index after the other, so its stack grows only once.
 func inParallel(ctx context.Context, count int, do func(at int) error) error {
 	all, ctx := errgroup.WithContext(ctx)
-	var taken atomic.Int64
+	var next atomic.Int64
 	for range min(count, runtime.GOMAXPROCS(0)) {
 		all.Go(func() error {
-			for at := int(taken.Add(1)) - 1; at < count; at = int(taken.Add(1)) - 1 {
+			for at := int(next.Add(1)) - 1; at < count; at = int(next.Add(1)) - 1 {
 				if err := ctx.Err(); err != nil {
 					return fmt.Errorf("signer: %w", err)
 				}

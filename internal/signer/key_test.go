@@ -11,14 +11,14 @@ import (
 	"testing"
 )
 
-// TestKeys has openssl make keys, and check what is signed.
+// TestKeys uses openssl to make keys and to verify signatures.
 func TestKeys(t *testing.T) {
 	folder := t.TempDir()
 	at := func(name string) string { return filepath.Join(folder, name) }
-	openssl := func(words ...string) {
+	openssl := func(arguments ...string) {
 		t.Helper()
-		if said, err := exec.Command("openssl", words...).CombinedOutput(); err != nil {
-			t.Fatalf("%v: %s", err, said)
+		if output, err := exec.Command("openssl", arguments...).CombinedOutput(); err != nil {
+			t.Fatalf("%v: %s", err, output)
 		}
 	}
 	openssl("ecparam", "-name", "prime256v1", "-genkey", "-out", at("sec1.pem"))
@@ -28,7 +28,7 @@ func TestKeys(t *testing.T) {
 	if err := os.WriteFile(at("none.pem"), []byte("no key"), 0o600); err != nil {
 		t.Fatal(err)
 	}
-	message := []byte("what is signed")
+	message := []byte("the message")
 	if err := os.WriteFile(at("message"), message, 0o600); err != nil {
 		t.Fatal(err)
 	}
@@ -50,9 +50,9 @@ func TestKeys(t *testing.T) {
 			t.Error(err)
 		}
 		for i := range signed {
-			bent := append([]byte{}, signed...)
-			bent[i] ^= 1
-			if err := Check(s.Key(), message, bent); !errors.Is(err, ErrSignature) {
+			changed := append([]byte{}, signed...)
+			changed[i] ^= 1
+			if err := Check(s.Key(), message, changed); !errors.Is(err, ErrSignature) {
 				t.Errorf("byte %d: %v", i, err)
 			}
 		}
@@ -83,7 +83,7 @@ func TestKeys(t *testing.T) {
 	}
 }
 
-// pem is the key as a file has it.
+// pem returns the key as the content of a file.
 func (k *Key) pem(t testing.TB) []byte {
 	der, err := x509.MarshalECPrivateKey(k.private.(*ecdsa.PrivateKey))
 	must(t, err)

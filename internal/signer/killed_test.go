@@ -15,8 +15,8 @@ import (
 	"wagtenib/internal/stores"
 )
 
-// childWords is the environment variable with the task of a child process, in JSON.
-const childWords = "SIGNER_CHILD"
+// childTask is the environment variable with the task of a child process, in JSON.
+const childTask = "SIGNER_CHILD"
 
 // child signs heads of a list and of forks, and prints each signed head as a line. It is killed (-9) at a phase.
 type child struct {
@@ -26,8 +26,8 @@ type child struct {
 }
 
 func TestMain(m *testing.M) {
-	if words := os.Getenv(childWords); words != "" {
-		if err := beChild(words); err != nil {
+	if task := os.Getenv(childTask); task != "" {
+		if err := runChild(task); err != nil {
 			fmt.Fprintln(os.Stderr, err)
 			os.Exit(1)
 		}
@@ -36,9 +36,9 @@ func TestMain(m *testing.M) {
 	os.Exit(m.Run())
 }
 
-func beChild(words string) error {
+func runChild(task string) error {
 	var c child
-	if err := json.Unmarshal([]byte(words), &c); err != nil {
+	if err := json.Unmarshal([]byte(task), &c); err != nil {
 		return err
 	}
 	t := &testing.T{}
@@ -66,7 +66,7 @@ func beChild(words string) error {
 		}
 	}
 	lists := []*list{listOf(t, 64, 64), listOf(t, 64, 0), listOf(t, 64, 20)}
-	chance := mathrand.New(mathrand.NewSource(c.Seed))
+	random := mathrand.New(mathrand.NewSource(c.Seed))
 	for try := 0; try < 60; try++ {
 		last, err := g.Last(ctx)
 		if err != nil {
@@ -74,15 +74,15 @@ func beChild(words string) error {
 		}
 		size, from, timestamp := 1, 0, uint64(1)
 		if last != nil {
-			from, timestamp = int(last.Size), last.Timestamp+uint64(chance.Intn(2))
-			size = from + chance.Intn(4)
+			from, timestamp = int(last.Size), last.Timestamp+uint64(random.Intn(2))
+			size = from + random.Intn(4)
 		}
 		if size > 64 {
 			return nil
 		}
-		of := lists[chance.Intn(len(lists))]
-		head := of.head(t, size, timestamp)
-		signed, err := g.SignHead(ctx, head, of.proof(t, from, size))
+		l := lists[random.Intn(len(lists))]
+		head := l.head(t, size, timestamp)
+		signed, err := g.SignHead(ctx, head, l.proof(t, from, size))
 		if err == nil {
 			line, _ := json.Marshal(map[string]any{"head": headLineOf(&head), "signed": signed})
 			fmt.Printf("%s\n", line)
@@ -93,9 +93,9 @@ func beChild(words string) error {
 	return nil
 }
 
-// TestKilled kills (-9) a signer that is asked for heads of three lists, before and after its state is stored, and
-// starts it again each time. All signed heads are of one list.
-func TestKilled(t *testing.T) {
+// TestSignsOneListDespiteKills asks a signer for heads of three lists. It kills the signer (-9) before and after its
+// state is stored, and starts it again each time. All signed heads belong to one list.
+func TestSignsOneListDespiteKills(t *testing.T) {
 	t.Parallel()
 	program, err := os.Executable()
 	must(t, err)
@@ -113,10 +113,10 @@ func TestKilled(t *testing.T) {
 			var all []signedHead
 			killed := 0
 			for run := 0; run < 8; run++ {
-				words, err := json.Marshal(child{Folder: folder, Phase: phase, On: 1 + run%3, Seed: int64(run)})
+				task, err := json.Marshal(child{Folder: folder, Phase: phase, On: 1 + run%3, Seed: int64(run)})
 				must(t, err)
 				command := exec.Command(program)
-				command.Env = append(os.Environ(), childWords+"="+string(words))
+				command.Env = append(os.Environ(), childTask+"="+string(task))
 				command.Stderr = os.Stderr
 				output, err := command.Output()
 				if err != nil && strings.Contains(err.Error(), "killed") {
@@ -145,7 +145,7 @@ func TestKilled(t *testing.T) {
 				}
 			}
 			if !fits[0] && !fits[1] && !fits[2] {
-				t.Errorf("the %d signed heads are of no one list", len(all))
+				t.Errorf("the %d signed heads do not all belong to one list", len(all))
 			}
 		})
 	}

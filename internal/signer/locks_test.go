@@ -11,82 +11,83 @@ import (
 	"wagtenib/internal/stores"
 )
 
-// asked is a lock that counts its calls. The function does may fail instead of a call, or wait.
-type asked struct {
+// countingLock is a lock that counts its calls. The function before is called before each call, which fails with its
+// error.
+type countingLock struct {
 	stores.Lock
-	mu    sync.Mutex
-	calls map[string]int
-	does  func(call string, nth int) error
+	mu     sync.Mutex
+	calls  map[string]int
+	before func(call string, nth int) error
 }
 
-func (a *asked) begins(call string) error {
-	a.mu.Lock()
-	if a.calls == nil {
-		a.calls = map[string]int{}
+func (c *countingLock) count(call string) error {
+	c.mu.Lock()
+	if c.calls == nil {
+		c.calls = map[string]int{}
 	}
-	a.calls[call]++
-	nth, does := a.calls[call], a.does
-	a.mu.Unlock()
-	if does == nil {
+	c.calls[call]++
+	nth, before := c.calls[call], c.before
+	c.mu.Unlock()
+	if before == nil {
 		return nil
 	}
-	return does(call, nth)
+	return before(call, nth)
 }
 
-func (a *asked) Create(ctx context.Context, text string) error {
-	if err := a.begins("create"); err != nil {
+func (c *countingLock) Create(ctx context.Context, text string) error {
+	if err := c.count("create"); err != nil {
 		return err
 	}
-	return a.Lock.Create(ctx, text)
+	return c.Lock.Create(ctx, text)
 }
 
-func (a *asked) Read(ctx context.Context) (string, error) {
-	if err := a.begins("read"); err != nil {
+func (c *countingLock) Read(ctx context.Context) (string, error) {
+	if err := c.count("read"); err != nil {
 		return "", err
 	}
-	return a.Lock.Read(ctx)
+	return c.Lock.Read(ctx)
 }
 
-func (a *asked) Swap(ctx context.Context, old, next string) error {
-	if err := a.begins("swap"); err != nil {
+func (c *countingLock) Swap(ctx context.Context, old, next string) error {
+	if err := c.count("swap"); err != nil {
 		return err
 	}
-	return a.Lock.Swap(ctx, old, next)
+	return c.Lock.Swap(ctx, old, next)
 }
 
 var errTried = errors.New("tried")
 
-// TestFaultyState has calls of the lock fail. Nothing is signed unless its state is stored. Only a swap with an
+// TestFaultyState lets calls of the lock fail. A head is signed only if its state is stored. Only a swap with an
 // unknown outcome is tried again. Afterwards a head is signed that follows the state in the lock.
 func TestFaultyState(t *testing.T) {
 	t.Parallel()
 	ctx, key, l := limited(t), newKey(t), listOf(t, 20, 20)
-	state := &asked{Lock: lock(t, t.TempDir())}
+	state := &countingLock{Lock: lock(t, t.TempDir())}
 	g, err := NewGuarded(ctx, key, Guard{State: state, Create: true})
 	must(t, err)
 	size, timestamp := 0, uint64(100)
 	_, err = g.SignHead(ctx, l.head(t, 0, timestamp), nil)
 	must(t, err)
-	for _, of := range []struct {
+	for _, test := range []struct {
 		what  string
 		err   error
 		times int
 		kind  error
 		swaps int
 	}{
-		{"it can't be swapped", errTried, 1, errTried, 1},
-		{"it has another text", stores.ErrLost, 1, ErrMoved, 1},
-		{"it is gone", stores.ErrAbsent, 1, stores.ErrAbsent, 1},
-		{"it isn't known once", stores.ErrUnknown, 1, nil, 2},
-		{"it isn't known four times", stores.ErrUnknown, 4, nil, 5},
-		{"it is never known", stores.ErrUnknown, 5, stores.ErrUnknown, 5},
-		{"nothing", nil, 0, nil, 1},
+		{"the swap fails", errTried, 1, errTried, 1},
+		{"the lock has another text", stores.ErrLost, 1, ErrMoved, 1},
+		{"the lock is missing", stores.ErrAbsent, 1, stores.ErrAbsent, 1},
+		{"the outcome is unknown once", stores.ErrUnknown, 1, nil, 2},
+		{"the outcome is unknown four times", stores.ErrUnknown, 4, nil, 5},
+		{"the outcome is always unknown", stores.ErrUnknown, 5, stores.ErrUnknown, 5},
+		{"no fault", nil, 0, nil, 1},
 	} {
-		of := of
+		test := test
 		state.mu.Lock()
-		state.calls, state.does = nil, func(call string, nth int) error {
-			if call == "swap" && nth <= of.times {
-				return fmt.Errorf("%w, again", of.err)
+		state.calls, state.before = nil, func(call string, nth int) error {
+			if call == "swap" && nth <= test.times {
+				return fmt.Errorf("%w, again", test.err)
 			}
 			return nil
 		}
@@ -94,80 +95,80 @@ func TestFaultyState(t *testing.T) {
 		timestamp++
 		head := l.head(t, size+2, timestamp)
 		signed, err := g.SignHead(ctx, head, l.proof(t, size, size+2))
-		if !errors.Is(err, of.kind) || (signed == nil) != (err != nil) || err == nil &&
+		if !errors.Is(err, test.kind) || (signed == nil) != (err != nil) || err == nil &&
 			CheckHead(key.Key(), head, signed) != nil {
-			t.Errorf("%s: %v", of.what, err)
+			t.Errorf("%s: %v", test.what, err)
 		}
-		if state.calls["swap"] != of.swaps {
-			t.Errorf("%s: %d swaps", of.what, state.calls["swap"])
+		if state.calls["swap"] != test.swaps {
+			t.Errorf("%s: %d swaps", test.what, state.calls["swap"])
 		}
-		if of.kind == nil {
+		if test.kind == nil {
 			size += 2
 		}
 		last, err := g.Last(ctx)
 		if must(t, err); last == nil || last.Size != uint64(size) {
-			t.Errorf("%s: the last head is then %+v", of.what, last)
+			t.Errorf("%s: the last head is %+v afterwards", test.what, last)
 		}
 	}
 }
 
-// TestFaultyStart: if the lock fails at a start, there is no signer, and the error says why. An existing state is
-// used whether or not Create is set.
+// TestFaultyStart: if the lock fails at a start, there is no signer, and the error contains the reason. An existing
+// state is used whether or not Create is set.
 func TestFaultyStart(t *testing.T) {
 	t.Parallel()
 	ctx, key, head := limited(t), newKey(t), listOf(t, 2, 2).head(t, 2, 5)
-	for what, of := range map[string]struct {
+	for what, test := range map[string]struct {
 		text, call string
 		err, kind  error
 	}{
-		"it can't be created":                  {"", "create", errTried, errTried},
-		"it can't be read":                     {none, "read", errTried, errTried},
-		"it is gone by then":                   {none, "read", stores.ErrAbsent, ErrState},
-		"its line's end can't be taken away":   {textOf(&head) + "\n", "swap", errTried, errTried},
-		"it moves as its line's end goes away": {textOf(&head) + "\n", "swap", stores.ErrLost, stores.ErrLost},
+		"it cannot be created":                      {"", "create", errTried, errTried},
+		"it cannot be read":                         {none, "read", errTried, errTried},
+		"it is missing":                             {none, "read", stores.ErrAbsent, ErrState},
+		"its line end cannot be removed":            {textOf(&head) + "\n", "swap", errTried, errTried},
+		"it changes before the line end is removed": {textOf(&head) + "\n", "swap", stores.ErrLost, stores.ErrLost},
 	} {
-		state := &asked{Lock: lock(t, t.TempDir())}
-		if of.text != "" {
-			must(t, state.Lock.Create(ctx, of.text))
+		state := &countingLock{Lock: lock(t, t.TempDir())}
+		if test.text != "" {
+			must(t, state.Lock.Create(ctx, test.text))
 		}
-		of := of
-		state.does = func(call string, _ int) error {
-			if call == of.call {
-				return of.err
+		test := test
+		state.before = func(call string, _ int) error {
+			if call == test.call {
+				return test.err
 			}
 			return nil
 		}
-		if g, err := NewGuarded(ctx, key, Guard{State: state, Create: true}); !errors.Is(err, of.kind) || g != nil {
+		if g, err := NewGuarded(ctx, key, Guard{State: state, Create: true}); !errors.Is(err, test.kind) || g != nil {
 			t.Errorf("%s: %v", what, err)
 		}
 	}
-	for _, creates := range []bool{false, true} {
+	for _, create := range []bool{false, true} {
 		state := lock(t, t.TempDir())
 		must(t, state.Create(ctx, textOf(&head)))
-		g, err := NewGuarded(ctx, key, Guard{State: state, Create: creates})
+		g, err := NewGuarded(ctx, key, Guard{State: state, Create: create})
 		must(t, err)
-		if state, err := g.known(ctx); err != nil || state.Text() != textOf(&head) {
-			t.Errorf("with Create %t: its state is %s, %v", creates, state.Text(), err)
+		if state, err := g.currentState(ctx); err != nil || state.Text() != textOf(&head) {
+			t.Errorf("with Create %t: its state is %s, %v", create, state.Text(), err)
 		}
 	}
 }
 
-// TestTurn: a caller that waits for another caller's request leaves if its context ends.
+// TestTurn: a caller that waits for another caller's request returns if its context ends.
 func TestTurn(t *testing.T) {
 	t.Parallel()
 	ctx, l := limited(t), listOf(t, 2, 2)
 	g := guardedIn(t, newKey(t), t.TempDir())
 	gone, cancel := context.WithCancel(ctx)
 	cancel()
-	must(t, g.take(ctx))
-	came := make(chan error, 3)
-	go func() { _, err := g.Last(gone); came <- err }()
-	go func() { _, err := g.SignHead(gone, l.head(t, 2, 5), nil); came <- err }()
-	go func() { _, err := g.SignTimestamps(gone, []Receipt{{Leaf: l.leaves[0]}}); came <- err }()
+	must(t, g.takeTurn(ctx))
+	results := make(chan error, 3)
+	go func() { _, err := g.Last(gone); results <- err }()
+	go func() { _, err := g.SignHead(gone, l.head(t, 2, 5), nil); results <- err }()
+	go func() { _, err := g.SignTimestamps(gone, []Receipt{{Leaf: l.leaves[0]}}); results <- err }()
 	for i := 0; i < 3; i++ {
 		select {
-		case err := <-came:
-			wants(t, err, context.Canceled)
+		case err := <-results:
+			wantError(t, err, context.Canceled)
 		case <-limited(t).Done():
 			t.Error("a caller whose context has ended waits")
 		}
@@ -200,7 +201,7 @@ func TestMaxAhead(t *testing.T) {
 	now := uint64(time.Now().UnixMilli())
 	for _, timestamp := range []uint64{0, 1, now - 86_400_000, now, now + 30_000} {
 		if max := maxAhead(Head{Timestamp: timestamp}); max != timestamp {
-			t.Errorf("at %d a head of %d may be %d ahead", now, timestamp, max)
+			t.Errorf("at %d, a head of %d may be %d ahead", now, timestamp, max)
 		}
 	}
 	for _, timestamp := range []uint64{now + 120_000 + 60_000, now + 3_600_000, 1 << 62, 1 << 63, 1<<64 - 1} {

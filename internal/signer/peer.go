@@ -122,9 +122,9 @@ func (peer *Peer) hasUnread() bool {
 	if err != nil {
 		return false
 	}
-	unread, failed := 0, error(nil)
-	err = raw.Control(func(fd uintptr) { unread, failed = unix.IoctlGetInt(int(fd), unix.TIOCINQ) })
-	return err == nil && failed == nil && unread > 0
+	unread, ioctlErr := 0, error(nil)
+	err = raw.Control(func(fd uintptr) { unread, ioctlErr = unix.IoctlGetInt(int(fd), unix.TIOCINQ) })
+	return err == nil && ioctlErr == nil && unread > 0
 }
 
 // Close kills the process, or closes the connection. It returns the end of the process's standard error.

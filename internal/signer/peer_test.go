@@ -20,7 +20,7 @@ import (
 	"wagtenib/internal/testutil"
 )
 
-// script starts a shell's lines.
+// script starts a shell that runs these lines.
 func script(t *testing.T, lines string, environment ...string) *Peer {
 	e, err := Start([]string{"sh", "-c", lines}, environment...)
 	must(t, err)
@@ -28,27 +28,26 @@ func script(t *testing.T, lines string, environment ...string) *Peer {
 	return e
 }
 
-// TestReadLine reads lines in parts of several sizes. A line without a line end is none, and so is one that is too
-// long.
+// TestReadLine: a text without a line end is not a line, and a line that is too long is an error.
 func TestReadLine(t *testing.T) {
 	t.Parallel()
-	most := strings.Repeat("x", MaxLine-1)
-	for _, of := range []struct {
+	longest := strings.Repeat("x", MaxLine-1)
+	for _, test := range []struct {
 		text, line string
 		err        error
 	}{
 		{"one\ntwo\n", "one", nil},
 		{"\n", "", nil},
-		{most + "\n", most, nil},
+		{longest + "\n", longest, nil},
 		{"one", "", io.EOF},
 		{"", "", io.EOF},
 	} {
-		line, err := readLine(bufio.NewReader(strings.NewReader(of.text)))
-		if !errors.Is(err, of.err) || string(line) != of.line {
-			t.Errorf("of %d bytes: %d, %v", len(of.text), len(line), err)
+		line, err := readLine(bufio.NewReader(strings.NewReader(test.text)))
+		if !errors.Is(err, test.err) || string(line) != test.line {
+			t.Errorf("of %d bytes: %d, %v", len(test.text), len(line), err)
 		}
 	}
-	for _, text := range []string{most + "x\n", most + "xx"} {
+	for _, text := range []string{longest + "x\n", longest + "xx"} {
 		if line, err := readLine(bufio.NewReader(strings.NewReader(text))); err == nil ||
 			!strings.Contains(err.Error(), "more than 67108864 bytes") {
 			t.Errorf("of %d bytes: %d, %v", len(text), len(line), err)
@@ -59,13 +58,13 @@ func TestReadLine(t *testing.T) {
 // TestKeepsStandardError: the last bytes of a process's standard error are kept, and the error contains them.
 func TestKeepsStandardError(t *testing.T) {
 	t.Parallel()
-	said := &tail{}
+	stderr := &tail{}
 	for _, part := range []string{strings.Repeat("a", 300), strings.Repeat("b", 300), "the end"} {
-		if n, err := said.Write([]byte(part)); n != len(part) || err != nil {
+		if n, err := stderr.Write([]byte(part)); n != len(part) || err != nil {
 			t.Errorf("%d, %v", n, err)
 		}
 	}
-	if text := string(said.bytes); len(text) != maxStderr ||
+	if text := string(stderr.bytes); len(text) != maxStderr ||
 		!strings.HasSuffix(text, strings.Repeat("b", 300)+"the end") || !strings.HasPrefix(text, "a") {
 		t.Errorf("%d bytes: %q", len(text), text)
 	}
@@ -80,27 +79,27 @@ func TestKeepsStandardError(t *testing.T) {
 // TestEnvironment: a process has this one's environment and the added variables.
 func TestEnvironment(t *testing.T) {
 	t.Setenv("PIPE_OWN", "own")
-	for _, of := range []struct {
-		more []string
-		says string
+	for _, test := range []struct {
+		more     []string
+		expected string
 	}{{nil, "own "}, {[]string{"PIPE_MORE=more"}, "own more"}} {
-		e := script(t, `read x; echo "$PIPE_OWN $PIPE_MORE"; read x`, of.more...)
+		e := script(t, `read x; echo "$PIPE_OWN $PIPE_MORE"; read x`, test.more...)
 		reply, err := e.exchange(limited(t), testutil.Longest, []byte("x\n"))
-		if err != nil || string(reply) != of.says {
+		if err != nil || string(reply) != test.expected {
 			t.Errorf("%q, %v", reply, err)
 		}
 	}
 }
 
-// TestNoProgram: a program that cannot be started is ErrGone, and a missing socket is too.
+// TestNoProgram: the error is ErrGone if a program cannot be started, or if a socket is missing.
 func TestNoProgram(t *testing.T) {
 	t.Parallel()
-	for _, words := range [][]string{nil, {"/nowhere/is"}, {filepath.Join(t.TempDir(), "nothing")}} {
-		_, err := Start(words)
-		wants(t, err, ErrGone)
+	for _, arguments := range [][]string{nil, {"/nowhere/is"}, {filepath.Join(t.TempDir(), "nothing")}} {
+		_, err := Start(arguments)
+		wantError(t, err, ErrGone)
 	}
 	_, err := Dial(limited(t), filepath.Join(t.TempDir(), "socket"))
-	wants(t, err, ErrGone)
+	wantError(t, err, ErrGone)
 }
 
 // alive reports whether a process runs.
@@ -128,21 +127,21 @@ func TestCloseKills(t *testing.T) {
 	select {
 	case <-closed:
 	case <-limited(t).Done():
-		t.Error("the process isn't killed")
+		t.Error("the process is not killed")
 	}
 	for until := limited(t); ; time.Sleep(time.Millisecond) {
-		// (the child is reaped by whoever its parent is then)
+		// The child may be a zombie until its new parent reaps it.
 		state, _ := os.ReadFile("/proc/" + strconv.Itoa(pids[1]) + "/stat")
 		if !alive(pids[1]) || strings.Contains(string(state), ") Z ") {
 			break
 		}
 		if until.Err() != nil {
-			t.Error("what the process started goes on")
+			t.Error("the child of the process still runs")
 			break
 		}
 	}
 	if alive(pids[0]) {
-		t.Error("the process goes on")
+		t.Error("the process still runs")
 	}
 	for _, pid := range pids {
 		_ = syscall.Kill(pid, syscall.SIGKILL)
@@ -177,7 +176,7 @@ func TestDialCloses(t *testing.T) {
 			gone <- err
 		}
 	}()
-	waits := func(what string) {
+	waitForClose := func(what string) {
 		t.Helper()
 		select {
 		case <-gone:
@@ -193,16 +192,16 @@ func TestDialCloses(t *testing.T) {
 		!strings.Contains(err.Error(), context.Canceled.Error()) {
 		t.Errorf("a context that has ended: %v", err)
 	}
-	waits("after an error")
+	waitForClose("after an error")
 	e, err = Dial(limited(t), path)
 	must(t, err)
 	e.Close()
-	waits("after Close")
+	waitForClose("after Close")
 }
 
-// TestWaiting: a caller that waits for another caller's exchange leaves if its context ends. A reply that does not come
-// in time is an error that names the limit. After Close the next exchange opens a peer again, and if that fails the one
-// after it does.
+// TestWaiting: a caller that waits for another caller's exchange returns if its context ends. If a reply is late, the
+// error names the limit. After close, the next exchange opens a peer again. If opening fails, the exchange after that
+// opens one.
 func TestWaiting(t *testing.T) {
 	t.Parallel()
 	c := newAsker(cat, 50*time.Millisecond)
@@ -210,23 +209,23 @@ func TestWaiting(t *testing.T) {
 	e := <-c.turn
 	gone, cancel := context.WithCancel(context.Background())
 	cancel()
-	came := make(chan error, 1)
+	result := make(chan error, 1)
 	go func() {
-		_, err := said(c, gone, "one\n")
-		came <- err
+		_, err := askFor(c, gone, "one\n")
+		result <- err
 	}()
 	select {
-	case err := <-came:
-		wants(t, err, ErrGone)
+	case err := <-result:
+		wantError(t, err, ErrGone)
 	case <-limited(t).Done():
 		t.Error("a caller whose context has ended waits")
 	}
 	c.turn <- e
-	if _, err := said(c, limited(t), "half a line"); !errors.Is(err, ErrGone) ||
+	if _, err := askFor(c, limited(t), "half a line"); !errors.Is(err, ErrGone) ||
 		!strings.Contains(err.Error(), "none in 50ms") {
 		t.Errorf("no reply: %v", err)
 	}
-	fails, opens := errors.New("it isn't there"), 0
+	fails, opens := errors.New("it does not exist"), 0
 	c = newAsker(func(ctx context.Context) (*Peer, error) {
 		if opens++; opens == 1 {
 			return nil, fails
@@ -234,10 +233,10 @@ func TestWaiting(t *testing.T) {
 		return cat(ctx)
 	}, testutil.Longest)
 	defer c.close()
-	_, err := said(c, limited(t), "one\n")
-	wants(t, err, fails)
+	_, err := askFor(c, limited(t), "one\n")
+	wantError(t, err, fails)
 	for i := 0; i < 2; i++ {
-		reply, err := said(c, limited(t), "two\n")
+		reply, err := askFor(c, limited(t), "two\n")
 		if err != nil || reply != "two" {
 			t.Fatalf("%q, %v", reply, err)
 		}
@@ -255,14 +254,14 @@ func TestClientCloses(t *testing.T) {
 		return Start([]string{"sh", "-c", "while read -r x; do echo $$; done"})
 	}, testutil.Longest)
 	for i := 0; i < 2; i++ {
-		reply, err := said(c, limited(t), "x\n")
+		reply, err := askFor(c, limited(t), "x\n")
 		must(t, err)
 		pid, err := strconv.Atoi(reply)
 		must(t, err)
 		c.close()
 		if alive(pid) {
 			_ = syscall.Kill(pid, syscall.SIGKILL)
-			t.Errorf("process %d goes on", pid)
+			t.Errorf("process %d still runs", pid)
 		}
 	}
 	c.close()
@@ -280,30 +279,30 @@ func TestOwnGroup(t *testing.T) {
 	pid, err := strconv.Atoi(string(reply))
 	must(t, err)
 	if group, err := syscall.Getpgid(pid); err != nil || group != pid {
-		t.Errorf("process %d is of the group %d, %v", pid, group, err)
+		t.Errorf("process %d is in the group %d, %v", pid, group, err)
 		// Close would not reach it.
 		_ = syscall.Kill(pid, syscall.SIGKILL)
 	}
 }
 
-// TestPipeSize: both pipes of a process hold a long line at once.
+// TestPipeSize: each pipe of a process can hold pipeSize bytes.
 func TestPipeSize(t *testing.T) {
 	e, err := cat(limited(t))
 	testutil.Must(t, err)
 	defer e.Close()
 	raw, err := e.in.(syscall.Conn).SyscallConn()
 	testutil.Must(t, err)
-	testutil.Must(t, raw.Control(func(of uintptr) {
-		if holds, err := unix.FcntlInt(of, unix.F_GETPIPE_SZ, 0); err != nil || holds != pipeSize {
+	testutil.Must(t, raw.Control(func(fd uintptr) {
+		if holds, err := unix.FcntlInt(fd, unix.F_GETPIPE_SZ, 0); err != nil || holds != pipeSize {
 			t.Errorf("a pipe holds %d bytes, %v", holds, err)
 		}
 	}))
-	// (as the process itself sees both: 1032 is F_GETPIPE_SZ)
-	seen, err := Start([]string{"python3", "-c",
+	// The process itself reports the size of both pipes. 1032 is F_GETPIPE_SZ.
+	reporter, err := Start([]string{"python3", "-c",
 		"import fcntl; input(); print(*(fcntl.fcntl(of, 1032) for of in (0, 1)), flush=True)"})
 	testutil.Must(t, err)
-	defer seen.Close()
-	reply, err := seen.exchange(limited(t), testutil.Longest, []byte("\n"))
+	defer reporter.Close()
+	reply, err := reporter.exchange(limited(t), testutil.Longest, []byte("\n"))
 	if want := fmt.Sprintf("%d %d", pipeSize, pipeSize); err != nil || string(reply) != want {
 		t.Errorf("its pipes hold %q bytes, and not %s: %v", reply, want, err)
 	}

@@ -2,7 +2,7 @@
 
 package signer
 
-// hooks has a function that a test has called between two operations. No program is built with it.
+// hooks holds a function that a Guarded calls between two operations. A test sets it. No program is built with it.
 type hooks struct{ phase func(string) }
 
 func (g *Guarded) phase(name string) {

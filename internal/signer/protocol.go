@@ -43,7 +43,7 @@ type receiptLine struct {
 	Leaf  []byte   `json:"leaf_input"`
 }
 
-// reply has the answer to a request, or the reason why there is none.
+// reply holds the answer to a request, or the reason why there is none.
 type reply struct {
 	Key        []byte    `json:"key,omitempty"`
 	Guarded    bool      `json:"guarded,omitempty"`
@@ -51,7 +51,7 @@ type reply struct {
 	Signatures [][]byte  `json:"signatures,omitempty"`
 	Refused    string    `json:"refused,omitempty"`
 	Fault      string    `json:"fault,omitempty"`
-	// Failed is the text of any other error. Moved reports that it is ErrMoved, and BadState that it is ErrState.
+	// Failed is the text of any other error. Moved is whether it is ErrMoved, and BadState whether it is ErrState.
 	Failed   string `json:"failed,omitempty"`
 	Moved    bool   `json:"moved,omitempty"`
 	BadState bool   `json:"bad_state,omitempty"`
@@ -118,7 +118,7 @@ func answer(ctx context.Context, s Signer, line []byte) (reply, error) {
 		}
 		receipts = append(receipts, Receipt{receipt.Leaf, receipt.Index, path})
 	}
-	if err := bounded(len(receipts)); err != nil {
+	if err := checkCount(len(receipts)); err != nil {
 		return reply{}, err
 	}
 	signatures, err := s.SignTimestamps(ctx, receipts)
@@ -127,15 +127,15 @@ func answer(ctx context.Context, s Signer, line []byte) (reply, error) {
 
 // answerStep returns the signer's reply to a request for the timestamps of a step.
 func answerStep(ctx context.Context, s Signer, step Step) (reply, error) {
-	if err := bounded(len(step.Leaves)); err != nil {
+	if err := checkCount(len(step.Leaves)); err != nil {
 		return reply{}, err
 	}
 	signatures, err := s.SignStep(ctx, step)
 	return reply{Signatures: signatures}, err
 }
 
-// bounded returns an error if a request is for too many timestamps.
-func bounded(timestamps int) error {
+// checkCount returns an error if a request is for too many timestamps.
+func checkCount(timestamps int) error {
 	if timestamps > MaxReceipts {
 		return fmt.Errorf("%w: a request for %d timestamps, more than %d", ErrReply, timestamps, MaxReceipts)
 	}

@@ -20,9 +20,9 @@ import (
 	"wagtenib/internal/testutil"
 )
 
-// replying returns a function that opens a peer, which answers the lines of each connection with these replies in their
-// order. gone has a value for each connection that its client closed.
-func replying(t *testing.T, replies ...string) (open func(context.Context) (*Peer, error), gone chan error) {
+// replyingPeer returns a function that opens a peer, which answers the lines of each connection with these replies in
+// their order. gone receives a value for each connection that its client closed.
+func replyingPeer(t *testing.T, replies ...string) (open func(context.Context) (*Peer, error), gone chan error) {
 	path := filepath.Join(t.TempDir(), "socket")
 	listener, err := net.Listen("unix", path)
 	must(t, err)
@@ -48,8 +48,8 @@ func replying(t *testing.T, replies ...string) (open func(context.Context) (*Pee
 	return func(ctx context.Context) (*Peer, error) { return Dial(ctx, path) }, gone
 }
 
-// opened returns a signer's reply to the first request.
-func opened(t *testing.T, key *Key) string {
+// openReply returns a signer's reply to the first request.
+func openReply(t *testing.T, key *Key) string {
 	line, err := json.Marshal(reply{Key: key.Key(), Guarded: true})
 	must(t, err)
 	return string(line)
@@ -59,26 +59,26 @@ func opened(t *testing.T, key *Key) string {
 func TestWrongReplies(t *testing.T) {
 	t.Parallel()
 	ctx, key := limited(t), newKey(t)
-	for what, of := range map[string]struct {
+	for what, test := range map[string]struct {
 		replies []string
 		kind    error
 		closes  bool
 	}{
 		"no key":                    {[]string{"{}"}, ErrReply, true},
 		"no JSON in place of a key": {[]string{"no"}, ErrReply, true},
-		"a state that isn't one":    {[]string{`{"failed":"there is none","bad_state":true}`}, ErrState, true},
-		"a root of 3 bytes": {[]string{opened(t, key),
+		"no valid state":            {[]string{`{"failed":"there is none","bad_state":true}`}, ErrState, true},
+		"a root of 3 bytes": {[]string{openReply(t, key),
 			`{"last":{"sha256_root_hash":"AAAA","timestamp":5,"tree_size":2}}`}, ErrReply, true},
-		"no JSON in place of a head": {[]string{opened(t, key), "no"}, ErrReply, true},
-		"a failure":                  {[]string{opened(t, key), `{"failed":"the disk"}`}, ErrGone, true},
-		"a head":                     {[]string{opened(t, key), `{"last":null}`}, nil, false},
+		"no JSON in place of a head": {[]string{openReply(t, key), "no"}, ErrReply, true},
+		"a failure":                  {[]string{openReply(t, key), `{"failed":"the disk"}`}, ErrGone, true},
+		"a head":                     {[]string{openReply(t, key), `{"last":null}`}, nil, false},
 	} {
-		open, gone := replying(t, of.replies...)
+		open, gone := replyingPeer(t, test.replies...)
 		c, err := NewClient(ctx, open, testutil.Longest)
-		if !errors.Is(err, of.kind) || (c == nil) != (err != nil) {
+		if !errors.Is(err, test.kind) || (c == nil) != (err != nil) {
 			t.Errorf("%s: %v", what, err)
 		}
-		if of.closes {
+		if test.closes {
 			select {
 			case <-gone:
 			case <-ctx.Done():
@@ -95,8 +95,8 @@ func TestWrongReplies(t *testing.T) {
 func TestOtherKeyIsClosed(t *testing.T) {
 	t.Parallel()
 	ctx, first, other := limited(t), newKey(t), newKey(t)
-	right, _ := replying(t, opened(t, first), `{"last":null}`)
-	wrong, gone := replying(t, opened(t, other))
+	right, _ := replyingPeer(t, openReply(t, first), `{"last":null}`)
+	wrong, gone := replyingPeer(t, openReply(t, other))
 	opens := 0
 	c, err := NewClient(ctx, func(ctx context.Context) (*Peer, error) {
 		if opens++; opens > 1 {
@@ -108,7 +108,7 @@ func TestOtherKeyIsClosed(t *testing.T) {
 	defer c.Close()
 	must(t, c.Close())
 	_, err = c.Last(ctx)
-	wants(t, err, ErrKey)
+	wantError(t, err, ErrKey)
 	select {
 	case <-gone:
 	case <-ctx.Done():
@@ -141,14 +141,14 @@ func TestManyReceipts(t *testing.T) {
 		}
 	}
 	if c.Starts() != 1 {
-		t.Errorf("it was found %d times", c.Starts())
+		t.Errorf("the signer was opened %d times", c.Starts())
 	}
 }
 
 // TestLongRequest: a request that is longer than MaxLine is not sent, and the connection stays open.
 func TestLongRequest(t *testing.T) {
 	ctx, key := limited(t), newKey(t)
-	open, _ := replying(t, opened(t, key), `{"last":null}`, `{"last":null}`)
+	open, _ := replyingPeer(t, openReply(t, key), `{"last":null}`, `{"last":null}`)
 	c, err := NewClient(ctx, open, testutil.Longest)
 	must(t, err)
 	defer c.Close()
@@ -157,7 +157,7 @@ func TestLongRequest(t *testing.T) {
 		t.Error(err)
 	}
 	if _, err := c.Last(ctx); err != nil || c.Starts() != 1 {
-		t.Errorf("%v, found %d times", err, c.Starts())
+		t.Errorf("%v, opened %d times", err, c.Starts())
 	}
 }
 
@@ -169,13 +169,13 @@ func TestRefusalThroughASocket(t *testing.T) {
 	must(t, err)
 	defer listener.Close()
 	why := Refusal{"inconsistent", "too-few"}
-	go func() { _ = newServer().serve(ctx, unable{key, fmt.Errorf("x: %w", why)}, listener) }()
+	go func() { _ = newServer().serve(ctx, failingSigner{key, fmt.Errorf("x: %w", why)}, listener) }()
 	c, err := NewClient(ctx, func(ctx context.Context) (*Peer, error) { return Dial(ctx, path) }, testutil.Longest)
 	must(t, err)
 	defer c.Close()
 	_, err = c.SignHead(ctx, Head{Size: 1, Timestamp: 1}, nil)
-	var came Refusal
-	if !errors.As(err, &came) || came != why || err.Error() != "signer: refused: inconsistent (too-few)" {
+	var received Refusal
+	if !errors.As(err, &received) || received != why || err.Error() != "signer: refused: inconsistent (too-few)" {
 		t.Errorf("%v", err)
 	}
 	if plain := (Refusal{Name: "fork"}).Error(); plain != "signer: refused: fork" {
@@ -190,9 +190,9 @@ func TestServeState(t *testing.T) {
 	var output strings.Builder
 	why := fmt.Errorf("%w: there is none", ErrState)
 	must(t, ServeState(why, strings.NewReader("{\"open\":true}\n{\"last\":true}\n"), &output))
-	var came reply
-	must(t, json.Unmarshal([]byte(output.String()), &came))
-	if !came.BadState || came.Failed != why.Error() || strings.Count(output.String(), "\n") != 1 ||
+	var received reply
+	must(t, json.Unmarshal([]byte(output.String()), &received))
+	if !received.BadState || received.Failed != why.Error() || strings.Count(output.String(), "\n") != 1 ||
 		!strings.HasSuffix(output.String(), "\n") {
 		t.Errorf("%q", output.String())
 	}
@@ -206,7 +206,7 @@ func TestServeState(t *testing.T) {
 	}
 }
 
-// failingWriter takes nothing.
+// failingWriter accepts nothing.
 type failingWriter struct{ why error }
 
 func (w failingWriter) Write([]byte) (int, error) { return 0, w.why }
@@ -224,7 +224,7 @@ func TestServeFails(t *testing.T) {
 	}
 }
 
-// deadlines is a connection that keeps the deadlines that it is given.
+// deadlines is a connection that records its deadlines.
 type deadlines struct {
 	net.Conn
 	reads, writes []time.Time
@@ -245,26 +245,26 @@ func (d *deadlines) SetWriteDeadline(at time.Time) error {
 // After it, the next request may begin at any time.
 func TestDeadlines(t *testing.T) {
 	t.Parallel()
-	began, of := time.Now(), &deadlines{}
-	c := &serverConn{Conn: of, since: began.Add(-time.Hour), timeout: time.Minute}
+	began, conn := time.Now(), &deadlines{}
+	c := &serverConn{Conn: conn, since: began.Add(-time.Hour), timeout: time.Minute}
 	bounded := func(at time.Time) bool { return !at.Before(began.Add(time.Minute)) && at.Before(began.Add(time.Hour)) }
 	for i := 0; i < 3; i++ {
 		_, err := c.Read(make([]byte, 1))
 		must(t, err)
 	}
-	if len(of.reads) != 1 || !bounded(of.reads[0]) {
-		t.Errorf("a line has %v from %v on", of.reads, began)
+	if len(conn.reads) != 1 || !bounded(conn.reads[0]) {
+		t.Errorf("a line that began at %v has the deadlines %v", began, conn.reads)
 	}
 	if _, idle := c.idle(); idle {
 		t.Error("a connection with a request that has begun is idle")
 	}
 	_, err := c.Write([]byte("{}\n"))
 	must(t, err)
-	if len(of.writes) != 1 || !bounded(of.writes[0]) {
-		t.Errorf("a reply has %v from %v on", of.writes, began)
+	if len(conn.writes) != 1 || !bounded(conn.writes[0]) {
+		t.Errorf("a reply that began after %v has the deadlines %v", began, conn.writes)
 	}
-	if len(of.reads) != 2 || !of.reads[1].IsZero() {
-		t.Errorf("after a reply the next request has the deadlines %v", of.reads)
+	if len(conn.reads) != 2 || !conn.reads[1].IsZero() {
+		t.Errorf("after a reply the next request has the deadlines %v", conn.reads)
 	}
 	if since, idle := c.idle(); !idle || since.Before(began) {
 		t.Errorf("after a reply the connection is idle since %v, %v", since, idle)
@@ -279,14 +279,14 @@ func TestRemovesClosedConnections(t *testing.T) {
 	must(t, err)
 	defer listener.Close()
 	go func() { _ = all.serve(ctx, newKey(t), listener) }()
-	there := func(count int) {
+	waitForOpen := func(count int) {
 		t.Helper()
 		for found := -1; found != count; time.Sleep(time.Millisecond) {
 			all.mu.Lock()
 			found = len(all.open)
 			all.mu.Unlock()
 			if ctx.Err() != nil {
-				t.Fatalf("%d are served, and %d are there", found, count)
+				t.Fatalf("%d connections are served, and not %d", found, count)
 			}
 		}
 	}
@@ -296,13 +296,13 @@ func TestRemovesClosedConnections(t *testing.T) {
 		must(t, err)
 		connected = append(connected, connection)
 	}
-	there(3)
+	waitForOpen(3)
 	for _, connection := range connected {
 		must(t, connection.Close())
 	}
-	there(0)
+	waitForOpen(0)
 	if len(all.slots) != 0 {
-		t.Errorf("%d hold room", len(all.slots))
+		t.Errorf("%d slots are taken", len(all.slots))
 	}
 }
 
@@ -311,21 +311,21 @@ func TestAdmitsUnderTheLock(t *testing.T) {
 	t.Parallel()
 	ctx, all := limited(t), newServer()
 	all.mu.Lock()
-	took := make(chan bool, 1)
-	go func() { took <- all.admit(ctx, &serverConn{}) }()
+	admitted := make(chan bool, 1)
+	go func() { admitted <- all.admit(ctx, &serverConn{}) }()
 	for len(all.slots) == 0 && ctx.Err() == nil {
 		runtime.Gosched()
 	}
 	for i := 0; i < 1000; i++ {
 		if len(all.open) != 0 {
-			t.Error("one is there, and the list is another's")
+			t.Error("a connection was added by a goroutine without the mutex")
 			break
 		}
 		runtime.Gosched()
 	}
 	all.mu.Unlock()
-	if !<-took || len(all.open) != 1 {
-		t.Errorf("%d are there", len(all.open))
+	if !<-admitted || len(all.open) != 1 {
+		t.Errorf("there are %d connections", len(all.open))
 	}
 }
 
@@ -341,7 +341,7 @@ func TestListenFails(t *testing.T) {
 	}
 	open, err := os.ReadFile("/proc/self/net/unix")
 	if must(t, err); strings.Contains(string(open), folder) {
-		t.Error("somebody still listens")
+		t.Error("a socket still listens")
 	}
 }
 
@@ -362,7 +362,7 @@ func TestListenEnds(t *testing.T) {
 	cancel()
 	select {
 	case err := <-done:
-		wants(t, err, net.ErrClosed)
+		wantError(t, err, net.ErrClosed)
 	case <-limited(t).Done():
 		t.Error("it still listens after its context ended")
 	}

@@ -5,8 +5,8 @@ import (
 	"strconv"
 )
 
-// A line about a step has a leaf for each of its timestamps, and a step may have a thousand. This code writes and reads
-// such a line once. encoding/json reads the lines of other programs, which may have another form.
+// A request for a step has a leaf for each timestamp, and a step may have a thousand timestamps. This code writes and
+// reads such a line in one pass. encoding/json reads the lines of other programs, which may have another form.
 
 // appendStep appends the request for a step's timestamps, without its line end.
 func appendStep(line []byte, step Step) []byte {

@@ -9,7 +9,7 @@ import (
 	"testing"
 )
 
-// someStep has leaves of several lengths, and so many subtrees.
+// someStep returns a step with leaves of several lengths, and a given number of subtrees.
 func someStep(subtrees int) Step {
 	step := Step{First: 1<<40 - 1, Leaves: [][]byte{[]byte("a leaf"), bytes.Repeat([]byte{255}, 1000), {0}}}
 	for i := range subtrees {
@@ -18,7 +18,8 @@ func someStep(subtrees int) Step {
 	return step
 }
 
-// TestStepsAreWritten: a request's line is what encoding/json writes, and is read back.
+// TestStepsAreWritten: appendStep and appendSignatures write the lines that encoding/json writes, and the lines are
+// read back.
 func TestStepsAreWritten(t *testing.T) {
 	for _, step := range []Step{{Leaves: [][]byte{{}}}, someStep(0), someStep(1), someStep(3)} {
 		want, err := json.Marshal(request{Step: &stepLine{step.First, step.Leaves, hashBytes(step.Subtrees)}})
@@ -41,8 +42,8 @@ func TestStepsAreWritten(t *testing.T) {
 		if err != nil || string(written) != string(want) {
 			t.Errorf("%s, and not %s, %v", written, want, err)
 		}
-		if came, err := readReply(written); err != nil || !reflect.DeepEqual(came.Signatures, signatures) {
-			t.Errorf("%s is read as %+v, %v", written, came, err)
+		if received, err := readReply(written); err != nil || !reflect.DeepEqual(received.Signatures, signatures) {
+			t.Errorf("%s is read as %+v, %v", written, received, err)
 		}
 	}
 }
@@ -64,13 +65,13 @@ func TestStepsOfAnotherForm(t *testing.T) {
 		`{"moved":true,"failed":"so"}`:         {Moved: true, Failed: "so"},
 		`{"signatures":["eA=="],"moved":true}`: {Signatures: [][]byte{{'x'}}, Moved: true},
 	} {
-		if came, err := readReply([]byte(text)); err != nil || !reflect.DeepEqual(came, want) {
-			t.Errorf("%s is read as %+v, %v", text, came, err)
+		if received, err := readReply([]byte(text)); err != nil || !reflect.DeepEqual(received, want) {
+			t.Errorf("%s is read as %+v, %v", text, received, err)
 		}
 	}
 	for _, text := range []string{"", "{", `{"refused":7}`, `{"signatures":["eA="]}`} {
-		if came, err := readReply([]byte(text)); err == nil {
-			t.Errorf("%s is read as %+v", text, came)
+		if received, err := readReply([]byte(text)); err == nil {
+			t.Errorf("%s is read as %+v", text, received)
 		}
 	}
 }
@@ -83,10 +84,10 @@ func TestHashesOfAnotherLength(t *testing.T) {
 		for _, length := range lengths {
 			path = append(path, bytes.Repeat([]byte{7}, length))
 		}
-		for _, asked := range []request{{Step: &stepLine{3, [][]byte{[]byte("a leaf")}, path}},
+		for _, req := range []request{{Step: &stepLine{3, [][]byte{[]byte("a leaf")}, path}},
 			{Receipts: []receiptLine{{path, 7, []byte("a leaf")},
 				{hashBytes([][32]byte{{1}}), 8, []byte("another")}}}} {
-			line, err := json.Marshal(asked)
+			line, err := json.Marshal(req)
 			must(t, err)
 			if read, ok := readStep(line); ok {
 				t.Errorf("hashes of %d bytes are read as %+v", lengths, read)

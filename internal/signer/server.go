@@ -153,10 +153,10 @@ func (s *server) closeIdle() {
 type serverConn struct {
 	net.Conn
 	mu sync.Mutex
-	// busy reports that a request has begun and has no reply yet. since is the time of the last reply.
+	// busy is whether a request has begun and has no reply yet. since is the time of the last reply.
 	busy  bool
 	since time.Time
-	// timeout is the server's.
+	// timeout is the timeout of the server.
 	timeout time.Duration
 }
 
@@ -177,8 +177,8 @@ func (c *serverConn) Read(into []byte) (int, error) {
 	defer c.mu.Unlock()
 	if n > 0 && !c.busy {
 		c.busy = true
-		if failed := c.Conn.SetReadDeadline(time.Now().Add(c.timeout)); err == nil {
-			err = failed
+		if deadlineErr := c.Conn.SetReadDeadline(time.Now().Add(c.timeout)); err == nil {
+			err = deadlineErr
 		}
 	}
 	return n, err
@@ -193,8 +193,8 @@ func (c *serverConn) Write(from []byte) (int, error) {
 	c.mu.Lock()
 	defer c.mu.Unlock()
 	c.busy, c.since = false, time.Now()
-	if failed := c.Conn.SetReadDeadline(time.Time{}); err == nil {
-		err = failed
+	if deadlineErr := c.Conn.SetReadDeadline(time.Time{}); err == nil {
+		err = deadlineErr
 	}
 	return n, err
 }

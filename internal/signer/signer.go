@@ -13,7 +13,7 @@ import (
 	"fmt"
 )
 
-// Signer signs heads and timestamps. Its methods may be called at once.
+// Signer signs heads and timestamps. Its methods may be called concurrently.
 type Signer interface {
 	// Key returns the log's public key, a SubjectPublicKeyInfo in DER.
 	Key() []byte
@@ -50,7 +50,7 @@ func (h Head) message() []byte {
 	return append(append([]byte{0, 1}, message...), h.Root[:]...)
 }
 
-// CheckHead reports whether a DigitallySigned is the key's signature of a head.
+// CheckHead returns an error unless a DigitallySigned is the key's signature of a head.
 func CheckHead(key []byte, head Head, signed []byte) error { return Check(key, head.message(), signed) }
 
 // Receipt is a timestamp to sign. Its bytes are those of its leaf (RFC 6962, sections 3.2 and 3.4). The path leads from
@@ -61,9 +61,9 @@ type Receipt struct {
 	Path  [][32]byte
 }
 
-// Step has the timestamps of all leaves that a step added, whose head is the last one. The first leaf has the index
-// First, and the last leaf is the last one of the head's tree. Subtrees are the roots of the perfect subtrees of the
-// leaves before the step, largest first.
+// Step holds the leaves that a step added, whose timestamps must be signed. The head of the step is the last head. The
+// first leaf has the index First, and the last leaf is the last one of the head's tree. Subtrees are the roots of the
+// perfect subtrees of the leaves before the step, largest first.
 type Step struct {
 	First    uint64
 	Subtrees [][32]byte
@@ -106,8 +106,8 @@ var (
 	ErrSignature = errors.New("signer: not the key's signature")
 )
 
-// Check reports whether a DigitallySigned is the key's signature of a message. The key is a SubjectPublicKeyInfo in
-// DER.
+// Check returns an error unless a DigitallySigned is the key's signature of a message. The key is a
+// SubjectPublicKeyInfo in DER.
 func Check(key, message, signed []byte) error {
 	public, err := parsePublicKey(key)
 	if err != nil {

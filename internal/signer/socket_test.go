@@ -18,14 +18,14 @@ import (
 	"wagtenib/internal/testutil"
 )
 
-// otherGuard is a signer that reports a guard if it has none.
+// otherGuard is a signer that reports a guard if it has none, and the other way round.
 type otherGuard struct{ Signer }
 
 func (o otherGuard) IsGuarded() bool { return !o.Signer.IsGuarded() }
 
-// TestOtherKey has a client whose signer comes back with another key, or with a guard. The client does not use it, and
-// continues after the first one is back.
-func TestOtherKey(t *testing.T) {
+// TestRefusesAnotherKey: if a client's signer is opened again with another key, or with a guard, the client does not
+// use it. The client continues after the first signer is opened again.
+func TestRefusesAnotherKey(t *testing.T) {
 	t.Parallel()
 	ctx, key := limited(t), newKey(t)
 	for what, other := range map[string]Signer{"another key": newKey(t), "a guard": otherGuard{key}} {
@@ -82,64 +82,64 @@ func TestSocketMode(t *testing.T) {
 	}
 }
 
-// timely is a signer that reports how much time it has for an answer.
-type timely struct {
+// timedSigner is a signer that sends how much time is left for an answer.
+type timedSigner struct {
 	Signer
-	has chan time.Duration
+	left chan time.Duration
 }
 
-func (s timely) Last(ctx context.Context) (*Head, error) {
+func (s timedSigner) Last(ctx context.Context) (*Head, error) {
 	until, isBounded := ctx.Deadline()
 	if !isBounded {
 		until = time.Now().Add(24 * time.Hour)
 	}
-	s.has <- time.Until(until)
+	s.left <- time.Until(until)
 	return nil, nil
 }
 
 // TestRequestTimeout: each request has a time limit, so a lock that does not answer blocks no connection for ever.
 func TestRequestTimeout(t *testing.T) {
 	t.Parallel()
-	of := timely{newKey(t), make(chan time.Duration, 1)}
-	must(t, Serve(context.Background(), of, strings.NewReader(`{"last":true}`+"\n"), io.Discard))
-	if has := <-of.has; has > requestTimeout || has < requestTimeout/2 {
-		t.Errorf("it has %v", has)
+	s := timedSigner{newKey(t), make(chan time.Duration, 1)}
+	must(t, Serve(context.Background(), s, strings.NewReader(`{"last":true}`+"\n"), io.Discard))
+	if left := <-s.left; left > requestTimeout || left < requestTimeout/2 {
+		t.Errorf("the request has %v", left)
 	}
 }
 
-// moody is a listener whose first calls of Accept fail.
-type moody struct {
+// failingListener is a listener whose first calls of Accept fail.
+type failingListener struct {
 	net.Listener
 	fails int
 }
 
-func (m *moody) Accept() (net.Conn, error) {
+func (m *failingListener) Accept() (net.Conn, error) {
 	if m.fails--; m.fails >= 0 {
 		return nil, syscall.EMFILE
 	}
 	return m.Listener.Accept()
 }
 
-// served has a server serve clients at a socket. The listener fails so many times before the first connection. end
-// stops it and checks its error.
-func served(t *testing.T, all *server, fails int) (path string, end func()) {
+// serveAtSocket lets a server serve clients at a socket. The listener fails a given number of times before the first
+// connection. end stops the server and checks its error.
+func serveAtSocket(t *testing.T, all *server, fails int) (path string, end func()) {
 	t.Helper()
 	path = filepath.Join(t.TempDir(), "socket")
 	ctx, cancel := context.WithCancel(limited(t))
 	listener, err := net.Listen("unix", path)
 	must(t, err)
 	done := make(chan error, 1)
-	go func() { done <- all.serve(ctx, newKey(t), &moody{listener, fails}) }()
+	go func() { done <- all.serve(ctx, newKey(t), &failingListener{listener, fails}) }()
 	return path, func() {
 		t.Helper()
 		cancel()
 		listener.Close()
-		wants(t, <-done, net.ErrClosed)
+		wantError(t, <-done, net.ErrClosed)
 	}
 }
 
-// asks returns a client of a socket.
-func asks(t *testing.T, path string) *Client {
+// clientAt returns a client of the signer at a socket.
+func clientAt(t *testing.T, path string) *Client {
 	t.Helper()
 	c, err := NewClient(limited(t), func(ctx context.Context) (*Peer, error) { return Dial(ctx, path) }, testutil.Longest)
 	must(t, err)
@@ -152,8 +152,8 @@ func asks(t *testing.T, path string) *Client {
 func TestTooManyConnections(t *testing.T) {
 	t.Parallel()
 	ctx, all := limited(t), newServer()
-	path, end := served(t, all, 3)
-	first := asks(t, path)
+	path, end := serveAtSocket(t, all, 3)
+	first := clientAt(t, path)
 	var silent []net.Conn
 	for len(silent) < maxConnections-1 {
 		connection, err := net.Dial("unix", path)
@@ -161,15 +161,15 @@ func TestTooManyConnections(t *testing.T) {
 		t.Cleanup(func() { connection.Close() })
 		silent = append(silent, connection)
 	}
-	for there := 0; there < maxConnections; time.Sleep(time.Millisecond) {
+	for open := 0; open < maxConnections; time.Sleep(time.Millisecond) {
 		all.mu.Lock()
-		there = len(all.open)
+		open = len(all.open)
 		all.mu.Unlock()
 	}
 	// After this request it is not the connection that was idle for the longest.
 	_, err := first.Last(ctx)
 	must(t, err)
-	second := asks(t, path)
+	second := clientAt(t, path)
 	for _, c := range []*Client{first, second} {
 		if _, err := c.Last(ctx); err != nil || c.Starts() != 1 {
 			t.Fatalf("%v, opened %d times", err, c.Starts())
@@ -199,13 +199,13 @@ func TestTooManyConnections(t *testing.T) {
 	end()
 }
 
-// TestHalfRequests has every slot taken by a request that never ends. Each has its timeout, and a later client is
+// TestHalfRequests lets requests that never end take all slots. Each of them has its timeout, and a later client is
 // answered.
 func TestHalfRequests(t *testing.T) {
 	t.Parallel()
 	all := newServer()
 	all.timeout = 50 * time.Millisecond
-	path, end := served(t, all, 0)
+	path, end := serveAtSocket(t, all, 0)
 	for i := 0; i < maxConnections; i++ {
 		connection, err := net.Dial("unix", path)
 		must(t, err)
@@ -235,8 +235,8 @@ func TestWrongRequests(t *testing.T) {
 	head := headLineOf(&Head{2, 5, right.head(t, 2, 5).Root})
 	short := *head
 	short.Root = short.Root[1:]
-	text := func(asked request) string {
-		line, err := json.Marshal(asked)
+	text := func(req request) string {
+		line, err := json.Marshal(req)
 		must(t, err)
 		return string(line)
 	}
@@ -252,13 +252,13 @@ func TestWrongRequests(t *testing.T) {
 		t.Fatalf("%d replies to %d lines", len(replies), len(lines))
 	}
 	for i, line := range replies {
-		var came reply
-		must(t, json.Unmarshal([]byte(line), &came))
-		if i == 6 && !strings.Contains(came.Failed, "a request for 4097 timestamps") {
-			t.Errorf("more than may be asked for at once: %s", line)
+		var received reply
+		must(t, json.Unmarshal([]byte(line), &received))
+		if i == 6 && !strings.Contains(received.Failed, "a request for 4097 timestamps") {
+			t.Errorf("more than the maximum of one request: %s", line)
 		}
-		if wanted := i == len(lines)-1; (len(came.Signatures) == 1) != wanted || !wanted && i != len(lines)-2 &&
-			came.Failed+came.Refused == "" {
+		if wanted := i == len(lines)-1; (len(received.Signatures) == 1) != wanted || !wanted && i != len(lines)-2 &&
+			received.Failed+received.Refused == "" {
 			t.Errorf("%.80s: %s", lines[i], line)
 		}
 	}
@@ -267,29 +267,29 @@ func TestWrongRequests(t *testing.T) {
 	}
 }
 
-// unable is a signer that signs no head, and returns an error.
-type unable struct {
+// failingSigner is a signer that signs no head, and returns an error.
+type failingSigner struct {
 	Signer
 	why error
 }
 
-func (s unable) SignHead(context.Context, Head, [][32]byte) ([]byte, error) { return nil, s.why }
+func (s failingSigner) SignHead(context.Context, Head, [][32]byte) ([]byte, error) { return nil, s.why }
 
 // TestErrorsThroughASocket: an error of a signer in another process keeps its kind: ErrMoved, ErrState, a refusal with
 // its name, and ErrGone for every other one.
 func TestErrorsThroughASocket(t *testing.T) {
 	t.Parallel()
 	ctx, key := limited(t), newKey(t)
-	for _, of := range []struct{ why, kind, not error }{
+	for _, test := range []struct{ why, kind, not error }{
 		{fmt.Errorf("x: %w", ErrMoved), ErrMoved, ErrState},
 		{fmt.Errorf("x: %w", ErrState), ErrState, ErrMoved},
 		{TooFar, TooFar, ErrMoved},
 		{errors.New("x"), ErrGone, ErrRefused},
 	} {
-		c := askedAtASocket(ctx, t, unable{key, of.why})
-		if _, err := c.SignHead(ctx, Head{Size: 1, Timestamp: 1}, nil); !errors.Is(err, of.kind) ||
-			errors.Is(err, of.not) {
-			t.Errorf("%v comes as %v", of.why, err)
+		c := socketClient(ctx, t, failingSigner{key, test.why})
+		if _, err := c.SignHead(ctx, Head{Size: 1, Timestamp: 1}, nil); !errors.Is(err, test.kind) ||
+			errors.Is(err, test.not) {
+			t.Errorf("%v is received as %v", test.why, err)
 		}
 	}
 }

@@ -92,9 +92,9 @@ func (s State) Last() *Head { return s.last }
 // state.
 func (s State) Signed() []byte { return s.signed }
 
-// Since reports whether the state is seen, an earlier reading, or a later one. If it was rolled back, the error is
-// ErrState.
-func (s State) Since(seen State) error {
+// CheckSince returns ErrState if the state was rolled back since an earlier reading, seen. The state must be the same
+// as seen, or a later one.
+func (s State) CheckSince(seen State) error {
 	if seen.last == nil {
 		seen = s
 	}
@@ -107,8 +107,8 @@ func (s State) Since(seen State) error {
 	return nil
 }
 
-// Begin returns the state after the head of the empty tree, a millisecond before a log's first head with leaves. No
-// lock may lose its head, so only a state without one begins.
+// Begin returns the state after the head of the empty tree, whose timestamp is a millisecond before that of the log's
+// first head with leaves. It returns ErrState if the state has a head already, since no lock may lose its head.
 func (s State) Begin(first Head) (State, error) {
 	empty := wagtenib.TreeHead{Root: sha256.Sum256(nil)}
 	if first.Timestamp > 0 {
@@ -117,8 +117,8 @@ func (s State) Begin(first Head) (State, error) {
 	return s.afterFirst(empty)
 }
 
-// Begins reports whether the log must begin with the head of the empty tree before this head can be approved.
-func (s State) Begins(head Head) bool { return s.last == nil && head.Size > 0 }
+// MustBegin reports whether the log must begin with the head of the empty tree before this head can be approved.
+func (s State) MustBegin(head Head) bool { return s.last == nil && head.Size > 0 }
 
 // afterFirst returns the state after the first head, which must be that of the empty tree.
 func (s State) afterFirst(head wagtenib.TreeHead) (State, error) {
@@ -127,7 +127,7 @@ func (s State) afterFirst(head wagtenib.TreeHead) (State, error) {
 	}
 	signed, err := wagtenib.GuardFirstHead(head, wagtenib.TreeHead{})
 	if err != nil {
-		return State{}, refusedHead(err)
+		return State{}, headRefusal(err)
 	}
 	return approved(signed)
 }
@@ -142,13 +142,13 @@ func (s State) After(head Head, consistency [][32]byte, maxAhead uint64) (State,
 	}
 	signed, err := wagtenib.GuardHead(s.signed, next, consistency, maxAhead)
 	if err != nil {
-		return State{}, refusedHead(err)
+		return State{}, headRefusal(err)
 	}
 	return approved(signed)
 }
 
-// approved returns the state after a head whose signed bytes the guard wrote. The text is that of the head in these
-// bytes.
+// approved returns the state after a head that the guard approved. It takes the bytes that the guard wrote for signing,
+// and the text of the state is that of the head in these bytes.
 func approved(signed wagtenib.SignedBytes) (State, error) {
 	head, err := wagtenib.GuardState(signed[:], signed[:])
 	if err != nil {
@@ -159,25 +159,24 @@ func approved(signed wagtenib.SignedBytes) (State, error) {
 	return state, err
 }
 
-// Receipt reports whether the bytes of a timestamp's leaf may be signed after the last head. If they may not, the error
-// is a Refusal.
-func (s State) Receipt(receipt Receipt) error {
+// CheckReceipt returns a Refusal if the bytes of a timestamp's leaf may not be signed after the last head.
+func (s State) CheckReceipt(receipt Receipt) error {
 	if s.last == nil {
 		return Refusal{Name: "no-head"}
 	}
-	return refusedReceipt(wagtenib.GuardReceipt(s.signed, receipt.Leaf, receipt.Index, receipt.Path))
+	return receiptRefusal(wagtenib.GuardReceipt(s.signed, receipt.Leaf, receipt.Index, receipt.Path))
 }
 
-// Step reports whether the bytes of all leaves of a step may be signed after the last head, as Receipt does.
-func (s State) Step(step Step) error {
+// CheckStep returns a Refusal if the bytes of any leaf of a step may not be signed after the last head.
+func (s State) CheckStep(step Step) error {
 	if s.last == nil {
 		return Refusal{Name: "no-head"}
 	}
-	return refusedReceipt(wagtenib.GuardReceipts(s.signed, step.First, step.Subtrees, step.Leaves))
+	return receiptRefusal(wagtenib.GuardReceipts(s.signed, step.First, step.Subtrees, step.Leaves))
 }
 
-// headRefusals and receiptRefusals are the names of what the guard refuses (docs/GUARD.md). proofFaults and leafFaults
-// are the faults in these refusals.
+// headRefusals and receiptRefusals hold the names of the guard's refusals (docs/GUARD.md). proofFaults and leafFaults
+// hold the names of the faults in refusals.
 var (
 	headRefusals = map[wagtenib.Code]string{wagtenib.ErrSizeFalls: "size-falls",
 		wagtenib.ErrTimestampNotLater: "timestamp-not-later", wagtenib.ErrFork: "fork",
@@ -194,17 +193,17 @@ var (
 		wagtenib.ErrTrailing: "trailing"}
 )
 
-// refusedBy returns the refusal of an answer of the guard. of has the refusals without a fault, and faulty those with
-// one, by their names.
-func refusedBy(err error, of map[wagtenib.Code]string, faulty map[string]map[wagtenib.Code]string) error {
+// refusalOf returns the Refusal for an error of the guard, or another error if it is none. plain holds the names of the
+// refusals without a fault. withFault holds the faults of the other refusals, by the names of the refusals.
+func refusalOf(err error, plain map[wagtenib.Code]string, withFault map[string]map[wagtenib.Code]string) error {
 	var code wagtenib.Code
 	if err == nil || !errors.As(err, &code) {
 		return err
 	}
-	if name, ok := of[code]; ok {
+	if name, ok := plain[code]; ok {
 		return Refusal{Name: name}
 	}
-	for name, faults := range faulty {
+	for name, faults := range withFault {
 		if fault, ok := faults[code]; ok {
 			return Refusal{name, fault}
 		}
@@ -215,11 +214,11 @@ func refusedBy(err error, of map[wagtenib.Code]string, faulty map[string]map[wag
 	return fmt.Errorf("signer: the guard: %w", err)
 }
 
-func refusedHead(err error) error {
-	return refusedBy(err, headRefusals, map[string]map[wagtenib.Code]string{"inconsistent": proofFaults})
+func headRefusal(err error) error {
+	return refusalOf(err, headRefusals, map[string]map[wagtenib.Code]string{"inconsistent": proofFaults})
 }
 
-func refusedReceipt(err error) error {
-	return refusedBy(err, receiptRefusals, map[string]map[wagtenib.Code]string{"no-leaf": leafFaults,
+func receiptRefusal(err error) error {
+	return refusalOf(err, receiptRefusals, map[string]map[wagtenib.Code]string{"no-leaf": leafFaults,
 		"not-there": proofFaults})
 }

@@ -55,15 +55,15 @@ func TestReadsOnlyItsTexts(t *testing.T) {
 	}
 }
 
-// TestIsRolledBack compares each reading of a state with an earlier one.
-func TestIsRolledBack(t *testing.T) {
+// TestRefusesRolledBackReading compares readings of a state with earlier ones.
+func TestRefusesRolledBackReading(t *testing.T) {
 	t.Parallel()
 	state := func(head *Head) State {
 		state, err := ReadState(textOf(head))
 		must(t, err)
 		return state
 	}
-	for i, of := range []struct {
+	for i, test := range []struct {
 		seen, now *Head
 		isBack    bool
 	}{
@@ -76,15 +76,15 @@ func TestIsRolledBack(t *testing.T) {
 		{&Head{5, 50, [32]byte{1}}, &Head{6, 50, [32]byte{2}}, true},
 		{&Head{5, 50, [32]byte{1}}, &Head{4, 60, [32]byte{2}}, true},
 	} {
-		if err := state(of.now).Since(state(of.seen)); (err != nil) != of.isBack || err != nil &&
+		if err := state(test.now).CheckSince(state(test.seen)); (err != nil) != test.isBack || err != nil &&
 			!errors.Is(err, ErrState) {
 			t.Errorf("%d: %v", i, err)
 		}
 	}
 }
 
-// TestFirstHead: before its first head with leaves a log gets the head of the empty tree in its lock, which is not
-// signed. A head of no leaves is the first only if its root is that of the empty tree. After a head nothing begins
+// TestFirstHead: before the first head with leaves, the lock gets the head of the empty tree, which is not signed. A
+// head of no leaves can be the first only if its root is that of the empty tree. A log that has a head cannot begin
 // again.
 func TestFirstHead(t *testing.T) {
 	t.Parallel()
@@ -93,29 +93,29 @@ func TestFirstHead(t *testing.T) {
 	wrong := l.head(t, 0, 100)
 	wrong.Root[0] ^= 1
 	signed, err := g.SignHead(ctx, wrong, nil)
-	if refused(t, "not-first", err); signed != nil || kept(t, g) != none {
-		t.Errorf("a wrong empty head: %s", kept(t, g))
+	if wantRefusal(t, "not-first", err); signed != nil || lockText(t, g) != none {
+		t.Errorf("a wrong empty head: %s", lockText(t, g))
 	}
-	// (no head of the empty tree is before it)
+	// The head of the empty tree cannot be earlier than the timestamp 0.
 	signed, err = g.SignHead(ctx, l.head(t, 5, 0), nil)
-	if refused(t, "timestamp-not-later", err); signed != nil {
+	if wantRefusal(t, "timestamp-not-later", err); signed != nil {
 		t.Error("a head of the year 1970 is signed")
 	}
 	g = guardedIn(t, newKey(t), t.TempDir())
 	var texts []string
-	g.test.phase = func(string) { texts = append(texts, kept(t, g)) }
+	g.test.phase = func(string) { texts = append(texts, lockText(t, g)) }
 	head, empty := l.head(t, 5, 100), l.head(t, 0, 99)
 	signed, err = g.SignHead(ctx, head, nil)
 	must(t, err)
 	must(t, CheckHead(g.Key(), head, signed))
-	if due := []string{textOf(&empty), textOf(&empty), textOf(&head)}; strings.Join(texts,
-		"\n") != strings.Join(due, "\n") {
-		t.Errorf("the lock had %q, and not %q", texts, due)
+	if expected := []string{textOf(&empty), textOf(&empty), textOf(&head)}; strings.Join(texts,
+		"\n") != strings.Join(expected, "\n") {
+		t.Errorf("the lock had %q, and not %q", texts, expected)
 	}
 	for _, text := range []string{textOf(&empty), textOf(&head)} {
 		state, err := ReadState(text)
 		must(t, err)
-		if next, err := state.Begin(head); !errors.Is(err, ErrState) || next.Text() != "" || state.Begins(head) {
+		if next, err := state.Begin(head); !errors.Is(err, ErrState) || next.Text() != "" || state.MustBegin(head) {
 			t.Errorf("after %s the log begins again with %s, %v", text, next.Text(), err)
 		}
 	}
@@ -124,12 +124,12 @@ func TestFirstHead(t *testing.T) {
 	if next, err := state.After(head, nil, 1<<63); next.Text() != "" {
 		t.Errorf("a head with leaves is the first: %s", next.Text())
 	} else {
-		refused(t, "not-first", err)
+		wantRefusal(t, "not-first", err)
 	}
 }
 
-// TestKilledAfterTheEmptyHead kills (-9) a signer after its lock got the head of the empty tree, which comes before
-// the first head with leaves. The next one goes on.
+// TestKilledAfterTheEmptyHead kills (-9) a signer after the head of the empty tree is in its lock, and before the first
+// head with leaves is. The next signer continues from there.
 func TestKilledAfterTheEmptyHead(t *testing.T) {
 	t.Parallel()
 	program, err := os.Executable()
@@ -137,10 +137,10 @@ func TestKilledAfterTheEmptyHead(t *testing.T) {
 	folder, key := t.TempDir(), newKey(t)
 	must(t, os.WriteFile(filepath.Join(folder, "key.pem"), key.pem(t), 0o600))
 	run := func(phase string) (output []byte, err error) {
-		words, err := json.Marshal(child{Folder: folder, Phase: phase, On: 1})
+		task, err := json.Marshal(child{Folder: folder, Phase: phase, On: 1})
 		must(t, err)
 		command := exec.Command(program)
-		command.Env = append(os.Environ(), childWords+"="+string(words))
+		command.Env = append(os.Environ(), childTask+"="+string(task))
 		return command.Output()
 	}
 	if output, err := run("begun"); err == nil || !strings.Contains(err.Error(), "killed") || len(output) != 0 {
@@ -163,8 +163,8 @@ func readText(t *testing.T, folder string) []byte {
 	return text
 }
 
-// TestDamagedLock: a lock whose text is damaged or emptied, before a start or while a signer runs, never counts
-// as one without a head. Nothing is signed, and the text stays the same.
+// TestDamagedLock: a lock whose text is damaged or empty never counts as a lock before the first head, at a start or
+// while a signer runs. Nothing is signed, and the text stays the same.
 func TestDamagedLock(t *testing.T) {
 	t.Parallel()
 	ctx, l, fork := limited(t), listOf(t, 9, 9), listOf(t, 9, 0)
@@ -184,8 +184,8 @@ func TestDamagedLock(t *testing.T) {
 				t.Errorf("%q: a signer starts, %v", damaged, err)
 			}
 		}
-		for _, of := range []*list{l, fork} {
-			if signed, err := g.SignHead(ctx, of.head(t, 9, 101), of.proof(t, 5, 9)); !errors.Is(err, ErrState) ||
+		for _, list := range []*list{l, fork} {
+			if signed, err := g.SignHead(ctx, list.head(t, 9, 101), list.proof(t, 5, 9)); !errors.Is(err, ErrState) ||
 				signed != nil {
 				t.Errorf("%q: a head: %v", damaged, err)
 			}
@@ -200,15 +200,16 @@ func TestDamagedLock(t *testing.T) {
 	}
 }
 
-// TestRefusedStays: a head that the guard refuses is not signed, and the lock's text stays the same.
-func TestRefusedStays(t *testing.T) {
+// TestRefusalChangesNothing: a head or a timestamp that the guard refuses is not signed, and the lock's text stays the
+// same.
+func TestRefusalChangesNothing(t *testing.T) {
 	t.Parallel()
 	ctx, l, fork := limited(t), listOf(t, 9, 9), listOf(t, 9, 3)
 	g := guardedIn(t, newKey(t), t.TempDir())
 	_, err := g.SignHead(ctx, l.head(t, 5, 100), nil)
 	must(t, err)
-	before := kept(t, g)
-	for fault, of := range map[string]struct {
+	before := lockText(t, g)
+	for fault, test := range map[string]struct {
 		head  Head
 		proof [][32]byte
 	}{
@@ -218,15 +219,15 @@ func TestRefusedStays(t *testing.T) {
 		"path-too-short": {l.head(t, 9, 101), l.proof(t, 5, 9)[:3]},
 		"path-too-long":  {l.head(t, 9, 101), append(l.proof(t, 5, 9), [32]byte{})},
 	} {
-		signed, err := g.SignHead(ctx, of.head, of.proof)
+		signed, err := g.SignHead(ctx, test.head, test.proof)
 		var refusal Refusal
 		if !errors.As(err, &refusal) || refusal != (Refusal{"inconsistent", fault}) || signed != nil ||
-			kept(t, g) != before {
-			t.Errorf("%s: %v, and %s stands", fault, err, kept(t, g))
+			lockText(t, g) != before {
+			t.Errorf("%s: %v, and the lock has %s", fault, err, lockText(t, g))
 		}
 	}
 	receipt := l.receipt(t, 1, 5)
-	for fault, of := range map[string]Receipt{
+	for fault, test := range map[string]Receipt{
 		"no-leaf truncated":     {receipt.Leaf[:4], 1, receipt.Path},
 		"no-leaf bad-version":   {append([]byte{1}, receipt.Leaf[1:]...), 1, receipt.Path},
 		"no-leaf bad-leaf-type": {append([]byte{0, 1}, receipt.Leaf[2:]...), 1, receipt.Path},
@@ -239,39 +240,39 @@ func TestRefusedStays(t *testing.T) {
 		"not-there path-too-short":     {receipt.Leaf, 1, receipt.Path[:1]},
 		"not-there root-mismatch":      {receipt.Leaf, 0, receipt.Path},
 	} {
-		signed, err := g.SignTimestamps(ctx, []Receipt{receipt, of})
+		signed, err := g.SignTimestamps(ctx, []Receipt{receipt, test})
 		var refusal Refusal
 		if !errors.As(err, &refusal) || refusal.Name+" "+refusal.Fault != fault || signed != nil ||
-			kept(t, g) != before {
-			t.Errorf("%s: %v, and %s stands", fault, err, kept(t, g))
+			lockText(t, g) != before {
+			t.Errorf("%s: %v, and the lock has %s", fault, err, lockText(t, g))
 		}
 	}
 }
 
-// TestAnswersOfTheGuard: each answer of the guard is an error, whose kind is by its code. An answer that is no refusal
-// is none.
+// TestAnswersOfTheGuard: the error for an answer of the guard has the kind of the answer's code. It is a Refusal only
+// if the answer is a refusal.
 func TestAnswersOfTheGuard(t *testing.T) {
 	t.Parallel()
 	for code, kind := range map[wagtenib.Code]error{wagtenib.ErrState: ErrState, wagtenib.ErrTimestampTooFar: TooFar,
 		wagtenib.ErrFork: Refusal{Name: "fork"}, wagtenib.ErrMemory: wagtenib.ErrMemory, 4000: wagtenib.Code(4000)} {
-		if err := refusedHead(code); !errors.Is(err, kind) ||
+		if err := headRefusal(code); !errors.Is(err, kind) ||
 			errors.Is(err, ErrRefused) != errors.As(kind, &Refusal{}) {
 			t.Errorf("%v: %v", code, err)
 		}
 	}
 	for code, kind := range map[wagtenib.Code]error{wagtenib.ErrState: ErrState,
 		wagtenib.ErrLaterLeaf: Refusal{Name: "later-leaf"}, wagtenib.ErrNotFirst: wagtenib.ErrNotFirst} {
-		if err := refusedReceipt(code); !errors.Is(err, kind) ||
+		if err := receiptRefusal(code); !errors.Is(err, kind) ||
 			errors.Is(err, ErrRefused) != errors.As(kind, &Refusal{}) {
 			t.Errorf("%v: %v", code, err)
 		}
 	}
-	if refusedHead(nil) != nil || refusedReceipt(nil) != nil {
-		t.Error("what is approved is refused")
+	if headRefusal(nil) != nil || receiptRefusal(nil) != nil {
+		t.Error("an approval is a refusal")
 	}
 }
 
-// TestTimestampsEndBetween: after a caller has left, nothing more of its timestamps is judged or signed.
+// TestTimestampsEndBetween: after a caller's context has ended, no more of its timestamps are judged or signed.
 func TestTimestampsEndBetween(t *testing.T) {
 	t.Parallel()
 	l, judged := listOf(t, 4, 4), 0
@@ -286,7 +287,7 @@ func TestTimestampsEndBetween(t *testing.T) {
 		}
 	}
 	signed, err := g.SignTimestamps(ctx, []Receipt{l.receipt(t, 0, 4), l.receipt(t, 1, 4), l.receipt(t, 2, 4)})
-	if wants(t, err, context.Canceled); signed != nil || judged != 2 {
+	if wantError(t, err, context.Canceled); signed != nil || judged != 2 {
 		t.Errorf("%d were signed, and the guard judged %d", len(signed), judged)
 	}
 }

@@ -7,32 +7,33 @@ import (
 	"golang.org/x/mod/sumdb/tlog"
 )
 
-// step returns the step that added the leaves from an index on to the tree of some size. The roots of the subtrees
-// before it are x/mod's, each of a tree of its own.
+// step returns the step that added the leaves from the index first, and led to a tree of this size. It computes the
+// root of each subtree before the step with x/mod, as the root of a separate tree.
 func (l *list) step(t testing.TB, first, size int) Step {
 	step := Step{First: uint64(first), Leaves: l.leaves[first:size]}
 	for from, width := 0, 1<<62; from < first; width /= 2 {
 		if from+width > first {
 			continue
 		}
-		alone := &list{}
+		subtree := &list{}
 		for _, leaf := range l.leaves[from : from+width] {
-			alone.put(t, leaf)
+			subtree.put(t, leaf)
 		}
-		root, err := tlog.TreeHash(int64(width), alone)
+		root, err := tlog.TreeHash(int64(width), subtree)
 		must(t, err)
 		step.Subtrees, from = append(step.Subtrees, root), from+width
 	}
 	return step
 }
 
-// TestSteps asks for the timestamps of whole steps. Each is signed over its head, and nothing of a step that is not.
+// TestSteps asks for the timestamps of whole steps. They are all signed if the step led to the last head. Otherwise
+// none of them is signed.
 func TestSteps(t *testing.T) {
 	t.Parallel()
-	through(t, func(t *testing.T, s Signer, key *Key) {
+	inBothProcesses(t, func(t *testing.T, s Signer, key *Key) {
 		ctx, right, fork := limited(t), listOf(t, 300, 300), listOf(t, 300, 3)
 		_, err := s.SignStep(ctx, right.step(t, 0, 1))
-		refused(t, "no-head", err)
+		wantRefusal(t, "no-head", err)
 		_, err = s.SignHead(ctx, right.head(t, 290, 10), nil)
 		must(t, err)
 		for _, first := range []int{0, 1, 2, 3, 127, 255, 256, 257, 289} {
@@ -65,26 +66,26 @@ func TestSteps(t *testing.T) {
 			step := right.step(t, 260, 290)
 			wrong(&step)
 			signatures, err := s.SignStep(ctx, step)
-			if refused(t, "not-there", err); len(signatures) != 0 {
+			if wantRefusal(t, "not-there", err); len(signatures) != 0 {
 				t.Errorf("%s: %d were signed", what, len(signatures))
 			}
 		}
 	})
 }
 
-// TestStepsWithALeaf asks for steps with a leaf that is later than their head, one with another's index, or none at
-// all. Nothing of such a step is signed.
-func TestStepsWithALeaf(t *testing.T) {
+// TestStepsWithAWrongLeaf asks for steps with a leaf that is later than their head, a leaf that names another leaf's
+// index, or bytes that are no leaf. Nothing of such a step is signed.
+func TestStepsWithAWrongLeaf(t *testing.T) {
 	t.Parallel()
 	later := leaf("later")
 	later[9] = 11
-	for name, of := range map[string][]byte{"": naming("fourth", 3), "later-leaf": later,
-		"other-index": naming("fourth", 4), "no-leaf": []byte("nothing")} {
-		through(t, func(t *testing.T, s Signer, key *Key) {
+	for name, wrong := range map[string][]byte{"": leafNaming("fourth", 3), "later-leaf": later,
+		"other-index": leafNaming("fourth", 4), "no-leaf": []byte("nothing")} {
+		inBothProcesses(t, func(t *testing.T, s Signer, key *Key) {
 			ctx, l := limited(t), &list{}
 			for i := range 6 {
 				if i == 3 {
-					l.put(t, of)
+					l.put(t, wrong)
 				} else {
 					l.add(t, fmt.Sprint(i))
 				}
@@ -96,7 +97,7 @@ func TestStepsWithALeaf(t *testing.T) {
 				must(t, err)
 				return
 			}
-			if refused(t, name, err); len(signatures) != 0 {
+			if wantRefusal(t, name, err); len(signatures) != 0 {
 				t.Errorf("%s: %d were signed", name, len(signatures))
 			}
 		})

@@ -31,16 +31,16 @@ func TestToken(t *testing.T) {
 		"of P-384": "pkcs11:token=log-token;object=large" + query,
 	} {
 		if _, err := OpenKey(uri); err == nil {
-			t.Errorf("%s: it is taken", what)
+			t.Errorf("%s: it is accepted", what)
 		}
 	}
-	message := []byte("what is signed")
+	message := []byte("the message")
 	var public []byte
-	for _, of := range []string{"pkcs11:token=log-token;object=key", "pkcs11:token=log-token;id=%01",
+	for _, path := range []string{"pkcs11:token=log-token;object=key", "pkcs11:token=log-token;id=%01",
 		"pkcs11:token=log-token;object=key;id=%01"} {
-		key, err := OpenKey(of + query)
+		key, err := OpenKey(path + query)
 		if err != nil {
-			t.Fatalf("%s: %v", of, err)
+			t.Fatalf("%s: %v", path, err)
 		}
 		defer key.Close()
 		signed, err := key.sign(message)
@@ -48,10 +48,10 @@ func TestToken(t *testing.T) {
 			t.Fatal(err)
 		}
 		if err := Check(key.Key(), message, signed); err != nil {
-			t.Errorf("%s: %v", of, err)
+			t.Errorf("%s: %v", path, err)
 		}
 		if public != nil && string(public) != string(key.Key()) {
-			t.Errorf("%s is another key", of)
+			t.Errorf("%s is another key", path)
 		}
 		public = key.Key()
 		folder := t.TempDir()
@@ -64,8 +64,8 @@ func TestToken(t *testing.T) {
 		command := exec.Command("openssl", "dgst", "-sha256", "-verify", "key.pem", "-signature",
 			"signature", "message")
 		command.Dir = folder
-		if said, err := command.CombinedOutput(); err != nil {
-			t.Errorf("%s: openssl: %s", of, said)
+		if output, err := command.CombinedOutput(); err != nil {
+			t.Errorf("%s: openssl: %s", path, output)
 		}
 	}
 	if err := os.Chmod(pin, 0o644); err != nil {
@@ -80,26 +80,26 @@ func TestToken(t *testing.T) {
 // session is logged in to the token.
 func TestTokenIsReleased(t *testing.T) {
 	module, pin := softhsm.Token(t)
-	said, err := exec.Command("softhsm2-util", "--show-slots").CombinedOutput()
+	output, err := exec.Command("softhsm2-util", "--show-slots").CombinedOutput()
 	must(t, err)
-	_, serial, _ := strings.Cut(string(said), "Serial number:")
+	_, serial, _ := strings.Cut(string(output), "Serial number:")
 	serial = strings.TrimSpace(strings.SplitN(serial, "\n", 2)[0])
 	wrong := filepath.Join(t.TempDir(), "pin")
 	must(t, os.WriteFile(wrong, []byte("0000"), 0o600))
-	of := func(path, pin string) string {
+	uri := func(path, pin string) string {
 		return "pkcs11:" + path + "?module-path=" + module + "&pin-source=file:" + pin
 	}
-	isLetGo := func(what string) {
+	checkReleased := func(what string) {
 		t.Helper()
-		if key, err := OpenKey(of("token=log-token;object=key", wrong)); err == nil {
+		if key, err := OpenKey(uri("token=log-token;object=key", wrong)); err == nil {
 			key.Close()
-			t.Errorf("after %s a wrong PIN opens it", what)
+			t.Errorf("after %s a wrong PIN opens the token", what)
 		}
 	}
-	isLetGo("nothing")
+	checkReleased("nothing")
 	for _, path := range []string{"token=log-token;object=key", "serial=" + serial + ";object=key",
 		"token=log-token;serial=" + serial + ";object=key"} {
-		key, err := OpenKey(of(path, pin))
+		key, err := OpenKey(uri(path, pin))
 		if err != nil {
 			t.Fatalf("%s: %v", path, err)
 		}
@@ -107,26 +107,26 @@ func TestTokenIsReleased(t *testing.T) {
 		must(t, err)
 		must(t, Check(key.Key(), []byte("a message"), signed))
 		must(t, key.Close())
-		isLetGo(path)
+		checkReleased(path)
 	}
 	for _, path := range []string{"token=log-token;object=other", "token=log-token;object=large"} {
-		if _, err := OpenKey(of(path, pin)); !errors.Is(err, ErrKey) {
+		if _, err := OpenKey(uri(path, pin)); !errors.Is(err, ErrKey) {
 			t.Errorf("%s: %v", path, err)
 		}
-		isLetGo(path)
+		checkReleased(path)
 	}
-	if _, err := OpenKey(of("serial="+serial+"0;object=key", pin)); err == nil {
-		t.Error("another serial number is taken")
+	if _, err := OpenKey(uri("serial="+serial+"0;object=key", pin)); err == nil {
+		t.Error("another serial number is accepted")
 	}
 }
 
-// TestTokenURIs: a URI has each attribute once, and the required ones.
+// TestTokenURIs: a URI must have the required attributes, and no attribute twice.
 func TestTokenURIs(t *testing.T) {
-	of, err := parseToken("pkcs11:token=A%20token;serial=12;object=key;id=%00%01?" +
+	parsed, err := parseToken("pkcs11:token=A%20token;serial=12;object=key;id=%00%01?" +
 		"module-path=/m.so&pin-source=file:/pin")
-	if err != nil || of.label != "A token" || of.serial != "12" || of.object != "key" || string(of.id) != "\x00\x01" ||
-		of.module != "/m.so" || of.pinFile != "/pin" {
-		t.Errorf("%v: %+v", err, of)
+	if err != nil || parsed.label != "A token" || parsed.serial != "12" || parsed.object != "key" ||
+		string(parsed.id) != "\x00\x01" || parsed.module != "/m.so" || parsed.pinFile != "/pin" {
+		t.Errorf("%v: %+v", err, parsed)
 	}
 	for _, uri := range []string{
 		"pkcs11:", "pkcs11:token=a;object=k?module-path=/m", "pkcs11:token=a;object=k?pin-source=/p",

@@ -6,13 +6,13 @@ import (
 	"testing"
 )
 
-// wrongly is a signer whose signatures are changed.
-type wrongly struct {
+// changingSigner is a signer whose signatures are changed.
+type changingSigner struct {
 	Signer
 	change func(signed [][]byte) [][]byte
 }
 
-func (w wrongly) SignHead(ctx context.Context, head Head, consistency [][32]byte) ([]byte, error) {
+func (w changingSigner) SignHead(ctx context.Context, head Head, consistency [][32]byte) ([]byte, error) {
 	signed, err := w.Signer.SignHead(ctx, head, consistency)
 	if err != nil {
 		return nil, err
@@ -20,7 +20,7 @@ func (w wrongly) SignHead(ctx context.Context, head Head, consistency [][32]byte
 	return w.change([][]byte{signed})[0], nil
 }
 
-func (w wrongly) SignTimestamps(ctx context.Context, receipts []Receipt) ([][]byte, error) {
+func (w changingSigner) SignTimestamps(ctx context.Context, receipts []Receipt) ([][]byte, error) {
 	signed, err := w.Signer.SignTimestamps(ctx, receipts)
 	if err != nil {
 		return nil, err
@@ -28,7 +28,7 @@ func (w wrongly) SignTimestamps(ctx context.Context, receipts []Receipt) ([][]by
 	return w.change(signed), nil
 }
 
-func (w wrongly) SignStep(ctx context.Context, step Step) ([][]byte, error) {
+func (w changingSigner) SignStep(ctx context.Context, step Step) ([][]byte, error) {
 	signed, err := w.Signer.SignStep(ctx, step)
 	if err != nil {
 		return nil, err
@@ -51,27 +51,27 @@ func TestWrongSigner(t *testing.T) {
 		change          func(signed [][]byte) [][]byte
 		heads, receipts bool
 	}{
-		"as they are": {func(signed [][]byte) [][]byte { return signed }, true, true},
-		"the last is none": {func(signed [][]byte) [][]byte {
+		"unchanged": {func(signed [][]byte) [][]byte { return signed }, true, true},
+		"without the last one": {func(signed [][]byte) [][]byte {
 			return append(signed[:len(signed)-1:len(signed)-1],
 				nil)
 		}, false, false},
-		"another key's": {func(signed [][]byte) [][]byte {
+		"of another key": {func(signed [][]byte) [][]byte {
 			return append([][]byte{foreign},
 				signed[1:]...)
 		}, false, false},
-		"another's": {func(signed [][]byte) [][]byte {
+		"of another head": {func(signed [][]byte) [][]byte {
 			return append([][]byte{later},
 				signed[1:]...)
 		}, false, false},
-		"the other way": {func(signed [][]byte) [][]byte {
+		"in reverse order": {func(signed [][]byte) [][]byte {
 			return [][]byte{signed[len(signed)-1],
 				signed[0]}
 		}, true, false},
 		"one less": {func(signed [][]byte) [][]byte { return signed[:1] }, true, false},
 		"one more": {func(signed [][]byte) [][]byte { return append(signed, signed[0]) }, true, false},
 	} {
-		c := askedAtASocket(ctx, t, wrongly{key, wrong.change})
+		c := socketClient(ctx, t, changingSigner{key, wrong.change})
 		signed, err := c.SignHead(ctx, head, nil)
 		if (err == nil) != wrong.heads || err != nil && !errors.Is(err, ErrReply) || err == nil &&
 			CheckHead(key.Key(), head, signed) != nil {

@@ -141,7 +141,7 @@ func (g *guarded) state(ctx context.Context) (state signer.State, err error) {
 	if state, err = signer.ReadState(text); err != nil {
 		return state, err
 	}
-	if err = state.Since(g.seen); err == nil {
+	if err = state.CheckSince(g.seen); err == nil {
 		g.seen = state
 	}
 	return state, err
@@ -172,7 +172,7 @@ func (g *guarded) SignHead(ctx context.Context, head signer.Head, consistency []
 	if err != nil {
 		return nil, err
 	}
-	if state.Begins(head) {
+	if state.MustBegin(head) {
 		empty, err := state.Begin(head)
 		if err != nil {
 			return nil, err
@@ -220,7 +220,7 @@ func (g *guarded) swap(ctx context.Context, old, next signer.State) error {
 
 // SignStep signs a step's timestamps if the guard approves them.
 func (g *guarded) SignStep(ctx context.Context, step signer.Step) ([][]byte, error) {
-	return g.signApproved(ctx, step.Leaves, func(state signer.State) error { return state.Step(step) })
+	return g.signApproved(ctx, step.Leaves, func(state signer.State) error { return state.CheckStep(step) })
 }
 
 // SignTimestamps signs timestamps that the guard approves, all or none.
@@ -231,7 +231,7 @@ func (g *guarded) SignTimestamps(ctx context.Context, receipts []signer.Receipt)
 	}
 	return g.signApproved(ctx, leaves, func(state signer.State) error {
 		for _, receipt := range receipts {
-			if err := state.Receipt(receipt); err != nil {
+			if err := state.CheckReceipt(receipt); err != nil {
 				return err
 			}
 		}

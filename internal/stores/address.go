@@ -11,11 +11,11 @@ import (
 	"go.etcd.io/etcd/client/v3"
 )
 
-// ErrAddress: a text isn't an address of a store of this kind. It is wrapped with why, and without what may be secret
-// in it.
+// ErrAddress: a text is not an address of a store of this kind. The wrapping error contains the reason, but no part of
+// the address that may be secret.
 var ErrAddress = errors.New("stores: invalid address")
 
-// The environment's names of S3's credentials, for an address that has none.
+// The environment variables with the S3 credentials, for an address that contains none.
 const (
 	environmentKey    = "AWS_ACCESS_KEY_ID"
 	environmentSecret = "AWS_SECRET_ACCESS_KEY"
@@ -26,8 +26,8 @@ const (
 //	folder:PATH
 //	s3://[KEY:SECRET@]HOST[:PORT]/BUCKET[?tls=no][&region=REGION][&conditional=no]
 //
-// Without KEY and SECRET, AWS_ACCESS_KEY_ID and AWS_SECRET_ACCESS_KEY of the environment are taken. Over S3 the
-// endpoint is asked over TLS and conditional puts are used, unless the address says no.
+// If the address has no KEY and SECRET, the environment variables AWS_ACCESS_KEY_ID and AWS_SECRET_ACCESS_KEY are used.
+// An S3 endpoint is called over TLS and with conditional puts, unless the address says no.
 func ObjectsAt(ctx context.Context, address string) (Objects, error) {
 	kind, rest, _ := strings.Cut(address, ":")
 	switch kind {
@@ -47,10 +47,10 @@ func ObjectsAt(ctx context.Context, address string) (Objects, error) {
 	return nil, fmt.Errorf("%w: objects are at folder:PATH or s3://HOST/BUCKET, not at %.20q", ErrAddress, kind)
 }
 
-// ObjectsThere returns ErrAbsent if the folder of an address is missing, for example because its disk is not mounted.
-// ObjectsAt would create that folder, and the log would continue in the new one. ObjectsAt itself checks that a bucket
-// exists.
-func ObjectsThere(address string) error {
+// CheckObjectsExist returns ErrAbsent if the folder of an address is missing, for example because its disk is not
+// mounted. ObjectsAt would create that folder, and the log would continue in the new one. ObjectsAt itself checks that
+// a bucket exists.
+func CheckObjectsExist(address string) error {
 	kind, path, _ := strings.Cut(address, ":")
 	if kind != "folder" {
 		return nil
@@ -65,7 +65,7 @@ func ObjectsThere(address string) error {
 //
 //	file:PATH                                           a folder with the lock's files
 //	etcd://[USER:PASSWORD@]HOST:PORT[,HOST:PORT..]/PREFIX
-//	postgres://[USER[:PASSWORD]@]HOST[:PORT]/DATABASE?log=NAME[&..]      the rest as libpq has it
+//	postgres://[USER[:PASSWORD]@]HOST[:PORT]/DATABASE?log=NAME[&..]      other parameters as in libpq
 func LockAt(ctx context.Context, address string) (Lock, error) {
 	kind, rest, _ := strings.Cut(address, ":")
 	switch kind {
@@ -91,7 +91,8 @@ func LockAt(ctx context.Context, address string) (Lock, error) {
 	return nil, fmt.Errorf("%w: a lock is at file:PATH, etcd://.. or postgres://.., not at %.20q", ErrAddress, kind)
 }
 
-// IndexAt opens the index at an address: leveldb:PATH, a folder, or one of PostgreSQL as LockAt has them.
+// IndexAt opens the index at an address. The address is leveldb:PATH, where PATH is a folder, or an address of
+// PostgreSQL as in LockAt.
 func IndexAt(ctx context.Context, address string) (Index, error) {
 	kind, rest, _ := strings.Cut(address, ":")
 	switch kind {
@@ -111,7 +112,8 @@ func IndexAt(ctx context.Context, address string) (Index, error) {
 	return nil, noIndex(kind)
 }
 
-// noIndex says that an index is at no address of this kind. An earlier ctserve had its index in SQLite.
+// noIndex returns the error for an address of a kind that cannot have an index. Earlier versions of ctserve had the
+// index in SQLite.
 func noIndex(kind string) error {
 	if kind == "sqlite" {
 		return fmt.Errorf("%w: an index is no longer in SQLite "+
@@ -120,46 +122,47 @@ func noIndex(kind string) error {
 	return fmt.Errorf("%w: an index is at leveldb:PATH or postgres://.., not at %.20q", ErrAddress, kind)
 }
 
-// CheckObjects returns the reason why an address is not one of objects, and nil if it is. It opens nothing.
+// CheckObjects returns an error if a text is not an address of objects. It opens nothing.
 func CheckObjects(address string) error {
 	s3 := func() error { _, err := parseS3(address); return err }
-	return checked(address, "objects", map[string]func() error{"folder": nil, "s3": s3})
+	return checkAddress(address, "objects", map[string]func() error{"folder": nil, "s3": s3})
 }
 
-// CheckLock is CheckObjects of a lock.
+// CheckLock returns an error if a text is not an address of a lock. It opens nothing.
 func CheckLock(address string) error {
 	postgres := func() error { _, err := parsePostgres(address); return err }
 	etcd := func() error { _, err := parseEtcd(address); return err }
-	return checked(address, "a lock", map[string]func() error{
+	return checkAddress(address, "a lock", map[string]func() error{
 		"file": nil, "etcd": etcd, "postgres": postgres, "postgresql": postgres,
 	})
 }
 
-// CheckIndex is CheckObjects of an index.
+// CheckIndex returns an error if a text is not an address of an index. It opens nothing.
 func CheckIndex(address string) error {
 	if kind, _, _ := strings.Cut(address, ":"); kind == "sqlite" {
 		return noIndex(kind)
 	}
 	postgres := func() error { _, err := parsePostgres(address); return err }
-	return checked(address, "an index", map[string]func() error{"leveldb": nil, "postgres": postgres,
+	return checkAddress(address, "an index", map[string]func() error{"leveldb": nil, "postgres": postgres,
 		"postgresql": postgres})
 }
 
-// checked reads an address by what reads those of its kind; nil reads a path.
-func checked(address, what string, kinds map[string]func() error) error {
+// checkAddress checks an address with the function for its kind. A nil function means that the address is a path.
+func checkAddress(address, what string, kinds map[string]func() error) error {
 	kind, rest, _ := strings.Cut(address, ":")
-	read, known := kinds[kind]
+	check, known := kinds[kind]
 	switch {
 	case !known:
 		return fmt.Errorf("%w: %s of the kind %.20q", ErrAddress, what, kind)
-	case read != nil:
-		return read()
+	case check != nil:
+		return check()
 	}
 	_, err := pathOf(kind, rest)
 	return err
 }
 
-// pathOf returns a path as it is. It is not part of a URL, so a percent sign has no meaning.
+// pathOf returns the path of an address unchanged, and an error if it is empty. The path is not part of a URL, so a
+// percent sign has no meaning.
 func pathOf(kind, path string) (string, error) {
 	if path == "" {
 		return "", fmt.Errorf("%w: %s: without a path", ErrAddress, kind)
@@ -167,8 +170,9 @@ func pathOf(kind, path string) (string, error) {
 	return path, nil
 }
 
-// parsed reads a URL with a host. (The URL's own error would show a password.)
-func parsed(address, kind string) (*url.URL, url.Values, error) {
+// parseURL parses a URL with a host, and its query. It does not wrap the error of url.Parse, which would show a
+// password.
+func parseURL(address, kind string) (*url.URL, url.Values, error) {
 	u, err := url.Parse(address)
 	if err != nil || u.Host == "" || u.Fragment != "" {
 		return nil, nil, fmt.Errorf("%w: %s:// needs a host and a path after it", ErrAddress, kind)
@@ -180,8 +184,9 @@ func parsed(address, kind string) (*url.URL, url.Values, error) {
 	return u, query, nil
 }
 
-// word takes a value out of a query: none, or one.
-func word(query url.Values, name string) (string, error) {
+// takeValue removes a parameter from a query and returns its value, or "" if it is not there. It returns an error if
+// the parameter occurs more than once.
+func takeValue(query url.Values, name string) (string, error) {
 	values := query[name]
 	query.Del(name)
 	if len(values) > 1 {
@@ -193,17 +198,18 @@ func word(query url.Values, name string) (string, error) {
 	return values[0], nil
 }
 
-// flag takes a yes or no out of a query; without one it is yes.
-func flag(query url.Values, name string) (bool, error) {
-	value, err := word(query, name)
+// takeFlag removes a parameter with the value yes or no from a query, and returns whether it is yes. If the parameter
+// is not there, it is yes.
+func takeFlag(query url.Values, name string) (bool, error) {
+	value, err := takeValue(query, name)
 	if err == nil && value != "" && value != "yes" && value != "no" {
 		err = fmt.Errorf("%w: %s is yes or no", ErrAddress, name)
 	}
 	return value != "no", err
 }
 
-// nothingElse refuses what is left of a query.
-func nothingElse(query url.Values, kind string) error {
+// checkNoneLeft returns an error if a query still has parameters.
+func checkNoneLeft(query url.Values, kind string) error {
 	for name := range query {
 		return fmt.Errorf("%w: %s has no parameter %.40q", ErrAddress, kind, name)
 	}
@@ -211,7 +217,7 @@ func nothingElse(query url.Values, kind string) error {
 }
 
 func parseS3(address string) (at S3, err error) {
-	u, query, err := parsed(address, "s3")
+	u, query, err := parseURL(address, "s3")
 	if err != nil {
 		return S3{}, err
 	}
@@ -228,20 +234,20 @@ func parseS3(address string) (at S3, err error) {
 		return S3{}, fmt.Errorf("%w: s3 needs a key and a secret, in the address or as %s and %s", ErrAddress, environmentKey,
 			environmentSecret)
 	}
-	if at.Region, err = word(query, "region"); err != nil {
+	if at.Region, err = takeValue(query, "region"); err != nil {
 		return S3{}, err
 	}
-	if at.TLS, err = flag(query, "tls"); err != nil {
+	if at.TLS, err = takeFlag(query, "tls"); err != nil {
 		return S3{}, err
 	}
-	if at.Conditional, err = flag(query, "conditional"); err != nil {
+	if at.Conditional, err = takeFlag(query, "conditional"); err != nil {
 		return S3{}, err
 	}
-	return at, nothingElse(query, "s3")
+	return at, checkNoneLeft(query, "s3")
 }
 
 func parseEtcd(address string) (at Etcd, err error) {
-	u, query, err := parsed(address, "etcd")
+	u, query, err := parseURL(address, "etcd")
 	if err != nil {
 		return Etcd{}, err
 	}
@@ -254,15 +260,15 @@ func parseEtcd(address string) (at Etcd, err error) {
 		at.Config.Username = u.User.Username()
 		at.Config.Password, _ = u.User.Password()
 	}
-	return at, nothingElse(query, "etcd")
+	return at, checkNoneLeft(query, "etcd")
 }
 
 func parsePostgres(address string) (at Postgres, err error) {
-	u, query, err := parsed(address, "postgres")
+	u, query, err := parseURL(address, "postgres")
 	if err != nil {
 		return Postgres{}, err
 	}
-	if at.Log, err = word(query, "log"); err != nil {
+	if at.Log, err = takeValue(query, "log"); err != nil {
 		return Postgres{}, err
 	}
 	if at.Log == "" {

@@ -12,18 +12,18 @@ import (
 	"time"
 )
 
-// again is the command that kills an engine's process (-9) and starts it again. tests/engines.sh sets it.
-var again = os.Getenv("STORES_AGAIN")
+// restartCommand is the command that kills an engine's process (-9) and starts it again. tests/engines.sh sets it.
+var restartCommand = os.Getenv("STORES_AGAIN")
 
-// processes are what is killed of an engine.
+// processes holds the processes of each engine that the tests kill.
 var processes = map[string][]string{
 	"etcd": {"etcd"}, "postgres": {"postgres"}, "s3": {"ceph-osd", "radosgw"}, "s3-without-conditions": {"radosgw"},
 }
 
 const engineKills = 2
 
-// whileEnginesDie writes without a pause while an engine is killed and started again, each write within a second, and
-// gives how many were acknowledged. A write that fails is made again.
+// whileEnginesDie writes without a pause while an engine is killed and started again, and returns how many writes were
+// acknowledged. Each write has a second. A write that fails is repeated.
 func whileEnginesDie(t *testing.T, engine string, write writer) (acknowledged int) {
 	t.Helper()
 	ended, failed := make(chan struct{}), make(chan error, 1)
@@ -32,7 +32,7 @@ func whileEnginesDie(t *testing.T, engine string, write writer) (acknowledged in
 		for kill := 0; kill < engineKills; kill++ {
 			for _, process := range processes[engine] {
 				time.Sleep(200*time.Millisecond + time.Duration(rand.Int63n(int64(300*time.Millisecond))))
-				command := exec.Command("sh", "-c", again+" "+process)
+				command := exec.Command("sh", "-c", restartCommand+" "+process)
 				command.Stderr = os.Stderr
 				if err := command.Run(); err != nil {
 					failed <- fmt.Errorf("%s: %w", process, err)
@@ -78,9 +78,9 @@ func inTurn[T interface{ Close() error }](t *testing.T, all []implementation[T],
 				t.Skip(one.missing)
 			}
 			if testing.Short() {
-				t.Skip("engines aren't killed in a short run")
+				t.Skip("engines are not killed in a short run")
 			}
-			test(t, tried[T]{one, "suite-" + chance()})
+			test(t, tried[T]{one, "suite-" + randomName()})
 		})
 	}
 }
@@ -111,7 +111,7 @@ func TestLockOutlivesItsEngine(t *testing.T) {
 				return err
 			}
 			if number(old) < i-1 {
-				t.Fatalf("%q stands, and %d was acknowledged", old, i-1)
+				t.Fatalf("the text is %q, and %d was acknowledged", old, i-1)
 			}
 			tries++
 			err = lock.Swap(ctx, old, fmt.Sprintf("try %d: %d", tries, i))
@@ -125,7 +125,7 @@ func TestLockOutlivesItsEngine(t *testing.T) {
 		})
 		text, err := lock.Read(ctx)
 		if err != nil || number(text) < last || !strings.HasPrefix(text, "try ") {
-			t.Errorf("%q stands, %v, and %d was acknowledged", text, err, last)
+			t.Errorf("the text is %q, %v, and %d was acknowledged", text, err, last)
 		}
 		if published, err := lock.Published(ctx); err != nil || published.Size < uint64(last) ||
 			published.Timestamp != 2*published.Size {
@@ -143,7 +143,7 @@ func TestIndexOutlivesItsEngine(t *testing.T) {
 		})
 		must(t, parts(perWrite*last, MaxRows, func(from, to int) error {
 			asked, _, want := someOf(perWrite+from, perWrite+to)
-			finds(t, store, asked, want)
+			wantFound(t, store, asked, want)
 			return nil
 		}))
 	})

@@ -7,14 +7,14 @@ import (
 	"time"
 )
 
-// Call is what stores of one kind were asked by one of its interface's methods.
+// Call counts the calls of one method of all stores of one kind.
 type Call struct {
-	// Store is objects, lock or index, and Name the method's, in small letters.
+	// Store is objects, lock or index. Name is the name of the method in lower case.
 	Store, Name string
-	// Count is how often it was asked, Failed how often it gave none of the answers that the interface has, and Took
-	// how long all of them took.
+	// Count is the number of calls. Failed is the number of calls that returned none of the results that the interface
+	// states. Duration is the sum of the durations of all calls.
 	Count, Failed uint64
-	Took          time.Duration
+	Duration      time.Duration
 }
 
 const (
@@ -23,8 +23,8 @@ const (
 	ofIndex   = "index"
 )
 
-// callsThatAre are all, in their order; nothing else is counted.
-var callsThatAre = []Call{
+// countedCalls are the calls that are counted, in the order of Calls.All.
+var countedCalls = []Call{
 	{Store: ofObjects, Name: "put"}, {Store: ofObjects, Name: "get"}, {Store: ofObjects, Name: "list"},
 	{Store: ofObjects, Name: "delete"}, {Store: ofObjects, Name: "swap"},
 	{Store: ofLock, Name: "create"}, {Store: ofLock, Name: "read"}, {Store: ofLock, Name: "swap"},
@@ -32,47 +32,48 @@ var callsThatAre = []Call{
 	{Store: ofIndex, Name: "find"}, {Store: ofIndex, Name: "add"}, {Store: ofIndex, Name: "replace"},
 }
 
-// Calls counts what stores are asked. A nil one has none.
+// Calls counts the calls of stores. A nil Calls has counted none.
 type Calls struct {
 	mutex sync.Mutex
-	of    map[[2]string]Call
+	// counts is keyed by the kind of store and the name of the method.
+	counts map[[2]string]Call
 }
 
-// All are the calls of all kinds of stores, also those that nothing was asked by.
+// All returns the counts of all methods of all kinds of stores, also of those that were never called.
 func (c *Calls) All() (all []Call) {
 	if c == nil {
 		return nil
 	}
 	c.mutex.Lock()
 	defer c.mutex.Unlock()
-	for _, call := range callsThatAre {
-		counted := c.of[[2]string{call.Store, call.Name}]
+	for _, call := range countedCalls {
+		counted := c.counts[[2]string{call.Store, call.Name}]
 		counted.Store, counted.Name = call.Store, call.Name
 		all = append(all, counted)
 	}
 	return all
 }
 
-// ended counts a call that began then, and gives its error.
-func (c *Calls) ended(ctx context.Context, store, name string, began time.Time, err error) error {
-	took, failed := time.Since(began), isFailure(ctx, err)
+// count counts a call that began at a given time and ends now. It returns the error of the call.
+func (c *Calls) count(ctx context.Context, store, name string, began time.Time, err error) error {
+	duration, failed := time.Since(began), isFailure(ctx, err)
 	c.mutex.Lock()
 	defer c.mutex.Unlock()
-	if c.of == nil {
-		c.of = map[[2]string]Call{}
+	if c.counts == nil {
+		c.counts = map[[2]string]Call{}
 	}
-	call := c.of[[2]string{store, name}]
+	call := c.counts[[2]string{store, name}]
 	call.Count++
-	call.Took += took
+	call.Duration += duration
 	if failed {
 		call.Failed++
 	}
-	c.of[[2]string{store, name}] = call
+	c.counts[[2]string{store, name}] = call
 	return err
 }
 
-// isFailure reports whether an error is a store's that doesn't do what it is there for, and not one of its answers, nor
-// the end of who asked it.
+// isFailure reports whether an error means that the store failed. It does not if the interface states the error, or if
+// the caller cancelled the call.
 func isFailure(ctx context.Context, err error) bool {
 	if err == nil || ctx.Err() == context.Canceled {
 		return false
@@ -85,10 +86,10 @@ func isFailure(ctx context.Context, err error) bool {
 	return true
 }
 
-// Objects are these, counted.
-func (c *Calls) Objects(of Objects) Objects {
-	counted := countedObjects{of, c}
-	if timed, ok := of.(Timed); ok {
+// Objects returns objects whose calls are counted. They are Timed if the given objects are.
+func (c *Calls) Objects(objects Objects) Objects {
+	counted := countedObjects{objects, c}
+	if timed, ok := objects.(Timed); ok {
 		return struct {
 			Objects
 			Timed
@@ -104,43 +105,43 @@ type countedObjects struct {
 
 func (o countedObjects) Put(ctx context.Context, name string, content []byte) error {
 	began := time.Now()
-	return o.calls.ended(ctx, ofObjects, "put", began, o.Objects.Put(ctx, name, content))
+	return o.calls.count(ctx, ofObjects, "put", began, o.Objects.Put(ctx, name, content))
 }
 
-func (o countedObjects) Get(ctx context.Context, name string, most int64) ([]byte, error) {
+func (o countedObjects) Get(ctx context.Context, name string, maxBytes int64) ([]byte, error) {
 	began := time.Now()
-	content, err := o.Objects.Get(ctx, name, most)
-	return content, o.calls.ended(ctx, ofObjects, "get", began, err)
+	content, err := o.Objects.Get(ctx, name, maxBytes)
+	return content, o.calls.count(ctx, ofObjects, "get", began, err)
 }
 
-func (o countedObjects) List(ctx context.Context, prefix, after string, most int) ([]string, error) {
+func (o countedObjects) List(ctx context.Context, prefix, after string, maxNames int) ([]string, error) {
 	began := time.Now()
-	names, err := o.Objects.List(ctx, prefix, after, most)
-	return names, o.calls.ended(ctx, ofObjects, "list", began, err)
+	names, err := o.Objects.List(ctx, prefix, after, maxNames)
+	return names, o.calls.count(ctx, ofObjects, "list", began, err)
 }
 
 func (o countedObjects) Delete(ctx context.Context, name string) error {
 	began := time.Now()
-	return o.calls.ended(ctx, ofObjects, "delete", began, o.Objects.Delete(ctx, name))
+	return o.calls.count(ctx, ofObjects, "delete", began, o.Objects.Delete(ctx, name))
 }
 
-// Current is this one, counted with the objects.
-func (c *Calls) Current(of Current) Current { return countedCurrent{of, c} }
+// Current returns a Current whose swaps are counted as calls of objects.
+func (c *Calls) Current(current Current) Current { return countedCurrent{current, c} }
 
 type countedCurrent struct {
-	of    Current
-	calls *Calls
+	current Current
+	calls   *Calls
 }
 
 func (o countedCurrent) Swap(ctx context.Context, name string, old, new []byte) error {
 	began := time.Now()
-	return o.calls.ended(ctx, ofObjects, "swap", began, o.of.Swap(ctx, name, old, new))
+	return o.calls.count(ctx, ofObjects, "swap", began, o.current.Swap(ctx, name, old, new))
 }
 
-// Lock is this one, counted.
-func (c *Calls) Lock(of Lock) Lock {
-	counted := countedLock{of, c}
-	if timed, ok := of.(Timed); ok {
+// Lock returns a lock whose calls are counted. It is Timed if the given lock is.
+func (c *Calls) Lock(lock Lock) Lock {
+	counted := countedLock{lock, c}
+	if timed, ok := lock.(Timed); ok {
 		return struct {
 			Lock
 			Timed
@@ -156,35 +157,36 @@ type countedLock struct {
 
 func (r countedLock) Create(ctx context.Context, text string) error {
 	began := time.Now()
-	return r.calls.ended(ctx, ofLock, "create", began, r.Lock.Create(ctx, text))
+	return r.calls.count(ctx, ofLock, "create", began, r.Lock.Create(ctx, text))
 }
 
 func (r countedLock) Read(ctx context.Context) (string, error) {
 	began := time.Now()
 	text, err := r.Lock.Read(ctx)
-	return text, r.calls.ended(ctx, ofLock, "read", began, err)
+	return text, r.calls.count(ctx, ofLock, "read", began, err)
 }
 
 func (r countedLock) Swap(ctx context.Context, old, new string) error {
 	began := time.Now()
-	return r.calls.ended(ctx, ofLock, "swap", began, r.Lock.Swap(ctx, old, new))
+	return r.calls.count(ctx, ofLock, "swap", began, r.Lock.Swap(ctx, old, new))
 }
 
 func (r countedLock) Published(ctx context.Context) (Published, error) {
 	began := time.Now()
 	published, err := r.Lock.Published(ctx)
-	return published, r.calls.ended(ctx, ofLock, "published", began, err)
+	return published, r.calls.count(ctx, ofLock, "published", began, err)
 }
 
 func (r countedLock) Raise(ctx context.Context, published Published) error {
 	began := time.Now()
-	return r.calls.ended(ctx, ofLock, "raise", began, r.Lock.Raise(ctx, published))
+	return r.calls.count(ctx, ofLock, "raise", began, r.Lock.Raise(ctx, published))
 }
 
-// Index is this one, counted. A look-up by leaf hash counts as a find.
-func (c *Calls) Index(of Index) Index {
-	counted := countedIndex{of, c}
-	if timed, tells := of.(Timed); tells {
+// Index returns an index whose calls are counted. It is Timed if the given index is. A look-up by leaf hash counts as a
+// find.
+func (c *Calls) Index(index Index) Index {
+	counted := countedIndex{index, c}
+	if timed, ok := index.(Timed); ok {
 		return struct {
 			Index
 			Timed
@@ -201,21 +203,21 @@ type countedIndex struct {
 func (i countedIndex) Find(ctx context.Context, identities []Identity) (map[Identity]Place, error) {
 	began := time.Now()
 	found, err := i.Index.Find(ctx, identities)
-	return found, i.calls.ended(ctx, ofIndex, "find", began, err)
+	return found, i.calls.count(ctx, ofIndex, "find", began, err)
 }
 
 func (i countedIndex) FindLeaves(ctx context.Context, hashes []Identity) (map[Identity]Place, error) {
 	began := time.Now()
 	found, err := i.Index.FindLeaves(ctx, hashes)
-	return found, i.calls.ended(ctx, ofIndex, "find", began, err)
+	return found, i.calls.count(ctx, ofIndex, "find", began, err)
 }
 
 func (i countedIndex) Add(ctx context.Context, rows []Row) error {
 	began := time.Now()
-	return i.calls.ended(ctx, ofIndex, "add", began, i.Index.Add(ctx, rows))
+	return i.calls.count(ctx, ofIndex, "add", began, i.Index.Add(ctx, rows))
 }
 
 func (i countedIndex) Replace(ctx context.Context, rows []Row) error {
 	began := time.Now()
-	return i.calls.ended(ctx, ofIndex, "replace", began, i.Index.Replace(ctx, rows))
+	return i.calls.count(ctx, ofIndex, "replace", began, i.Index.Replace(ctx, rows))
 }

@@ -11,64 +11,64 @@ import (
 	"time"
 )
 
-// given is a store of each kind whose calls return one error after a while, with the results that they have without it.
-type given struct {
-	err   error
-	takes time.Duration
+// stub stands in for a store of each kind. Its calls return one error after some time, and always the same results.
+type stub struct {
+	err      error
+	duration time.Duration
 }
 
-func (g *given) give() error {
-	time.Sleep(g.takes)
-	return g.err
+func (s *stub) wait() error {
+	time.Sleep(s.duration)
+	return s.err
 }
 
-type givenObjects struct{ *given }
+type stubObjects struct{ *stub }
 
-func (g givenObjects) Put(_ context.Context, name string, content []byte) error { return g.give() }
-func (g givenObjects) Get(context.Context, string, int64) ([]byte, error) {
-	return []byte("content"), g.give()
+func (s stubObjects) Put(_ context.Context, name string, content []byte) error { return s.wait() }
+func (s stubObjects) Get(context.Context, string, int64) ([]byte, error) {
+	return []byte("content"), s.wait()
 }
-func (g givenObjects) List(context.Context, string, string, int) ([]string, error) {
-	return []string{"a", "b"}, g.give()
+func (s stubObjects) List(context.Context, string, string, int) ([]string, error) {
+	return []string{"a", "b"}, s.wait()
 }
-func (g givenObjects) Delete(context.Context, string) error { return g.give() }
-func (g givenObjects) Close() error                         { return errors.New("closed") }
+func (s stubObjects) Delete(context.Context, string) error { return s.wait() }
+func (s stubObjects) Close() error                         { return errors.New("closed") }
 
-type givenCurrent struct{ *given }
+type stubCurrent struct{ *stub }
 
-func (g givenCurrent) Swap(context.Context, string, []byte, []byte) error { return g.give() }
+func (s stubCurrent) Swap(context.Context, string, []byte, []byte) error { return s.wait() }
 
-type givenLock struct{ *given }
+type stubLock struct{ *stub }
 
-func (g givenLock) Create(context.Context, string) error       { return g.give() }
-func (g givenLock) Read(context.Context) (string, error)       { return "text", g.give() }
-func (g givenLock) Swap(context.Context, string, string) error { return g.give() }
-func (g givenLock) Published(context.Context) (Published, error) {
-	return Published{7, 8}, g.give()
+func (s stubLock) Create(context.Context, string) error       { return s.wait() }
+func (s stubLock) Read(context.Context) (string, error)       { return "text", s.wait() }
+func (s stubLock) Swap(context.Context, string, string) error { return s.wait() }
+func (s stubLock) Published(context.Context) (Published, error) {
+	return Published{7, 8}, s.wait()
 }
-func (g givenLock) Raise(context.Context, Published) error { return g.give() }
-func (g givenLock) Close() error                           { return errors.New("closed") }
+func (s stubLock) Raise(context.Context, Published) error { return s.wait() }
+func (s stubLock) Close() error                           { return errors.New("closed") }
 
-type givenIndex struct{ *given }
+type stubIndex struct{ *stub }
 
-func (g givenIndex) Find(context.Context, []Identity) (map[Identity]Place, error) {
-	return map[Identity]Place{{1}: {2, 3}}, g.give()
+func (s stubIndex) Find(context.Context, []Identity) (map[Identity]Place, error) {
+	return map[Identity]Place{{1}: {2, 3}}, s.wait()
 }
-func (g givenIndex) FindLeaves(context.Context, []Identity) (map[Identity]Place, error) {
-	return map[Identity]Place{{4}: {5, 6}}, g.give()
+func (s stubIndex) FindLeaves(context.Context, []Identity) (map[Identity]Place, error) {
+	return map[Identity]Place{{4}: {5, 6}}, s.wait()
 }
-func (g givenIndex) Add(context.Context, []Row) error     { return g.give() }
-func (g givenIndex) Replace(context.Context, []Row) error { return g.give() }
-func (g givenIndex) Close() error                         { return errors.New("closed") }
+func (s stubIndex) Add(context.Context, []Row) error     { return s.wait() }
+func (s stubIndex) Replace(context.Context, []Row) error { return s.wait() }
+func (s stubIndex) Close() error                         { return errors.New("closed") }
 
-type givenTime struct{}
+type stubTime struct{}
 
-func (givenTime) Time(context.Context) (time.Time, time.Duration, error) {
+func (stubTime) Time(context.Context) (time.Time, time.Duration, error) {
 	return time.UnixMilli(9), 5, ErrSameMachine
 }
 
-// asksAll makes each call once, in the order of All, and gives what came of each.
-func asksAll(ctx context.Context, objects Objects, current Current, lock Lock,
+// callAll makes each call once, in the order of Calls.All, and returns the errors and the results.
+func callAll(ctx context.Context, objects Objects, current Current, lock Lock,
 	index Index) (errs []error, values []any) {
 	add := func(err error, more ...any) { errs, values = append(errs, err), append(values, more...) }
 	add(objects.Put(ctx, "name", nil))
@@ -92,8 +92,8 @@ func asksAll(ctx context.Context, objects Objects, current Current, lock Lock,
 	return errs, values
 }
 
-// TestCallsAreCounted: each call of each store is counted by its name and duration. It counts as a failure if the store
-// did not do what it promises. Its results and errors are passed on.
+// TestCallsAreCounted: each call of each store is counted under its name, with its duration. It counts as a failure if
+// the store did not do what it promises. Its results and errors are returned unchanged.
 func TestCallsAreCounted(t *testing.T) {
 	broken := errors.New("the disk is gone")
 	gone, cancel := context.WithCancel(context.Background())
@@ -116,7 +116,7 @@ func TestCallsAreCounted(t *testing.T) {
 		"unknown":                        {context.Background(), ErrUnknown, 1},
 		"unsafe":                         {context.Background(), ErrUnsafe, 1},
 		"out of time":                    {late, context.DeadlineExceeded, 1},
-		"who asked is gone":              {gone, fmt.Errorf("stores: %w", context.Canceled), 0},
+		"cancelled by the caller":        {gone, fmt.Errorf("stores: %w", context.Canceled), 0},
 		"the store's own cancelled call": {context.Background(), context.Canceled, 1},
 		"absent":                         {context.Background(), fmt.Errorf("stores: %w", ErrAbsent), 0},
 		"other":                          {context.Background(), ErrOther, 0},
@@ -127,20 +127,20 @@ func TestCallsAreCounted(t *testing.T) {
 		"too long":                       {context.Background(), TooLong{9}, 0},
 		"a number too large":             {context.Background(), ErrNumber, 0},
 	} {
-		calls, of := &Calls{}, &given{err: test.err, takes: time.Millisecond}
-		objects, lock, index := calls.Objects(givenObjects{of}), calls.Lock(givenLock{of}),
-			calls.Index(givenIndex{of})
+		calls, store := &Calls{}, &stub{err: test.err, duration: time.Millisecond}
+		objects, lock, index := calls.Objects(stubObjects{store}), calls.Lock(stubLock{store}),
+			calls.Index(stubIndex{store})
 		began := time.Now()
 		for i := 0; i < 2; i++ {
-			errs, values := asksAll(test.ctx, objects, calls.Current(givenCurrent{of}), lock, index)
+			errs, values := callAll(test.ctx, objects, calls.Current(stubCurrent{store}), lock, index)
 			for i, err := range errs {
 				if err != test.err {
-					t.Errorf("%s: %s gives %v", what, want[i], err)
+					t.Errorf("%s: %s returns %v", what, want[i], err)
 				}
 			}
-			if given := []any{[]byte("content"), []string{"a", "b"}, "text", Published{7, 8},
-				map[Identity]Place{{1}: {2, 3}}}; !reflect.DeepEqual(values, given) {
-				t.Errorf("%s: they give %v", what, values)
+			if expected := []any{[]byte("content"), []string{"a", "b"}, "text", Published{7, 8},
+				map[Identity]Place{{1}: {2, 3}}}; !reflect.DeepEqual(values, expected) {
+				t.Errorf("%s: they return %v", what, values)
 			}
 		}
 		all := time.Since(began)
@@ -150,88 +150,88 @@ func TestCallsAreCounted(t *testing.T) {
 		}
 		for i, call := range counted {
 			if [2]string{call.Store, call.Name} != want[i] || call.Count != 2 || call.Failed != 2*test.failed ||
-				call.Took < 2*of.takes {
+				call.Duration < 2*store.duration {
 				t.Errorf("%s: %+v, and not 2 of %s with %d failures", what, call, want[i], 2*test.failed)
 			}
-			all -= call.Took
+			all -= call.Duration
 		}
 		if all < 0 {
-			t.Errorf("%s: the calls are said to have taken %v longer than all took", what, -all)
+			t.Errorf("%s: the sum of the counted durations is %v too long", what, -all)
 		}
 	}
 }
 
-// TestCountedStores: a store that is counted is closed, says what time it is as it does itself, and says nothing that
-// it doesn't. A look-up by leaf hash counts as the others do.
+// TestCountedStores: closing a counted store closes the store. It is Timed only if the store is, and reports the
+// store's time. A look-up by leaf hash counts as one by identity.
 func TestCountedStores(t *testing.T) {
-	calls, of := &Calls{}, &given{}
-	timed := func(store any, is bool) {
+	calls, stubbed := &Calls{}, &stub{}
+	checkTimed := func(store any, expected bool) {
 		t.Helper()
-		one, tells := store.(Timed)
-		if tells != is {
-			t.Fatalf("%T: says what time it is: %v", store, tells)
+		one, isTimed := store.(Timed)
+		if isTimed != expected {
+			t.Fatalf("%T: it reports the time: %v", store, isTimed)
 		}
-		if !tells {
+		if !isTimed {
 			return
 		}
 		if at, within, err := one.Time(limited(t)); at != time.UnixMilli(9) || within != 5 || err != ErrSameMachine {
 			t.Errorf("%T: %v, %v, %v", store, at, within, err)
 		}
 	}
-	for _, tells := range []bool{false, true} {
-		objects, lock := Objects(givenObjects{of}), Lock(givenLock{of})
-		if tells {
+	for _, isTimed := range []bool{false, true} {
+		objects, lock := Objects(stubObjects{stubbed}), Lock(stubLock{stubbed})
+		if isTimed {
 			objects = struct {
-				givenObjects
-				givenTime
-			}{givenObjects{of}, givenTime{}}
+				stubObjects
+				stubTime
+			}{stubObjects{stubbed}, stubTime{}}
 			lock = struct {
-				givenLock
-				givenTime
-			}{givenLock{of}, givenTime{}}
+				stubLock
+				stubTime
+			}{stubLock{stubbed}, stubTime{}}
 		}
 		for _, store := range []interface{ Close() error }{calls.Objects(objects), calls.Lock(lock)} {
-			timed(store, tells)
+			checkTimed(store, isTimed)
 			if err := store.Close(); err == nil || err.Error() != "closed" {
-				t.Errorf("%T: it isn't closed: %v", store, err)
+				t.Errorf("%T: it is not closed: %v", store, err)
 			}
 		}
 	}
 	for _, each := range []struct {
-		of    Index
-		tells bool
+		index   Index
+		isTimed bool
 	}{
-		{givenIndex{of}, false},
+		{stubIndex{stubbed}, false},
 		{struct {
-			givenIndex
-			givenTime
-		}{givenIndex{of}, givenTime{}}, true},
+			stubIndex
+			stubTime
+		}{stubIndex{stubbed}, stubTime{}}, true},
 	} {
-		index := calls.Index(each.of)
-		timed(index, each.tells)
+		index := calls.Index(each.index)
+		checkTimed(index, each.isTimed)
 		if found, err := index.FindLeaves(limited(t), nil); err != nil || found[Identity{4}] != (Place{5, 6}) {
 			t.Errorf("%v, %v", found, err)
 		}
 		if err := index.Close(); err == nil || err.Error() != "closed" {
-			t.Errorf("it isn't closed: %v", err)
+			t.Errorf("it is not closed: %v", err)
 		}
 	}
 	for _, call := range calls.All() {
-		due := uint64(0)
+		expected := uint64(0)
 		if call.Store == "index" && call.Name == "find" {
-			due = 2
+			expected = 2
 		}
-		if call.Count != due {
-			t.Errorf("%+v, and not %d", call, due)
+		if call.Count != expected {
+			t.Errorf("%+v, and not %d", call, expected)
 		}
 	}
 	if all := (*Calls)(nil).All(); all != nil {
-		t.Errorf("nothing is counted, and has %+v", all)
+		t.Errorf("a nil Calls has %+v", all)
 	}
 }
 
-// TestFailuresOfAFolder: a folder that is a file by now fails by each call, and each counts; a name that isn't there
-// doesn't.
+// TestFailuresOfAFolder: if a file has replaced the folder, each put fails, and is counted as a failure. A name that
+// does not exist is no failure.
 func TestFailuresOfAFolder(t *testing.T) {
 	calls, folder := &Calls{}, filepath.Join(t.TempDir(), "objects")
 	opened, err := OpenFolder(folder)
@@ -246,7 +246,7 @@ func TestFailuresOfAFolder(t *testing.T) {
 	must(t, os.WriteFile(folder, []byte("no folder"), 0o600))
 	for i := 0; i < 3; i++ {
 		if objects.Put(limited(t), "tile/0/002", []byte("content")) == nil {
-			t.Fatal("it is put")
+			t.Fatal("the put succeeds")
 		}
 	}
 	if put, get := calls.All()[0], calls.All()[1]; put.Count != 4 || put.Failed != 3 || get.Count != 1 ||

@@ -8,16 +8,16 @@ import (
 	"strings"
 )
 
-// Copy writes the objects whose names don't begin with one of these prefixes as files below a folder, and says how many
-// there were.
-func Copy(ctx context.Context, from Objects, folder string, but ...string) (count int, err error) {
+// Copy writes objects as files below a folder, and returns how many it wrote. It leaves out the objects whose names
+// begin with one of the prefixes.
+func Copy(ctx context.Context, from Objects, folder string, exceptPrefixes ...string) (count int, err error) {
 	for after := ""; ; {
 		names, err := from.List(ctx, "", after, MaxListed)
 		if err != nil {
 			return count, err
 		}
 		for _, name := range names {
-			if after = name; beginsWithAny(name, but) {
+			if after = name; beginsWithAny(name, exceptPrefixes) {
 				continue
 			}
 			content, err := from.Get(ctx, name, MaxObject)

@@ -15,22 +15,21 @@ import (
 // MaxCurrent is the maximum number of bytes of an object that Swap replaces.
 const MaxCurrent = 64 << 10
 
-// Current keeps objects that are replaced, under names as Objects has them: a log's checkpoint, and its entry for a
-// log list. Get of Objects reads them. No other call of Objects may be made for such a name.
+// Current keeps objects that are replaced: a log's checkpoint, and its entry for a log list. Their names have the form
+// that Objects states. They are read by Objects.Get. No other call of Objects may be made for such a name.
 //
-// The engine has to promise that swaps of one name are as if done one after the other, each of them when it is done:
-// also one whose caller gave up or was killed. So whoever only replaces a content by a later one can never bring an
-// earlier one back. A late swap finds another content than the one that it is to replace, since no content comes
-// again, and changes nothing.
+// The engine must promise that swaps of one name are linearizable. This includes a swap whose caller gave up or was
+// killed. So a caller that only replaces contents by later ones can never bring an earlier one back: no content is put
+// twice, so a late swap finds another content than the one that it should replace, and changes nothing.
 type Current interface {
-	// Swap replaces the content old by new. A nil old is that of a name without an object. If new is there already, it
-	// returns nil. If another content is there, or none, it returns ErrLost: the swap was not done, or it was done and
-	// another one followed. After any other error the swap may have been done, or may yet be, but only as long as old
-	// is there.
+	// Swap replaces the content old by new. A nil old means that there is no object of this name. If new is there
+	// already, Swap returns nil. If another content is there, or none, it returns ErrLost: the swap was not done, or it
+	// was done and another one followed. After any other error the swap may have been done, or may still be done as
+	// long as old is there.
 	Swap(ctx context.Context, name string, old, new []byte) error
 }
 
-// checkCurrent checks what Swap gets.
+// checkCurrent checks the name and the contents of a swap.
 func checkCurrent(name string, contents ...[]byte) error {
 	for _, content := range contents {
 		if len(content) > MaxCurrent {
@@ -40,7 +39,7 @@ func checkCurrent(name string, contents ...[]byte) error {
 	return checkName(name)
 }
 
-// SetCurrent gives a name this content, whatever its content was.
+// SetCurrent replaces the content of a name, whatever it was.
 func SetCurrent(ctx context.Context, objects Objects, current Current, name string, content []byte) error {
 	for {
 		old, err := objects.Get(ctx, name, MaxCurrent)
@@ -53,12 +52,12 @@ func SetCurrent(ctx context.Context, objects Objects, current Current, name stri
 	}
 }
 
-// swapLock is the file that a swap of a folder has locked. No name of an object begins with a point.
+// swapLock is the file that a swap in a folder locks. No name of an object begins with a point.
 const swapLock = temporary + "/.swap"
 
-// Swap is Current's. The lock (flock) ends with its process, so a process that was killed can neither keep it nor
-// rename a file later. A process that is paused keeps it, so that nobody else swaps meanwhile. The rename is atomic,
-// so a reader sees either content as a whole.
+// Swap implements Current. The lock (flock) ends with its process, so a process that was killed cannot keep it, and
+// cannot rename a file later. A process that is paused keeps it, so no other process swaps meanwhile. The rename is
+// atomic, so a reader sees one of the two contents as a whole.
 func (f *folder) Swap(ctx context.Context, name string, old, new []byte) error {
 	if err := checkCurrent(name, old, new); err != nil {
 		return err
@@ -74,29 +73,29 @@ func (f *folder) Swap(ctx context.Context, name string, old, new []byte) error {
 	case err != nil && !errors.Is(err, ErrAbsent) && !errors.Is(err, ErrTooLong):
 		return fmt.Errorf("stores: swap %s: %w", name, err)
 	case isThere && bytes.Equal(stored, new):
-		// Another process may have been killed before this.
-		return f.disk.keep(filepath.Dir(f.path(name)))
+		// The process that put it may have been killed before its sync.
+		return f.disk.sync(filepath.Dir(f.path(name)))
 	case errors.Is(err, ErrTooLong), isThere != (old != nil), !bytes.Equal(stored, old):
 		return fmt.Errorf("stores: swap %s: %w", name, ErrLost)
 	}
-	whole, err := f.disk.write(new)
+	temporaryPath, err := f.disk.write(new)
 	if err != nil {
 		return err
 	}
-	// A file that has its name is no longer there to be removed.
-	defer os.Remove(whole)
+	// This removes nothing if the file was renamed.
+	defer os.Remove(temporaryPath)
 	if err := MakeFolder(filepath.Dir(f.path(name))); err != nil {
 		return err
 	}
-	if err := os.Rename(whole, f.path(name)); err != nil {
+	if err := os.Rename(temporaryPath, f.path(name)); err != nil {
 		return fmt.Errorf("stores: swap %s: %w", name, err)
 	}
-	return f.disk.keep(filepath.Dir(f.path(name)))
+	return f.disk.sync(filepath.Dir(f.path(name)))
 }
 
 // lockFor locks a file, which it makes if it is not there. It waits for the lock until the context ends.
 func lockFor(ctx context.Context, path string) (unlock func(), err error) {
-	// A user who may open the file may keep all others waiting.
+	// Only the owner may open the file, since each user who can open it can keep all others waiting.
 	lock, err := os.OpenFile(path, os.O_RDWR|os.O_CREATE, 0o600)
 	if errors.Is(err, fs.ErrNotExist) {
 		return nil, fmt.Errorf("%w: the folder of %s", ErrAbsent, path)

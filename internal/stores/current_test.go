@@ -19,13 +19,13 @@ import (
 	"wagtenib/internal/testbucket"
 )
 
-// publicPlace is where a public log's objects are: each call of open returns another process's view of it.
+// publicPlace holds the objects of a public log. Each call of open returns the view of another process.
 type publicPlace struct {
 	open   func(t *testing.T) (Objects, Current)
 	bucket *testbucket.Bucket
 }
 
-// publicPlaces are a folder and a bucket.
+// publicPlaces returns a folder and a bucket.
 func publicPlaces(t *testing.T) map[string]publicPlace {
 	t.Helper()
 	opened := func(address string) func(t *testing.T) (Objects, Current) {
@@ -56,14 +56,14 @@ func TestSwapReplacesWhatWasCompared(t *testing.T) {
 			objects, current := place.open(t)
 			_, other := place.open(t)
 			if err := current.Swap(ctx, "checkpoint", []byte("0"), []byte("1")); !errors.Is(err, ErrLost) {
-				t.Errorf("a swap of a content where there is none: %v", err)
+				t.Errorf("a swap of a content if there is none: %v", err)
 			}
 			for _, each := range []Current{current, other} {
-				// The second call finds that it is done.
+				// The second call finds that the swap is done.
 				must(t, each.Swap(ctx, "checkpoint", nil, []byte("1")))
 			}
 			if err := other.Swap(ctx, "checkpoint", nil, []byte("2")); !errors.Is(err, ErrLost) {
-				t.Errorf("a swap of nothing where there is a content: %v", err)
+				t.Errorf("a swap of nothing if there is a content: %v", err)
 			}
 			must(t, other.Swap(ctx, "checkpoint", []byte("1"), []byte("2")))
 			if err := current.Swap(ctx, "checkpoint", []byte("1"), []byte("3")); !errors.Is(err, ErrLost) {
@@ -78,7 +78,7 @@ func TestSwapReplacesWhatWasCompared(t *testing.T) {
 				t.Errorf("%q, %v", got, err)
 			}
 			if err := current.Swap(ctx, ".writing", nil, []byte("1")); !errors.Is(err, ErrName) {
-				t.Errorf("a name that cannot be: %v", err)
+				t.Errorf("an invalid name: %v", err)
 			}
 			if err := current.Swap(ctx, "checkpoint", []byte("2"), make([]byte, MaxCurrent+1)); !errors.Is(err, ErrTooLong) {
 				t.Errorf("a content that is too long: %v", err)
@@ -87,9 +87,10 @@ func TestSwapReplacesWhatWasCompared(t *testing.T) {
 	}
 }
 
-// TestSwapsAtOnce has eight writers raise one number, each by its own view of the store, while answers are lost and
-// requests refused. A reader sees it rise only, and no swap that was acknowledged is missing.
-func TestSwapsAtOnce(t *testing.T) {
+// TestSwapsOfManyWriters lets eight writers raise one number, each with its own view of the store, while responses are
+// lost and requests are refused. A reader sees that the number never falls, and no swap that was acknowledged is
+// missing.
+func TestSwapsOfManyWriters(t *testing.T) {
 	const writers, each = 8, 12
 	for name, place := range publicPlaces(t) {
 		t.Run(name, func(t *testing.T) {
@@ -139,8 +140,8 @@ func TestSwapsAtOnce(t *testing.T) {
 				content, err := objects.Get(ctx, "checkpoint", MaxCurrent)
 				must(t, err)
 				now := numberOf(content)
-				// A swap whose answer was lost may be done, and replaced before it is looked for: its writer makes one
-				// more.
+				// A swap whose response was lost may be done, and be replaced before its writer looks for it. Then the
+				// writer makes one more.
 				isMore := place.bucket != nil && now > writers*each
 				if now < seen || isOver && now != writers*each && !isMore {
 					t.Fatalf("%d is read after %d (the writers have ended: %t)", now, seen, isOver)
@@ -172,22 +173,22 @@ func TestLateSwapChangesNothing(t *testing.T) {
 	must(t, early.Swap(limited(t), "checkpoint", nil, []byte("1")))
 	// The late one knows what is there, so that its next request is the put.
 	must(t, late.Swap(limited(t), "checkpoint", []byte("1"), []byte("2")))
-	held, goesOn := make(chan struct{}), make(chan struct{})
+	held, goOn := make(chan struct{}), make(chan struct{})
 	tag := testbucket.Object{Content: []byte("2")}.ETag()
 	var isHeld atomic.Bool
 	bucket.Before = func(_ int, r *http.Request) {
 		if r.Method == http.MethodPut && r.Header.Get("If-Match") == tag && !isHeld.Swap(true) {
 			close(held)
-			<-goesOn
+			<-goOn
 		}
 	}
-	came := make(chan error, 1)
+	lateErr := make(chan error, 1)
 	ctx := limited(t)
-	go func() { came <- late.Swap(ctx, "checkpoint", []byte("2"), []byte("3 late")) }()
+	go func() { lateErr <- late.Swap(ctx, "checkpoint", []byte("2"), []byte("3 late")) }()
 	<-held
 	must(t, early.Swap(limited(t), "checkpoint", []byte("2"), []byte("4")))
-	close(goesOn)
-	if err := <-came; !errors.Is(err, ErrLost) {
+	close(goOn)
+	if err := <-lateErr; !errors.Is(err, ErrLost) {
 		t.Errorf("the late swap: %v", err)
 	}
 	if got, err := objects.Get(limited(t), "checkpoint", MaxCurrent); err != nil || string(got) != "4" {
@@ -229,21 +230,22 @@ func TestDataTilesAreStoredInGzip(t *testing.T) {
 		"issuer/00":         {Type: "application/pkix-cert", Cache: keptForEver},
 	} {
 		must(t, public.Put(limited(t), name, content))
-		// Another node, or the same one after a restart, puts it again. Each compares contents.
+		// Another node, or the same one after a restart, puts the object again. Each put compares the contents.
 		must(t, public.Put(limited(t), name, content))
 		must(t, plain.Put(limited(t), name, content))
 		if err := plain.Put(limited(t), name, content[1:]); !errors.Is(err, ErrOther) {
 			t.Errorf("%s: another content: %v", name, err)
 		}
-		of, _ := bucket.Object(name)
-		if of.Encoding != want.Encoding || of.Type != want.Type || of.Cache != want.Cache {
-			t.Errorf("%s has the headers %q, %q and %q", name, of.Encoding, of.Type, of.Cache)
+		stored, _ := bucket.Object(name)
+		if stored.Encoding != want.Encoding || stored.Type != want.Type || stored.Cache != want.Cache {
+			t.Errorf("%s has the headers %q, %q and %q", name, stored.Encoding, stored.Type, stored.Cache)
 		}
 		if want.Encoding == "gzip" {
-			reader, err := gzip.NewReader(bytes.NewReader(of.Content))
+			reader, err := gzip.NewReader(bytes.NewReader(stored.Content))
 			must(t, err)
-			if got, err := io.ReadAll(reader); err != nil || !bytes.Equal(got, content) || len(of.Content) > len(content)/10 {
-				t.Errorf("%s: %d bytes in %d, %v", name, len(got), len(of.Content), err)
+			got, err := io.ReadAll(reader)
+			if err != nil || !bytes.Equal(got, content) || len(stored.Content) > len(content)/10 {
+				t.Errorf("%s: %d bytes in %d, %v", name, len(got), len(stored.Content), err)
 			}
 		}
 		for _, store := range []Objects{public, plain} {
@@ -251,26 +253,27 @@ func TestDataTilesAreStoredInGzip(t *testing.T) {
 			if got, err := store.Get(ctx, name, int64(len(content))); err != nil || !bytes.Equal(got, content) {
 				t.Errorf("%s: %d bytes, %v", name, len(got), err)
 			}
-			if is := packed.Name == name && bytes.Equal(packed.Gzip, of.Content); is != (want.Encoding == "gzip") {
-				t.Errorf("%s is kept as it is stored: %t", name, is)
+			isKept := packed.Name == name && bytes.Equal(packed.Gzip, stored.Content)
+			if isKept != (want.Encoding == "gzip") {
+				t.Errorf("%s is kept as it is stored: %t", name, isKept)
 			}
 			var long TooLong
 			_, err := store.Get(limited(t), name, int64(len(content))-1)
 			if !errors.As(err, &long) || long.Length != int64(len(content)) {
-				t.Errorf("%s: more than may be: %v", name, err)
+				t.Errorf("%s: more than the maximum: %v", name, err)
 			}
 		}
 	}
 	must(t, plain.Put(limited(t), "tile/data/002", content))
-	if of, _ := bucket.Object("tile/data/002"); of.Encoding != "" || !bytes.Equal(of.Content, content) {
-		t.Errorf("a bucket that is not public has %d bytes in %q", len(of.Content), of.Encoding)
+	if stored, _ := bucket.Object("tile/data/002"); stored.Encoding != "" || !bytes.Equal(stored.Content, content) {
+		t.Errorf("a bucket that is not public has %d bytes in %q", len(stored.Content), stored.Encoding)
 	}
 	if got, err := public.Get(limited(t), "tile/data/002", manyBytes); err != nil || !bytes.Equal(got, content) {
 		t.Errorf("a tile without compression: %d bytes, %v", len(got), err)
 	}
 }
 
-// TestDamagedGzipIsNoContent: an object that is cut, or has another byte, or no gzip, gives an error and no bytes.
+// TestDamagedGzipIsNoContent: for an object that is cut, changed, or not in gzip, Get returns an error and no bytes.
 func TestDamagedGzipIsNoContent(t *testing.T) {
 	bucket := testbucket.New(true)
 	public, _, err := OpenPublic(limited(t), addressOfS3(serve(t, bucket), ""))
@@ -286,7 +289,7 @@ func TestDamagedGzipIsNoContent(t *testing.T) {
 	for what, damaged := range map[string][]byte{
 		"nothing": {}, "three bytes": whole.Content[:3], "cut": whole.Content[:len(whole.Content)-9],
 		"changed": changed, "no gzip": content,
-		"more behind it": append(bytes.Clone(whole.Content), whole.Content...),
+		"more after it": append(bytes.Clone(whole.Content), whole.Content...),
 	} {
 		bucket.Set(name, testbucket.Object{Content: damaged, Encoding: "gzip"})
 		if got, err := public.Get(limited(t), name, MaxObject); err == nil || got != nil {
@@ -304,10 +307,10 @@ func TestSwapWaitsForItsContext(t *testing.T) {
 	unlock, err := lockFor(limited(t), filepath.Join(root, swapLock))
 	must(t, err)
 	ctx, cancel := context.WithCancel(context.Background())
-	came := make(chan error, 1)
-	go func() { came <- current.Swap(ctx, "checkpoint", nil, []byte("1")) }()
+	swapErr := make(chan error, 1)
+	go func() { swapErr <- current.Swap(ctx, "checkpoint", nil, []byte("1")) }()
 	cancel()
-	if err := <-came; !errors.Is(err, context.Canceled) {
+	if err := <-swapErr; !errors.Is(err, context.Canceled) {
 		t.Errorf("%v", err)
 	}
 	if _, err := os.Stat(filepath.Join(root, "checkpoint")); !os.IsNotExist(err) {

@@ -11,28 +11,28 @@ import (
 	"time"
 )
 
-// temporary is the folder of files that aren't whole yet. No name of an object begins with a point.
+// temporary is the folder of files that are still being written. No name of an object begins with a point.
 const temporary = ".writing"
 
 // abandoned is the age at which a temporary file counts as abandoned by its writer. A writer that is still running gets
 // an error.
 const abandoned = time.Hour
 
-// maxSynced is how many folders are remembered as written to the disk.
+// maxSynced is how many folders are remembered as synced.
 const maxSynced = 4096
 
-// fsync is File.Sync; the tests look at what is synced when.
+// fsync calls File.Sync. Tests replace it to see when something is synced, or to let it fail.
 var fsync = (*os.File).Sync
 
-// disk writes files below a folder so that what is acknowledged stays when power fails: a file is written under a name
-// of its own, then to the disk, then gets its name, and then the folders with that name go to the disk.
+// disk writes files below a folder so that a file whose write was acknowledged persists even if power fails. A file is
+// written under a temporary name and synced. Then it gets its name, and then the folders on the path to it are synced.
 type disk struct {
 	root   string
 	mu     sync.Mutex
 	synced map[string]bool
 }
 
-// openDisk makes the folder where it isn't there, and takes away what killed writers left.
+// openDisk makes the folder if it does not exist, and removes the temporary files that killed writers left.
 func openDisk(root string) (*disk, error) {
 	root, err := filepath.Abs(root)
 	if err != nil {
@@ -45,14 +45,13 @@ func openDisk(root string) (*disk, error) {
 	if err := SyncFolder(filepath.Dir(root)); err != nil {
 		return nil, err
 	}
-	if err := d.sweep(); err != nil {
+	if err := d.removeAbandoned(); err != nil {
 		return nil, err
 	}
 	return d, SyncFolder(root)
 }
 
-// MakeFolder makes a folder and those above it where they aren't there, and writes the names of those that it made to
-// the disk.
+// MakeFolder makes a folder and the folders above it if they do not exist. It syncs the names of those that it made.
 func MakeFolder(path string) error {
 	err := os.Mkdir(path, 0o755)
 	if errors.Is(err, fs.ErrNotExist) {
@@ -70,8 +69,8 @@ func MakeFolder(path string) error {
 	return SyncFolder(filepath.Dir(path))
 }
 
-// sweep takes away the files of writers that were killed.
-func (d *disk) sweep() error {
+// removeAbandoned removes the temporary files of writers that were killed.
+func (d *disk) removeAbandoned() error {
 	folder := filepath.Join(d.root, temporary)
 	entries, err := os.ReadDir(folder)
 	if err != nil {
@@ -89,15 +88,15 @@ func (d *disk) sweep() error {
 	return nil
 }
 
-// maxFreeing is how many files are freed at once beside everything else.
+// maxFreeing is how many files are freed at once in the background.
 const maxFreeing = 8
 
 var freeing = make(chan struct{}, maxFreeing)
 
-// freesLater calls do, which takes the name of a file away or gives it to another file, and returns its error. The file
-// is freed beside everything else: a file system that tells the disk at once what is free (mount option discard) takes
-// a millisecond for that, and a step frees five files.
-func freesLater(path string, do func() error) error {
+// freeLater calls do, which removes the name of a file or gives it to another file, and returns its error. The file is
+// freed in the background. On a disk that is mounted with the option discard, freeing a file takes a millisecond, and a
+// step frees five files.
+func freeLater(path string, do func() error) error {
 	file, absent := os.OpenFile(path, os.O_RDONLY|syscall.O_NONBLOCK, 0)
 	err := do()
 	if absent != nil {
@@ -115,7 +114,7 @@ func freesLater(path string, do func() error) error {
 	return err
 }
 
-// awaiting is held by who waits for what is being freed.
+// awaiting is held by the goroutine that waits in awaitFreed.
 var awaiting sync.Mutex
 
 // awaitFreed waits until all files are freed that are being freed now.
@@ -130,8 +129,8 @@ func awaitFreed() {
 	}
 }
 
-// write makes a file of the content that has no public name yet, on the disk, and gives its path. If the disk is full,
-// it waits for what is being freed, and tries once more.
+// write writes the content to a temporary file, syncs it, and returns its path. If the disk is full, it waits for the
+// files that are being freed, and tries once more.
 func (d *disk) write(content []byte) (path string, err error) {
 	if path, err = d.writeOnce(content); errors.Is(err, syscall.ENOSPC) {
 		awaitFreed()
@@ -146,8 +145,8 @@ func (d *disk) writeOnce(content []byte) (path string, err error) {
 		return "", fmt.Errorf("stores: write: %w", err)
 	}
 	defer func() {
-		if closing := file.Close(); err == nil && closing != nil {
-			err = fmt.Errorf("stores: write: %w", closing)
+		if closeErr := file.Close(); err == nil && closeErr != nil {
+			err = fmt.Errorf("stores: write: %w", closeErr)
 		}
 		if err != nil {
 			os.Remove(file.Name())
@@ -165,24 +164,25 @@ func (d *disk) writeOnce(content []byte) (path string, err error) {
 	return file.Name(), nil
 }
 
-// keep sees to it that a folder below the root is on the disk, with all names on the way to it.
-func (d *disk) keep(folder string) error {
+// sync syncs a folder below the root, and the names of all folders on the path to it.
+func (d *disk) sync(folder string) error {
 	if err := SyncFolder(folder); err != nil {
 		return err
 	}
-	var walked []string
+	var synced []string
 	for folder != d.root && !d.isSynced(folder) {
-		walked = append(walked, folder)
+		synced = append(synced, folder)
 		folder = filepath.Dir(folder)
 		if err := SyncFolder(folder); err != nil {
 			return err
 		}
 	}
-	d.setSynced(walked)
+	d.setSynced(synced)
 	return nil
 }
 
-// isSynced reports whether the folder's own name is known to be on the disk, and so those of all folders above it.
+// isSynced reports whether the folder's own name is known to be on the disk. Then the names of all folders above it are
+// there, too.
 func (d *disk) isSynced(folder string) bool {
 	d.mu.Lock()
 	defer d.mu.Unlock()
@@ -200,22 +200,22 @@ func (d *disk) setSynced(folders []string) {
 	}
 }
 
-// forget has a folder's name be written to the disk again: it was taken away.
+// forget notes that a folder may have been removed, so that its name is synced again.
 func (d *disk) forget(folder string) {
 	d.mu.Lock()
 	defer d.mu.Unlock()
 	delete(d.synced, folder)
 }
 
-// SyncFolder has the names in a folder written to the disk.
+// SyncFolder syncs the names in a folder to the disk.
 func SyncFolder(path string) error {
 	folder, err := os.Open(path)
 	if err != nil {
 		return fmt.Errorf("stores: folder: %w", err)
 	}
 	err = fsync(folder)
-	if closing := folder.Close(); err == nil {
-		err = closing
+	if closeErr := folder.Close(); err == nil {
+		err = closeErr
 	}
 	if err != nil {
 		return fmt.Errorf("stores: folder: %w", err)

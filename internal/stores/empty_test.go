@@ -10,9 +10,9 @@ import (
 	"testing"
 )
 
-// TestEmptyFoldersGo: a folder of objects goes with the last of them, and comes back with the next; the first folder of
-// a name stays.
-func TestEmptyFoldersGo(t *testing.T) {
+// TestRemovesEmptyFolders: a folder is removed with its last object, and made again with the next object. The first
+// folder of a name is not removed.
+func TestRemovesEmptyFolders(t *testing.T) {
 	root, ctx := t.TempDir(), limited(t)
 	objects, err := OpenFolder(root)
 	if err != nil {
@@ -41,20 +41,22 @@ func TestEmptyFoldersGo(t *testing.T) {
 				t.Fatal(err)
 			}
 			if has(step.folder) != step.stays {
-				t.Errorf("round %d: behind %s the folder %s is there: %v", round, step.name, step.folder, !step.stays)
+				t.Errorf("round %d: after %s was deleted, the folder %s exists: %v", round, step.name, step.folder,
+					!step.stays)
 			}
 		}
 		if !has("tile") {
-			t.Error("the first folder of a name is gone")
+			t.Error("the first folder of a name was removed")
 		}
 	}
 	if err := objects.Delete(ctx, "tile/0/000.p/1"); err != nil {
-		t.Errorf("what isn't there: %v", err)
+		t.Errorf("an object that does not exist: %v", err)
 	}
 }
 
-// TestPutsBesideDeletes: while the last object of a folder goes, others come; each stays that was put, and not deleted.
-func TestPutsBesideDeletes(t *testing.T) {
+// TestPutsDuringDeletes: while some calls delete the last object of a folder, others put objects into it. All objects
+// persist that were put and not deleted.
+func TestPutsDuringDeletes(t *testing.T) {
 	root, ctx := t.TempDir(), limited(t)
 	var all sync.WaitGroup
 	errs := make(chan error, 8)
@@ -67,14 +69,14 @@ func TestPutsBesideDeletes(t *testing.T) {
 		go func(i int) {
 			defer all.Done()
 			for round := 0; round < 50; round++ {
-				going, staying := fmt.Sprintf("tile/0/%03d.p/going-%d", round, i),
+				deleted, kept := fmt.Sprintf("tile/0/%03d.p/deleted-%d", round, i),
 					fmt.Sprintf("tile/0/%03d.p/%d", round, i)
-				err := objects.Put(ctx, going, []byte(going))
+				err := objects.Put(ctx, deleted, []byte(deleted))
 				if err == nil {
-					err = objects.Delete(ctx, going)
+					err = objects.Delete(ctx, deleted)
 				}
 				if err == nil {
-					err = objects.Put(ctx, staying, []byte(staying))
+					err = objects.Put(ctx, kept, []byte(kept))
 				}
 				if err != nil {
 					errs <- err

@@ -9,14 +9,14 @@ import (
 	"go.uber.org/zap"
 )
 
-// Etcd has the endpoints of a cluster, and the prefix of a log's keys in it. TLS settings and user names are in the
+// Etcd holds the endpoints of a cluster, and the prefix of a log's keys in it. TLS settings and user names are in the
 // client's own Config.
 type Etcd struct {
 	Config clientv3.Config
 	Prefix string
 }
 
-// open connects a client. The first call of it finds out whether a member answers.
+// open makes a client. Only the first call of the client shows whether a member answers.
 func (at Etcd) open() (*members, error) {
 	if at.Prefix == "" {
 		return nil, fmt.Errorf("%w: the prefix in etcd", ErrEmpty)
@@ -44,11 +44,12 @@ func (at Etcd) open() (*members, error) {
 
 // inEtcd keeps the lock in two keys: the text, and the size and the timestamp of the published head.
 //
-// It asks of the cluster: transactions and reads are linearizable (reads are, unless they are said to be serializable,
-// which none here is), and what a majority acknowledged stays: members keep their data folders, and fsync is left on
-// (--unsafe-no-fsync isn't given). A restore from a backup sets the lock back, and isn't to be done to a log. Old
-// revisions, which nobody reads, are compacted (--auto-compaction-retention): each swap and each place leaves one, and
-// they fill the cluster's quota.
+// The cluster must promise that transactions and reads are linearizable, and that what a majority acknowledged
+// persists. Reads are linearizable unless the client asks for a serializable one, and none here does. For writes to
+// persist, members must keep their data folders and must not run with --unsafe-no-fsync. A restore from a backup rolls
+// the lock back, so it must not be done while a log uses the cluster. Old revisions must be compacted
+// (--auto-compaction-retention): each swap and each raise leaves one, nobody reads them, and they fill the cluster's
+// quota.
 type inEtcd struct {
 	client     *members
 	text, head string
@@ -63,14 +64,15 @@ func OpenEtcd(at Etcd) (Lock, error) {
 	return &inEtcd{client, at.Prefix + "/text", at.Prefix + "/head"}, nil
 }
 
-// isAbsent is true of a key that isn't there.
+// isAbsent returns the condition that a key does not exist.
 func isAbsent(key string) clientv3.Cmp { return clientv3.Compare(clientv3.Version(key), "=", 0) }
 
-// inOrder writes a number so that the order of texts is that of numbers.
+// inOrder returns a number as a text of 20 digits, so that texts have the order of the numbers.
 func inOrder(number uint64) string { return fmt.Sprintf("%020d", number) }
 
-// sent wraps the error of a write: it is unknown whether it was done, unless etcd says that it wasn't.
-func sent(what string, err error) error {
+// etcdWriteError wraps the error of a write. It is ErrUnknown, since the write may have been done, unless etcd reports
+// that it was not.
+func etcdWriteError(what string, err error) error {
 	if isDenied(err) {
 		return fmt.Errorf("stores: etcd: %s: %w", what, err)
 	}
@@ -84,7 +86,7 @@ func (e *inEtcd) Create(ctx context.Context, text string) error {
 	answer, err := e.client.Txn(ctx).If(isAbsent(e.text), isAbsent(e.head)).
 		Then(clientv3.OpPut(e.text, text), clientv3.OpPut(e.head, headInOrder(Published{}))).Commit()
 	if err != nil {
-		return sent("create", err)
+		return etcdWriteError("create", err)
 	}
 	if !answer.Succeeded {
 		return ErrExists
@@ -111,34 +113,34 @@ func (e *inEtcd) Swap(ctx context.Context, old, new string) error {
 	if err := checkText(old, new); err != nil {
 		return err
 	}
-	// That no key is there is false of each comparison with a value.
+	// If the key does not exist, each comparison with its value is false.
 	answer, err := e.client.commit(ctx, func(swap clientv3.Txn) clientv3.Txn {
 		return swap.If(clientv3.Compare(clientv3.Value(e.text), "=", old)).Then(clientv3.OpPut(e.text, new)).Else(
 			clientv3.OpGet(e.text))
 	})
 	if err != nil {
-		return sent("swap", err)
+		return etcdWriteError("swap", err)
 	}
 	if answer.Succeeded {
 		return nil
 	}
-	standing := answer.Responses[0].GetResponseRange().Kvs
+	current := answer.Responses[0].GetResponseRange().Kvs
 	switch {
-	case len(standing) == 0:
+	case len(current) == 0:
 		return ErrAbsent
-	case string(standing[0].Value) == new:
+	case string(current[0].Value) == new:
 		return nil
 	}
 	return ErrLost
 }
 
-// headInOrder writes a size and a moment so that the order of texts is that of heads.
+// headInOrder returns a size and a timestamp as a text, so that texts have the order of the heads.
 func headInOrder(p Published) string { return inOrder(p.Size) + "-" + inOrder(p.Timestamp) }
 
-// headFormInOrder reads what headInOrder wrote.
+// headFormInOrder is the format of the text that headInOrder returns.
 const headFormInOrder = "%020d-%020d"
 
-// Published is Lock's.
+// Published implements Lock.
 func (e *inEtcd) Published(ctx context.Context) (published Published, err error) {
 	head, err := e.get(ctx, e.head)
 	if err != nil {
@@ -150,20 +152,20 @@ func (e *inEtcd) Published(ctx context.Context) (published Published, err error)
 	return published, nil
 }
 
-// Raise is Lock's.
+// Raise implements Lock.
 func (e *inEtcd) Raise(ctx context.Context, published Published) error {
 	if err := checkNumbers(published.Size, published.Timestamp); err != nil {
 		return err
 	}
 	head := headInOrder(published)
 	answer, err := e.client.commit(ctx, func(txn clientv3.Txn) clientv3.Txn {
-		// (of a key that isn't there each comparison of values is false)
+		// The outer transaction distinguishes a missing key from a head that is not older. Both fail the comparison.
 		raise := clientv3.OpTxn([]clientv3.Cmp{clientv3.Compare(clientv3.Value(e.head), "<", head)},
 			[]clientv3.Op{clientv3.OpPut(e.head, head)}, nil)
 		return txn.If(isAbsent(e.head)).Else(raise)
 	})
 	if err != nil {
-		return sent("raise", err)
+		return etcdWriteError("raise", err)
 	}
 	if answer.Succeeded {
 		return ErrAbsent

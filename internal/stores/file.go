@@ -16,25 +16,25 @@ import (
 const (
 	lockFile = "lock"
 	textFile = "text"
-	// headFile has the size and the timestamp of the published head. It is replaced as a whole.
+	// headFile contains the size and the timestamp of the published head. It is replaced as a whole.
 	headFile = "head"
 )
 
 // file keeps the lock in a folder. The folder has a file with the text, one with the published head, and one that a
 // process locks by flock(2) while it writes. Several processes of one machine may use the folder at once. Reading needs
-// no flock. The file system must promise that
-// flock(2) excludes other processes and ends with its process, that rename(2) is atomic, and that a file or a folder
-// persists after fsync(2). NFS is not enough, since its flock may exclude only processes of the same machine.
+// no flock. The file system must promise that flock(2) excludes other processes and ends with its process, that
+// rename(2) is atomic, and that a file or a folder persists after fsync(2). NFS is not enough, since its flock may
+// exclude only processes of the same machine.
 type file struct {
 	disk *disk
 	mu   sync.Mutex
-	// text and raised are what this process knows to be on the disk. (No text comes again, and what is published only
-	// rises.)
+	// text and raised are the text and the published head that this process knows to be on the disk. Knowing them is
+	// enough, since no text is set twice and the published head never goes back.
 	text   string
 	raised Published
 }
 
-// OpenFile opens the lock in a folder. It makes the folder if it does not exist, and creates no lock in it.
+// OpenFile opens the lock in a folder. It makes the folder if it does not exist, and does not create a lock in it.
 func OpenFile(root string) (Lock, error) {
 	d, err := openDisk(root)
 	if err != nil {
@@ -45,16 +45,17 @@ func OpenFile(root string) (Lock, error) {
 
 func (f *file) path(name string) string { return filepath.Join(f.disk.root, name) }
 
-// locked calls do while this process has locked the lock file by flock(2). It waits for that until the context ends.
-func (f *file) locked(ctx context.Context, do func() error) error {
-	// A user who may open the file may keep all others waiting.
-	taken, err := os.OpenFile(f.path(lockFile), os.O_RDWR|os.O_CREATE, 0o600)
+// withFlock calls do while this process has locked the lock file by flock(2). It waits for the flock until the context
+// ends.
+func (f *file) withFlock(ctx context.Context, do func() error) error {
+	// Only the owner may open the file, since each user who can open it can keep all others waiting.
+	opened, err := os.OpenFile(f.path(lockFile), os.O_RDWR|os.O_CREATE, 0o600)
 	if err != nil {
 		return fmt.Errorf("stores: lock: %w", err)
 	}
-	defer taken.Close()
+	defer opened.Close()
 	for {
-		err := syscall.Flock(int(taken.Fd()), syscall.LOCK_EX|syscall.LOCK_NB)
+		err := syscall.Flock(int(opened.Fd()), syscall.LOCK_EX|syscall.LOCK_NB)
 		if err == nil {
 			break
 		}
@@ -73,8 +74,8 @@ func (f *file) locked(ctx context.Context, do func() error) error {
 	return do()
 }
 
-// raw returns a file's content, which may not be on the disk yet.
-func (f *file) raw(name string) (string, error) {
+// readUnsynced returns a file's content, which may not be on the disk yet.
+func (f *file) readUnsynced(name string) (string, error) {
 	content, err := os.ReadFile(f.path(name))
 	if errors.Is(err, fs.ErrNotExist) {
 		return "", ErrAbsent
@@ -85,79 +86,79 @@ func (f *file) raw(name string) (string, error) {
 	return string(content), nil
 }
 
-// keep syncs the text that was read to the disk, since the process that wrote it may have been killed before its own
-// sync. If the file system is read-only, nothing can be lost.
-func (f *file) keep() error {
+// sync syncs what was read to the disk, since the process that wrote it may have been killed before its own sync. If
+// the file system is read-only, nothing can be lost.
+func (f *file) sync() error {
 	if err := SyncFolder(f.disk.root); err != nil && !errors.Is(err, syscall.EROFS) {
 		return fmt.Errorf("stores: lock: %w", err)
 	}
 	return nil
 }
 
-// readText returns the text, which is on the disk.
+// readText returns the text after it made sure that the text is on the disk.
 func (f *file) readText() (string, error) {
-	text, err := f.raw(textFile)
+	text, err := f.readUnsynced(textFile)
 	if err == nil {
-		err = f.keepText(text)
+		err = f.syncText(text)
 	}
 	return text, err
 }
 
-// keepText sees to it that a text that was read is on the disk.
-func (f *file) keepText(text string) error {
+// syncText makes sure that a text that was read is on the disk.
+func (f *file) syncText(text string) error {
 	f.mu.Lock()
 	known := f.text == text && text != ""
 	f.mu.Unlock()
 	if known {
 		return nil
 	}
-	err := f.keep()
+	err := f.sync()
 	if err == nil {
-		f.knowText(text)
+		f.noteText(text)
 	}
 	return err
 }
 
-// knowText notes what is on the disk.
-func (f *file) knowText(text string) {
+// noteText notes that a text is on the disk.
+func (f *file) noteText(text string) {
 	f.mu.Lock()
 	defer f.mu.Unlock()
 	f.text = text
 }
 
-// keepRaised sees to it that what is published is on the disk, as it was read.
-func (f *file) keepRaised(published Published) error {
+// syncRaised makes sure that a published head that was read is on the disk.
+func (f *file) syncRaised(published Published) error {
 	f.mu.Lock()
 	known := f.raised == published && published != Published{}
 	f.mu.Unlock()
 	if known {
 		return nil
 	}
-	err := f.keep()
+	err := f.sync()
 	if err == nil {
-		f.knowRaised(published)
+		f.noteRaised(published)
 	}
 	return err
 }
 
-// knowRaised notes what of the published is on the disk.
-func (f *file) knowRaised(published Published) {
+// noteRaised notes that a published head is on the disk.
+func (f *file) noteRaised(published Published) {
 	f.mu.Lock()
 	defer f.mu.Unlock()
 	f.raised = published
 }
 
-// set returns a file another content, which is on the disk before the file gets its name. Errors before that are plain;
-// after it they are ErrUnknown.
+// set replaces the content of a file. The new content is on the disk before the file gets its name. An error after the
+// file has its name is ErrUnknown. An error before that is not, and means that nothing was changed.
 func (f *file) set(name, content string) error {
-	whole, err := f.disk.write([]byte(content))
+	temporaryPath, err := f.disk.write([]byte(content))
 	if err != nil {
 		return err
 	}
-	// (a file that has its name is no longer there to be removed)
-	defer os.Remove(whole)
-	named := func() error { return os.Rename(whole, f.path(name)) }
-	if err := freesLater(f.path(name), named); err != nil {
+	// This removes nothing if the file was renamed.
+	defer os.Remove(temporaryPath)
+	rename := func() error { return os.Rename(temporaryPath, f.path(name)) }
+	if err := freeLater(f.path(name), rename); err != nil {
 		return fmt.Errorf("stores: lock: %w", err)
 	}
 	if err := SyncFolder(f.disk.root); err != nil {
@@ -170,14 +171,14 @@ func (f *file) Create(ctx context.Context, text string) error {
 	if err := checkText(text); err != nil {
 		return err
 	}
-	return f.locked(ctx, func() error {
+	return f.withFlock(ctx, func() error {
 		if _, err := f.readText(); err == nil {
 			return ErrExists
 		} else if !errors.Is(err, ErrAbsent) {
 			return err
 		}
-		// A published head without a text was left by a process that was killed here, or the text was lost.
-		published, err := f.published()
+		// If there is a published head and no text, a process was killed at this point, or the text was lost.
+		published, err := f.readHead()
 		if err == nil && published != (Published{}) {
 			return fmt.Errorf("%w: its text is missing, but %d entries are published", ErrExists, published.Size)
 		}
@@ -202,28 +203,28 @@ func (f *file) Swap(ctx context.Context, old, new string) error {
 	if err := checkText(old, new); err != nil {
 		return err
 	}
-	return f.locked(ctx, func() error {
-		// (what is replaced need not be on the disk)
-		standing, err := f.raw(textFile)
+	return f.withFlock(ctx, func() error {
+		// The text that is replaced need not be on the disk.
+		current, err := f.readUnsynced(textFile)
 		switch {
 		case err != nil:
 			return err
-		case standing == new:
-			return f.keepText(new)
-		case standing != old:
+		case current == new:
+			return f.syncText(new)
+		case current != old:
 			return ErrLost
 		}
 		if err := f.set(textFile, new); err != nil {
 			return err
 		}
-		f.knowText(new)
+		f.noteText(new)
 		return nil
 	})
 }
 
-// published returns what headFile says; ErrAbsent if that is not there.
-func (f *file) published() (p Published, err error) {
-	head, err := f.raw(headFile)
+// readHead returns the published head in headFile, or ErrAbsent if that file does not exist.
+func (f *file) readHead() (p Published, err error) {
+	head, err := f.readUnsynced(headFile)
 	if errors.Is(err, ErrAbsent) {
 		return p, fmt.Errorf("stores: lock: %s with the published head is missing: %w", f.path(headFile), err)
 	}
@@ -238,17 +239,18 @@ func (f *file) published() (p Published, err error) {
 	return p, nil
 }
 
-// headForm is how headFile has a size and a moment.
+// headForm is the format of the size and the timestamp in headFile.
 const headForm = "%d %d"
 
-// created returns what is published of a lock that was created; it need not be on the disk.
-func (f *file) created() (Published, error) {
-	if _, err := f.raw(textFile); err != nil {
+// readPublished returns the published head, or ErrAbsent if the lock was not created. The head may not be on the disk
+// yet.
+func (f *file) readPublished() (Published, error) {
+	if _, err := f.readUnsynced(textFile); err != nil {
 		return Published{}, err
 	}
-	published, err := f.published()
+	published, err := f.readHead()
 	if errors.Is(err, ErrAbsent) {
-		// Its text is there: it isn't absent.
+		// The lock is not absent, since its text is there. So this error is not wrapped.
 		return Published{}, fmt.Errorf("%v", err)
 	}
 	return published, err
@@ -258,9 +260,9 @@ func (f *file) Published(ctx context.Context) (Published, error) {
 	if err := ctx.Err(); err != nil {
 		return Published{}, fmt.Errorf("stores: lock: %w", err)
 	}
-	published, err := f.created()
+	published, err := f.readPublished()
 	if err == nil {
-		err = f.keepRaised(published)
+		err = f.syncRaised(published)
 	}
 	if err != nil {
 		return Published{}, err
@@ -272,18 +274,18 @@ func (f *file) Raise(ctx context.Context, published Published) error {
 	if err := checkNumbers(published.Size, published.Timestamp); err != nil {
 		return err
 	}
-	return f.locked(ctx, func() error {
-		standing, err := f.created()
+	return f.withFlock(ctx, func() error {
+		current, err := f.readPublished()
 		if err != nil {
 			return err
 		}
-		if !standing.Before(published) {
-			return f.keepRaised(standing)
+		if !current.Before(published) {
+			return f.syncRaised(current)
 		}
 		if err := f.set(headFile, fmt.Sprintf(headForm, published.Size, published.Timestamp)); err != nil {
 			return err
 		}
-		f.knowRaised(published)
+		f.noteRaised(published)
 		return nil
 	})
 }

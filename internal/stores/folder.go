@@ -21,7 +21,7 @@ type folder struct {
 	disk *disk
 }
 
-// OpenFolder opens the objects below a folder, and makes the folder where it isn't there.
+// OpenFolder opens the objects below a folder. It makes the folder if it does not exist.
 func OpenFolder(root string) (Objects, error) {
 	d, err := openDisk(root)
 	if err != nil {
@@ -34,8 +34,8 @@ func (f *folder) path(name string) string {
 	return filepath.Join(f.disk.root, filepath.FromSlash(name))
 }
 
-// maxMade is how often a folder is made for one object.
-const maxMade = 16
+// maxFolderTries is how often Put tries to make the folder of an object.
+const maxFolderTries = 16
 
 func (f *folder) Put(ctx context.Context, name string, content []byte) error {
 	if err := checkObject(name, content); err != nil {
@@ -45,21 +45,21 @@ func (f *folder) Put(ctx context.Context, name string, content []byte) error {
 		return fmt.Errorf("stores: put %s: %w", name, err)
 	}
 	path := f.path(name)
-	whole, err := f.disk.write(content)
+	temporaryPath, err := f.disk.write(content)
 	if err != nil {
 		return err
 	}
-	defer os.Remove(whole)
-	err = os.Link(whole, path)
-	// (a folder that was made may be taken away again, as long as it is empty)
-	for try := 0; errors.Is(err, fs.ErrNotExist) && try < maxMade; try++ {
+	defer os.Remove(temporaryPath)
+	err = os.Link(temporaryPath, path)
+	// As long as a new folder is empty, a Delete may remove it again.
+	for try := 0; errors.Is(err, fs.ErrNotExist) && try < maxFolderTries; try++ {
 		f.disk.forget(filepath.Dir(path))
-		// (one that goes while it is made is said to exist)
+		// MkdirAll also returns ErrExist if a folder is removed while MkdirAll makes it.
 		if err := os.MkdirAll(filepath.Dir(path), 0o755); err != nil && !errors.Is(err, fs.ErrNotExist) &&
 			!errors.Is(err, fs.ErrExist) {
 			return fmt.Errorf("stores: put %s: %w", name, err)
 		}
-		err = os.Link(whole, path)
+		err = os.Link(temporaryPath, path)
 	}
 	if errors.Is(err, fs.ErrExist) {
 		err = f.compare(name, content)
@@ -67,39 +67,39 @@ func (f *folder) Put(ctx context.Context, name string, content []byte) error {
 	if err != nil {
 		return fmt.Errorf("stores: put %s: %w", name, err)
 	}
-	// Also where another put it: that one may have been killed before this.
-	return f.disk.keep(filepath.Dir(path))
+	// This is needed even if another process put the object, since that process may have been killed before its sync.
+	return f.disk.sync(filepath.Dir(path))
 }
 
-// compare reports whether the object of a name has this content.
+// compare returns ErrOther if the object of a name has another content.
 func (f *folder) compare(name string, content []byte) error {
-	standing, err := f.read(name, int64(len(content)))
-	if errors.Is(err, ErrTooLong) || err == nil && !bytes.Equal(standing, content) {
+	existing, err := f.read(name, int64(len(content)))
+	if errors.Is(err, ErrTooLong) || err == nil && !bytes.Equal(existing, content) {
 		return ErrOther
 	}
 	return err
 }
 
-func (f *folder) Get(ctx context.Context, name string, most int64) ([]byte, error) {
+func (f *folder) Get(ctx context.Context, name string, maxBytes int64) ([]byte, error) {
 	if err := checkName(name); err != nil {
 		return nil, err
 	}
 	if err := ctx.Err(); err != nil {
 		return nil, fmt.Errorf("stores: get %s: %w", name, err)
 	}
-	content, err := f.read(name, most)
+	content, err := f.read(name, maxBytes)
 	if err != nil {
 		return nil, fmt.Errorf("stores: get %s: %w", name, err)
 	}
 	return content, nil
 }
 
-// isNoFile reports whether an error means that there is no file of this name: nothing, or a folder.
+// isNoFile reports whether an error means that there is no file of this name. There may be nothing or a folder.
 func isNoFile(err error) bool {
 	return errors.Is(err, fs.ErrNotExist) || errors.Is(err, syscall.ENOTDIR) || errors.Is(err, syscall.EISDIR)
 }
 
-func (f *folder) read(name string, most int64) ([]byte, error) {
+func (f *folder) read(name string, maxBytes int64) ([]byte, error) {
 	file, err := os.Open(f.path(name))
 	if isNoFile(err) {
 		return nil, ErrAbsent
@@ -115,7 +115,7 @@ func (f *folder) read(name string, most int64) ([]byte, error) {
 	if info.IsDir() {
 		return nil, ErrAbsent
 	}
-	if info.Size() > most {
+	if info.Size() > maxBytes {
 		return nil, TooLong{info.Size()}
 	}
 	content := make([]byte, info.Size())
@@ -133,20 +133,20 @@ func (f *folder) Delete(ctx context.Context, name string) error {
 		return fmt.Errorf("stores: delete %s: %w", name, err)
 	}
 	path := f.path(name)
-	if err := freesLater(path, func() error { return syscall.Unlink(path) }); err != nil && !isNoFile(err) {
+	if err := freeLater(path, func() error { return syscall.Unlink(path) }); err != nil && !isNoFile(err) {
 		return fmt.Errorf("stores: delete %s: %w", name, err)
 	}
 	f.removeEmpty(filepath.Dir(path))
 	return nil
 }
 
-// removeEmpty removes a folder that is empty, except the root and the folders in it. Otherwise each tile that was
-// partial once would leave a folder. A later Put creates the folder again.
+// removeEmpty removes a folder if it is empty. It does not remove the root and the folders directly in it. Without
+// removeEmpty, each tile that was partial once would leave a folder. A later Put creates the folder again.
 func (f *folder) removeEmpty(path string) {
 	if path == f.disk.root || filepath.Dir(path) == f.disk.root {
 		return
 	}
-	// (one that isn't empty stays)
+	// Rmdir fails if the folder is not empty.
 	if syscall.Rmdir(path) == nil {
 		f.disk.forget(path)
 	}
@@ -154,62 +154,64 @@ func (f *folder) removeEmpty(path string) {
 
 func (f *folder) Close() error { return nil }
 
-func (f *folder) List(ctx context.Context, prefix, after string, most int) ([]string, error) {
+func (f *folder) List(ctx context.Context, prefix, after string, maxNames int) ([]string, error) {
 	if err := checkPrefix(prefix); err != nil {
 		return nil, err
 	}
 	if err := checkAfter(after); err != nil {
 		return nil, err
 	}
-	l := listing{ctx: ctx, root: f.disk.root, after: after, most: atMost(most)}
-	if l.most == 0 {
+	l := listing{ctx: ctx, root: f.disk.root, after: after, maxNames: boundListed(maxNames)}
+	if l.maxNames == 0 {
 		return nil, nil
 	}
-	if err := l.below(prefix, 0); err != nil {
+	if err := l.addBelow(prefix, 0); err != nil {
 		return nil, fmt.Errorf("stores: list %s: %w", prefix, err)
 	}
 	return l.found, nil
 }
 
-// listing is one call of List. It holds at most most entries of each folder on its way, however many there are.
+// listing is one call of List. It holds at most maxNames entries of each folder on the path to the current one, however
+// many entries the folder has.
 type listing struct {
 	ctx         context.Context
 	root, after string
-	most        int
+	maxNames    int
 	found       []string
 }
 
-// below adds the names that begin with the prefix. The prefix is empty, or the name of a folder with a slash at its
+// addBelow adds the names that begin with the prefix. The prefix is empty, or the name of a folder with a slash at its
 // end.
-func (l *listing) below(prefix string, depth int) error {
+func (l *listing) addBelow(prefix string, depth int) error {
 	if depth > maxParts {
 		return fmt.Errorf("%w: of more parts than %d", ErrName, maxParts)
 	}
-	for behind := ""; len(l.found) < l.most; {
-		entries, err := l.first(prefix, behind)
+	for last := ""; len(l.found) < l.maxNames; {
+		entries, err := l.entriesAfter(prefix, last)
 		if err != nil {
 			return err
 		}
 		for _, entry := range entries {
-			if len(l.found) == l.most {
+			if len(l.found) == l.maxNames {
 				return nil
 			}
 			if !strings.HasSuffix(entry, "/") {
 				l.found = append(l.found, prefix+entry)
-			} else if err := l.below(prefix+entry, depth+1); err != nil {
+			} else if err := l.addBelow(prefix+entry, depth+1); err != nil {
 				return err
 			}
 		}
-		if len(entries) < l.most {
+		if len(entries) < l.maxNames {
 			return nil
 		}
-		behind = entries[len(entries)-1]
+		last = entries[len(entries)-1]
 	}
 	return nil
 }
 
-// first returns the first entries of a folder after a name, in order. The names of folders have a slash at the end.
-func (l *listing) first(prefix, behind string) ([]string, error) {
+// entriesAfter returns the first entries of a folder that come after a name, in order. The names of folders have a
+// slash at the end.
+func (l *listing) entriesAfter(prefix, last string) ([]string, error) {
 	opened, err := os.Open(filepath.Join(l.root, filepath.FromSlash(prefix)))
 	if isNoFile(err) {
 		return nil, nil
@@ -232,8 +234,8 @@ func (l *listing) first(prefix, behind string) ([]string, error) {
 			if entry.IsDir() {
 				name += "/"
 			}
-			if name > behind && l.reaches(prefix+name) {
-				first = insert(first, name, l.most)
+			if name > last && l.mayReach(prefix+name) {
+				first = insert(first, name, l.maxNames)
 			}
 		}
 		if err == io.EOF || isNoFile(err) {
@@ -245,18 +247,19 @@ func (l *listing) first(prefix, behind string) ([]string, error) {
 	}
 }
 
-// reaches reports whether a name, or a name in that folder, may come after the requested text.
-func (l *listing) reaches(name string) bool {
+// mayReach reports whether a name comes after the requested text or, if it is the name of a folder, whether a name in
+// the folder may.
+func (l *listing) mayReach(name string) bool {
 	return name > l.after || strings.HasSuffix(name, "/") && strings.HasPrefix(l.after, name)
 }
 
-// insert adds a text to texts in order, and gives the first most of them.
-func insert(texts []string, text string, most int) []string {
+// insert inserts a text into sorted texts, and returns at most the first maxTexts of them.
+func insert(texts []string, text string, maxTexts int) []string {
 	at := sort.SearchStrings(texts, text)
-	if at == most {
+	if at == maxTexts {
 		return texts
 	}
-	if len(texts) < most {
+	if len(texts) < maxTexts {
 		texts = append(texts, "")
 	}
 	copy(texts[at+1:], texts[at:])

@@ -13,12 +13,13 @@ import (
 	"github.com/syndtr/goleveldb/leveldb/opt"
 )
 
-// smallDisk is a file system in memory of so many bytes; only root can mount one.
+// smallDisk mounts a file system in memory with this size in bytes, and returns its folder. Only root can mount it, so
+// the test is skipped for other users.
 func smallDisk(t *testing.T, size int) string {
 	t.Helper()
 	folder := t.TempDir()
 	if err := syscall.Mount("tmpfs", folder, "tmpfs", 0, fmt.Sprintf("size=%d", size)); err != nil {
-		t.Skipf("no small file system can be mounted here, which wants root: %v", err)
+		t.Skipf("no small file system can be mounted here, since that needs root: %v", err)
 	}
 	t.Cleanup(func() {
 		awaitFreed()
@@ -27,8 +28,8 @@ func smallDisk(t *testing.T, size int) string {
 	return folder
 }
 
-// fill fills the file system below a folder to the last byte, and gives the way to make room again.
-func fill(t *testing.T, folder string) (room func()) {
+// fill fills the file system of a folder to the last byte, and returns a function that makes room again.
+func fill(t *testing.T, folder string) (makeRoom func()) {
 	t.Helper()
 	awaitFreed()
 	path := filepath.Join(folder, "ballast")
@@ -60,7 +61,7 @@ func TestFolderOnAFullDisk(t *testing.T) {
 		}
 	}
 	if !isFull(err) || kept < 30 {
-		t.Fatalf("behind %d objects: %v", kept, err)
+		t.Fatalf("after %d objects: %v", kept, err)
 	}
 	for i := 0; i < kept; i++ {
 		if got, err := store.Get(ctx, name(i), manyBytes); err != nil || !bytes.Equal(got, content(i)) {
@@ -68,10 +69,10 @@ func TestFolderOnAFullDisk(t *testing.T) {
 		}
 	}
 	if _, err := store.Get(ctx, name(kept), manyBytes); !errors.Is(err, ErrAbsent) {
-		t.Errorf("what wasn't acknowledged: %v", err)
+		t.Errorf("an object that was not acknowledged: %v", err)
 	}
 	if left, err := os.ReadDir(filepath.Join(disk, "store", temporary)); err != nil || len(left) > 0 {
-		t.Errorf("half files are left: %v, %v", left, err)
+		t.Errorf("temporary files are left: %v, %v", left, err)
 	}
 	must(t, store.Delete(ctx, name(0)))
 	must(t, store.Put(ctx, name(kept), content(kept)))
@@ -79,11 +80,11 @@ func TestFolderOnAFullDisk(t *testing.T) {
 
 func TestFileOnAFullDisk(t *testing.T) {
 	disk, ctx := smallDisk(t, 1<<20), limited(t)
-	lock, err := OpenFile(filepath.Join(disk, "register"))
+	lock, err := OpenFile(filepath.Join(disk, "lock"))
 	must(t, err)
 	must(t, lock.Create(ctx, "first"))
 	must(t, lock.Raise(ctx, Published{Size: 5}))
-	room := fill(t, disk)
+	makeRoom := fill(t, disk)
 	long := strings.Repeat("x", MaxText)
 	if err := lock.Swap(ctx, "first", long); !isFull(err) || errors.Is(err, ErrUnknown) {
 		t.Errorf("Swap: %v", err)
@@ -91,11 +92,11 @@ func TestFileOnAFullDisk(t *testing.T) {
 	if err := lock.Raise(ctx, Published{Size: 6}); !isFull(err) || errors.Is(err, ErrUnknown) {
 		t.Errorf("Raise: %v", err)
 	}
-	standsAs(t, lock, "first", 5)
-	room()
+	wantLock(t, lock, "first", 5)
+	makeRoom()
 	must(t, lock.Swap(ctx, "first", long))
 	must(t, lock.Raise(ctx, Published{Size: 6}))
-	standsAs(t, lock, long, 6)
+	wantLock(t, lock, long, 6)
 }
 
 func TestLevelDBOnAFullDisk(t *testing.T) {
@@ -107,29 +108,29 @@ func TestLevelDBOnAFullDisk(t *testing.T) {
 			defer store.Close()
 			_, all, want := someOf(0, 500)
 			must(t, store.Add(ctx, all))
-			room := fill(t, disk)
+			makeRoom := fill(t, disk)
 			kept := 500
 			for ; err == nil && kept < 500_000; kept += 500 {
 				_, more, _ := someOf(kept, kept+500)
 				err = store.Add(ctx, more)
 			}
 			asked, _, _ := someOf(0, 500)
-			// Nothing can be written when it is opened again, either.
+			// Each write opens the index again, which fails as well.
 			for range 3 {
 				if !isFull(err) || !strings.Contains(err.Error(), disk) {
-					t.Fatalf("behind %d rows: %v", kept, err)
+					t.Fatalf("after %d rows: %v", kept, err)
 				}
-				finds(t, store, asked, want)
+				wantFound(t, store, asked, want)
 				err = store.Add(ctx, []Row{rowAt(500_000)})
 			}
-			finds(t, store, []Identity{identity(600_000)}, map[Identity]Place{})
-			room()
+			wantFound(t, store, []Identity{identity(600_000)}, map[Identity]Place{})
+			makeRoom()
 			last := kept - 500
 			_, more, wanted := someOf(last, kept)
 			must(t, store.Add(ctx, more))
-			finds(t, store, asked, want)
+			wantFound(t, store, asked, want)
 			asked, _, _ = someOf(last, kept)
-			finds(t, store, asked, wanted)
+			wantFound(t, store, asked, wanted)
 		})
 	}
 }

@@ -12,7 +12,7 @@ import (
 
 func identity(i int) Identity { return sha256.Sum256([]byte(fmt.Sprint(i))) }
 
-// leafOf is the leaf hash that the suite gives a row with an identity.
+// leafOf returns the leaf hash that the suite uses for the row of an identity.
 func leafOf(id Identity) Identity { return sha256.Sum256(append([]byte("leaf "), id[:]...)) }
 
 func rowOf(id Identity, place Place) Row { return Row{id, leafOf(id), place} }
@@ -29,8 +29,8 @@ func someOf(from, to int) (identities []Identity, all []Row, found map[Identity]
 	return identities, all, found
 }
 
-// finds looks identities up, and their rows' leaf hashes. Both must have these places.
-func finds(t *testing.T, store Index, identities []Identity, want map[Identity]Place) {
+// wantFound looks up identities, and the leaf hashes of their rows. Both must have these places.
+func wantFound(t *testing.T, store Index, identities []Identity, want map[Identity]Place) {
 	t.Helper()
 	if got, err := store.Find(limited(t), identities); err != nil || !reflect.DeepEqual(got, want) {
 		t.Errorf("found %d places of %d, %v; %d should be", len(got), len(identities), err, len(want))
@@ -51,19 +51,19 @@ func TestRowsAreFound(t *testing.T) {
 	eachOf(t, indexes, func(t *testing.T, at tried[Index]) {
 		store, ctx := at.opened(t), limited(t)
 		asked, all, want := someOf(0, 1200)
-		finds(t, store, asked, map[Identity]Place{})
-		finds(t, store, nil, map[Identity]Place{})
+		wantFound(t, store, asked, map[Identity]Place{})
+		wantFound(t, store, nil, map[Identity]Place{})
 		must(t, store.Add(ctx, nil))
 		start := time.Now()
 		must(t, store.Add(ctx, all))
-		took(t, at.name+": added 1200 at once", 1, start)
+		logDuration(t, at.name+": added 1200 at once", 1, start)
 		must(t, store.Add(ctx, all))
 		start = time.Now()
-		finds(t, store, asked, want)
-		took(t, at.name+": found 1200 at once", 1, start)
+		wantFound(t, store, asked, want)
+		logDuration(t, at.name+": found 1200 at once", 1, start)
 		more, _, _ := someOf(1200, 1300)
-		finds(t, store, append(more, append(asked, asked...)...), want)
-		finds(t, at.opened(t), asked, want)
+		wantFound(t, store, append(more, append(asked, asked...)...), want)
+		wantFound(t, at.opened(t), asked, want)
 	})
 }
 
@@ -75,16 +75,16 @@ func TestIndexKeepsTheFirst(t *testing.T) {
 		must(t, store.Add(ctx, []Row{later, rowAt(2)}))
 		asked := []Identity{identity(0), identity(1), identity(2)}
 		want := map[Identity]Place{identity(0): first.Place, identity(1): rowAt(1).Place, identity(2): rowAt(2).Place}
-		finds(t, store, asked, want)
+		wantFound(t, store, asked, want)
 		largest := rowOf(identity(3), Place{MaxNumber, MaxNumber})
 		zero := rowOf(Identity{}, Place{0, 0})
 		must(t, store.Add(ctx, []Row{largest, zero}))
-		finds(t, at.opened(t), []Identity{identity(3), {}}, map[Identity]Place{identity(3): largest.Place, {}: {}})
+		wantFound(t, at.opened(t), []Identity{identity(3), {}}, map[Identity]Place{identity(3): largest.Place, {}: {}})
 	})
 }
 
-// TestRowsAreReplaced: Replace sets a place whatever it was before, the first one of a list counts, and no other
-// place changes.
+// TestRowsAreReplaced: Replace sets a place whatever it was before. If a list has several places for one identity, the
+// first one counts. No other place changes.
 func TestRowsAreReplaced(t *testing.T) {
 	eachOf(t, indexes, func(t *testing.T, at tried[Index]) {
 		store, ctx := at.opened(t), limited(t)
@@ -94,10 +94,10 @@ func TestRowsAreReplaced(t *testing.T) {
 		must(t, store.Replace(ctx, []Row{right, rowAt(2), later}))
 		must(t, store.Replace(ctx, []Row{right}))
 		want := map[Identity]Place{identity(0): right.Place, identity(1): rowAt(1).Place, identity(2): rowAt(2).Place}
-		finds(t, at.opened(t), []Identity{identity(0), identity(1), identity(2)}, want)
+		wantFound(t, at.opened(t), []Identity{identity(0), identity(1), identity(2)}, want)
 		must(t, store.Replace(ctx, []Row{rowAt(0)}))
 		want[identity(0)] = rowAt(0).Place
-		finds(t, store, []Identity{identity(0), identity(1), identity(2)}, want)
+		wantFound(t, store, []Identity{identity(0), identity(1), identity(2)}, want)
 		_, all, _ := someOf(0, MaxRows+1)
 		if err := store.Replace(ctx, all); !errors.Is(err, ErrTooLong) {
 			t.Errorf("too many: %v", err)
@@ -123,23 +123,23 @@ func TestIndexHasBounds(t *testing.T) {
 				t.Errorf("Add of %v: %v", wrong, err)
 			}
 		}
-		finds(t, store, asked[:MaxRows], map[Identity]Place{})
+		wantFound(t, store, asked[:MaxRows], map[Identity]Place{})
 		must(t, store.Add(ctx, all[:MaxRows]))
 		delete(want, identity(MaxRows))
-		finds(t, store, asked[:MaxRows], want)
+		wantFound(t, store, asked[:MaxRows], want)
 		ended, cancel := context.WithCancel(ctx)
 		cancel()
 		if err := store.Add(ended, all[MaxRows:]); err == nil {
-			t.Error("Add behind the end of its context")
+			t.Error("Add after the end of its context")
 		}
 		if _, err := store.Find(ended, asked[:1]); err == nil {
-			t.Error("Find behind the end of its context")
+			t.Error("Find after the end of its context")
 		}
 	})
 }
 
-// TestRowsOfManyAtOnce has 16 add the same identities at other places, in other orders: each keeps one that was said,
-// and the same for all readers from the first on.
+// TestRowsOfManyAtOnce lets 16 goroutines add the same identities with different places, in different orders. Each
+// identity keeps one of the added places, and all readers see the same one from the beginning.
 func TestRowsOfManyAtOnce(t *testing.T) {
 	eachOf(t, indexes, func(t *testing.T, at tried[Index]) {
 		stores, ctx := []Index{at.opened(t), at.opened(t)}, limited(t)
@@ -162,39 +162,39 @@ func TestRowsOfManyAtOnce(t *testing.T) {
 				t.Fatalf("%d: %v", i, err)
 			}
 			if len(seen[i]) != many || !reflect.DeepEqual(seen[i], seen[0]) {
-				t.Errorf("%d finds %d places, or others than the first one", i, len(seen[i]))
+				t.Errorf("%d finds %d places, or other places than the first goroutine", i, len(seen[i]))
 			}
 		}
-		took(t, at.name+": added and found by 16", 16, start)
+		logDuration(t, at.name+": added and found by 16", 16, start)
 		for _, place := range seen[0] {
 			if place.Index != place.Timestamp || place.Index >= 16 {
-				t.Errorf("a place that nobody said: %v", place)
+				t.Errorf("a place that no goroutine added: %v", place)
 			}
 		}
 	})
 }
 
-// TestLogsAreApart: two logs in one engine don't see one another.
-func TestLogsAreApart(t *testing.T) {
+// TestLogsAreSeparate: an index does not find the rows of another log in the same engine.
+func TestLogsAreSeparate(t *testing.T) {
 	eachOf(t, indexes, func(t *testing.T, at tried[Index]) {
 		if at.folder {
 			t.Skip("a folder has one log")
 		}
 		one, other := at.opened(t), tried[Index]{at.implementation, at.place + "-other"}.opened(t)
 		must(t, one.Add(limited(t), []Row{rowAt(1)}))
-		finds(t, other, []Identity{identity(1)}, map[Identity]Place{})
+		wantFound(t, other, []Identity{identity(1)}, map[Identity]Place{})
 	})
 }
 
-// TestLeavesAreApart: the tables of identities and leaves do not share rows, and each keeps its own first place.
-func TestLeavesAreApart(t *testing.T) {
+// TestLeavesAreSeparate: the tables of identities and leaves do not share rows, and each keeps its own first place.
+func TestLeavesAreSeparate(t *testing.T) {
 	eachOf(t, indexes, func(t *testing.T, at tried[Index]) {
 		store, ctx := at.opened(t), limited(t)
 		one, two, three, leaf := identity(1), identity(2), identity(3), identity(4)
 		must(t, store.Add(ctx, []Row{{one, two, Place{5, 50}}, {two, three, Place{6, 60}}}))
 		// The identity is known, and its leaf is new. Then the leaf is known, and its identity is new.
 		must(t, store.Add(ctx, []Row{{one, leaf, Place{7, 70}}, {three, two, Place{8, 80}}}))
-		isThere := func(identities, leaves map[Identity]Place) {
+		wantBoth := func(identities, leaves map[Identity]Place) {
 			t.Helper()
 			store := at.opened(t)
 			asked := []Identity{one, two, three, leaf}
@@ -205,10 +205,10 @@ func TestLeavesAreApart(t *testing.T) {
 				t.Errorf("leaves: %v, %v", got, err)
 			}
 		}
-		isThere(map[Identity]Place{one: {5, 50}, two: {6, 60}, three: {8, 80}},
+		wantBoth(map[Identity]Place{one: {5, 50}, two: {6, 60}, three: {8, 80}},
 			map[Identity]Place{two: {5, 50}, three: {6, 60}, leaf: {7, 70}})
 		must(t, at.opened(t).Replace(ctx, []Row{{one, leaf, Place{9, 90}}}))
-		isThere(map[Identity]Place{one: {9, 90}, two: {6, 60}, three: {8, 80}},
+		wantBoth(map[Identity]Place{one: {9, 90}, two: {6, 60}, three: {8, 80}},
 			map[Identity]Place{two: {5, 50}, three: {6, 60}, leaf: {9, 90}})
 	})
 }

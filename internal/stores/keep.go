@@ -10,7 +10,7 @@ import (
 	"time"
 )
 
-// MaxKept is how many bytes a file has at most that KeepFile writes.
+// MaxKept is the maximum number of bytes of a file that KeepFile writes.
 const MaxKept = 4 << 10
 
 // KeepFile replaces the content of a file of this machine. After a crash the file has either the old content or the new
@@ -22,7 +22,8 @@ func KeepFile(path string, content []byte) error {
 	return keepFile(path, content, 0o600)
 }
 
-// ShowFile is KeepFile of a file, of any length, that other users read.
+// ShowFile replaces the content of a file as KeepFile does. The content may have any length, and other users may read
+// the file.
 func ShowFile(path string, content []byte) error { return keepFile(path, content, 0o644) }
 
 func keepFile(path string, content []byte, mode fs.FileMode) error {
@@ -37,11 +38,11 @@ func keepFile(path string, content []byte, mode fs.FileMode) error {
 	if err == nil {
 		err = fsync(file)
 	}
-	if closing := file.Close(); err == nil {
-		err = closing
+	if closeErr := file.Close(); err == nil {
+		err = closeErr
 	}
 	if err == nil {
-		err = freesLater(path, func() error { return os.Rename(file.Name(), path) })
+		err = freeLater(path, func() error { return os.Rename(file.Name(), path) })
 	}
 	if err != nil {
 		os.Remove(file.Name())
@@ -53,12 +54,12 @@ func keepFile(path string, content []byte, mode fs.FileMode) error {
 // halfKept is part of the names of temporary files that KeepFile and ShowFile have not renamed yet.
 const halfKept = ".writing-"
 
-// DropHalfKept removes what killed writers of KeepFile and ShowFile left beside a file. The caller must keep other
-// processes from writing the file.
+// DropHalfKept removes the temporary files that killed writers of KeepFile and ShowFile left beside a file. The caller
+// must keep other processes from writing the file.
 func DropHalfKept(path string) error {
-	left, err := halvesOf(path)
-	for _, half := range left {
-		err = errors.Join(err, os.Remove(half))
+	left, err := temporaryFilesOf(path)
+	for _, file := range left {
+		err = errors.Join(err, os.Remove(file))
 	}
 	if err != nil {
 		return fmt.Errorf("stores: keep: %w", err)
@@ -66,8 +67,9 @@ func DropHalfKept(path string) error {
 	return nil
 }
 
-// halvesOf returns the temporary files beside a file. The path may have signs that are special in patterns.
-func halvesOf(path string) (halves []string, err error) {
+// temporaryFilesOf returns the temporary files beside a file. The path may contain characters that are special in
+// patterns.
+func temporaryFilesOf(path string) (found []string, err error) {
 	folder, name := filepath.Split(path)
 	files, err := os.ReadDir(filepath.Clean(folder))
 	if errors.Is(err, fs.ErrNotExist) {
@@ -75,20 +77,20 @@ func halvesOf(path string) (halves []string, err error) {
 	}
 	for _, file := range files {
 		if strings.HasPrefix(file.Name(), name+halfKept) {
-			halves = append(halves, folder+file.Name())
+			found = append(found, folder+file.Name())
 		}
 	}
-	return halves, err
+	return found, err
 }
 
-// KeptFile reads what KeepFile or ShowFile wrote; ErrAbsent where there is no such file. It takes away what killed
-// writers left beside it.
+// KeptFile returns the content that KeepFile or ShowFile wrote. It returns ErrAbsent if there is no such file. It also
+// removes the temporary files that killed writers left beside it, if they are older than abandoned.
 func KeptFile(path string) ([]byte, error) {
-	// (a folder that cannot be listed may have a file that can be read)
-	left, _ := halvesOf(path)
-	for _, half := range left {
-		if info, err := os.Stat(half); err == nil && time.Since(info.ModTime()) > abandoned {
-			os.Remove(half)
+	// The error is ignored: a folder that cannot be listed may have a file that can be read.
+	left, _ := temporaryFilesOf(path)
+	for _, file := range left {
+		if info, err := os.Stat(file); err == nil && time.Since(info.ModTime()) > abandoned {
+			os.Remove(file)
 		}
 	}
 	content, err := os.ReadFile(path)

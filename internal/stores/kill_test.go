@@ -15,32 +15,32 @@ import (
 	"wagtenib/internal/testutil"
 )
 
-// writer is a child process's work on a store: it makes write number i, and returns once that is acknowledged. Numbers
-// that were written before may be written again.
+// writer makes write number i on a store, and returns after it is acknowledged. It may make a write again. A child
+// process calls it.
 type writer func(ctx context.Context, i int) error
 
-// killed is the environment variable with the task of a writer process: KIND IMPLEMENTATION PLACE FIRST.
-const killed = "STORES_WRITER"
+// writerTask is the environment variable with the task of a writer process: KIND IMPLEMENTATION PLACE FIRST.
+const writerTask = "STORES_WRITER"
 
 func TestMain(m *testing.M) {
-	if words := strings.Fields(os.Getenv(killed)); len(words) == 4 {
-		fmt.Fprintln(os.Stderr, write(words))
+	if task := strings.Fields(os.Getenv(writerTask)); len(task) == 4 {
+		fmt.Fprintln(os.Stderr, write(task))
 		os.Exit(1)
 	}
 	os.Exit(m.Run())
 }
 
-// write writes until it is killed, and prints each acknowledged write.
-func write(words []string) error {
+// write writes until it is killed, and prints the number of each acknowledged write.
+func write(task []string) error {
 	ctx, cancel := context.WithTimeout(context.Background(), testutil.Longest)
 	defer cancel()
-	make := map[string]func(context.Context, string, string) (writer, error){"objects": objectWriter,
-		"register": lockWriter, "index": indexWriter}
-	do, err := make[words[0]](ctx, words[1], words[2])
+	writers := map[string]func(context.Context, string, string) (writer, error){"objects": objectWriter,
+		"lock": lockWriter, "index": indexWriter}
+	do, err := writers[task[0]](ctx, task[1], task[2])
 	if err != nil {
 		return err
 	}
-	first, err := strconv.Atoi(words[3])
+	first, err := strconv.Atoi(task[3])
 	for i := first; err == nil; i++ {
 		if err = do(ctx, i); err == nil {
 			fmt.Println(i)
@@ -60,7 +60,7 @@ func find[T any](ctx context.Context, all []implementation[T], name, place strin
 
 func objectName(i int) string { return fmt.Sprintf("written/%02d/%03d/%d", i/1000, i/20, i) }
 
-// objectContent is of some bytes to some hundred thousand.
+// objectContent returns a content of some bytes to some hundred thousand bytes.
 func objectContent(i int) []byte {
 	return []byte(strings.Repeat(fmt.Sprintf("%d;", i), 1+i*7919%40000))
 }
@@ -84,7 +84,7 @@ func lockWriter(ctx context.Context, name, place string) (writer, error) {
 	}, err
 }
 
-// perWrite is how many identities one write has.
+// perWrite is the number of identities in one write.
 const perWrite = 7
 
 func indexWriter(ctx context.Context, name, place string) (writer, error) {
@@ -95,14 +95,14 @@ func indexWriter(ctx context.Context, name, place string) (writer, error) {
 	}, err
 }
 
-// killing starts a writer from a number on, kills it (-9) at a random time after one of its first acknowledged writes,
-// and returns the last number that it printed.
-func killing(t *testing.T, kind, name, place string, first int) (last int) {
+// killWriter starts a writer process that begins with a given number. It kills the process (-9) at a random time after
+// one of its first acknowledged writes, and returns the last number that the process printed.
+func killWriter(t *testing.T, kind, name, place string, first int) (last int) {
 	t.Helper()
 	program, err := os.Executable()
 	must(t, err)
 	child := exec.Command(program)
-	child.Env = append(os.Environ(), fmt.Sprintf("%s=%s %s %s %d", killed, kind, name, place, first))
+	child.Env = append(os.Environ(), fmt.Sprintf("%s=%s %s %s %d", writerTask, kind, name, place, first))
 	child.Stderr = os.Stderr
 	output, err := child.StdoutPipe()
 	must(t, err)
@@ -117,7 +117,7 @@ func killing(t *testing.T, kind, name, place string, first int) (last int) {
 		}
 	}
 	if err := child.Wait(); err == nil || !strings.Contains(err.Error(), "killed") {
-		t.Fatalf("the writer wasn't killed: %v", err)
+		t.Fatalf("the writer was not killed: %v", err)
 	}
 	return last
 }
@@ -127,16 +127,16 @@ const kills = 8
 func TestObjectsOutliveKills(t *testing.T) {
 	eachOf(t, objectStores, func(t *testing.T, at tried[Objects]) {
 		if at.inMemory {
-			t.Skip("what it keeps ends with the process")
+			t.Skip("its data ends with the process")
 		}
 		at.opened(t)
 		ctx, last := limited(t), 0
 		for kill := 0; kill < kills; kill++ {
-			last = killing(t, "objects", at.name, at.place, last+1)
+			last = killWriter(t, "objects", at.name, at.place, last+1)
 			store := at.opened(t)
 			for i := 1; i <= last+1; i++ {
 				got, err := store.Get(ctx, objectName(i), manyBytes)
-				// The one that it was at isn't there, or it is there as a whole.
+				// The object after the last acknowledged one is absent or complete.
 				if i <= last && err != nil || err == nil && string(got) != string(objectContent(i)) {
 					t.Fatalf("of %d writes that were acknowledged, number %d has %d bytes, %v", last, i, len(got), err)
 				}
@@ -151,11 +151,11 @@ func TestLockOutlivesKills(t *testing.T) {
 		ctx, last := limited(t), 0
 		must(t, at.opened(t).Create(ctx, "text 0"))
 		for kill := 0; kill < kills; kill++ {
-			last = killing(t, "register", at.name, at.place, last+1)
+			last = killWriter(t, "lock", at.name, at.place, last+1)
 			lock := at.opened(t)
 			text, err := lock.Read(ctx)
-			if stands := number(text); err != nil || stands != last && stands != last+1 {
-				t.Fatalf("%q stands, %v, and %d was acknowledged", text, err, last)
+			if n := number(text); err != nil || n != last && n != last+1 {
+				t.Fatalf("the text is %q, %v, and %d was acknowledged", text, err, last)
 			}
 			published, err := lock.Published(ctx)
 			if n := published.Size; err != nil || n != uint64(last) && n != uint64(last)+1 ||
@@ -172,13 +172,13 @@ func TestIndexOutlivesKills(t *testing.T) {
 		store := at.opened(t)
 		last := 0
 		for kill := 0; kill < kills; kill++ {
-			// (one process at a time can have LevelDB open)
+			// Only one process at a time can have LevelDB open.
 			must(t, store.Close())
-			last = killing(t, "index", at.name, at.place, last+1)
+			last = killWriter(t, "index", at.name, at.place, last+1)
 			store = at.opened(t)
 			must(t, parts(perWrite*last, MaxRows, func(from, to int) error {
 				asked, _, want := someOf(perWrite+from, perWrite+to)
-				finds(t, store, asked, want)
+				wantFound(t, store, asked, want)
 				return nil
 			}))
 		}

@@ -29,7 +29,7 @@ func damaged(t *testing.T, folder, name string, damage func(content []byte) []by
 	return to
 }
 
-// damagedIndex is an index on which the tests try damages.
+// damagedIndex is an index whose copies the tests damage.
 type damagedIndex struct {
 	folder  string
 	options opt.Options
@@ -37,34 +37,34 @@ type damagedIndex struct {
 	want    map[Identity]Place
 }
 
-// newDamagedIndex returns one of 1500 rows, in tables and in a journal. No open of it merges tables.
+// newDamagedIndex returns an index of 1500 rows, in tables and in a journal. Opening it merges no tables.
 func newDamagedIndex(t *testing.T) *damagedIndex {
 	t.Helper()
-	ctx, of := limited(t), &damagedIndex{folder: filepath.Join(t.TempDir(), "index"), options: smallOptions()}
+	ctx, d := limited(t), &damagedIndex{folder: filepath.Join(t.TempDir(), "index"), options: smallOptions()}
 	var all []Row
-	of.asked, all, of.want = someOf(0, 1500)
-	of.options.CompactionL0Trigger, of.options.CompactionTotalSize, of.options.WriteBuffer = 1000, 1<<30, 1<<20
+	d.asked, all, d.want = someOf(0, 1500)
+	d.options.CompactionL0Trigger, d.options.CompactionTotalSize, d.options.WriteBuffer = 1000, 1<<30, 1<<20
 	from := 0
 	// The second open deletes tables that are no longer needed. The last rows are in the journal.
 	for _, open := range []struct {
 		options opt.Options
 		last    int
-	}{{smallOptions(), 1200}, {of.options, 1500}} {
-		store, err := openLevelDB(ctx, of.folder, open.options, openLevelFiles)
+	}{{smallOptions(), 1200}, {d.options, 1500}} {
+		store, err := openLevelDB(ctx, d.folder, open.options, openLevelFiles)
 		must(t, err)
 		for ; from < open.last; from += 100 {
 			must(t, store.Add(ctx, all[from:from+100]))
 		}
 		must(t, store.Close())
 	}
-	return of
+	return d
 }
 
-// says reports whether the damage in a folder is named. If it is not, all rows must be found.
-func (d *damagedIndex) says(t *testing.T, what, folder string) bool {
+// isReported reports whether a call returns the damage in a folder as an error. If none does, all rows must be found.
+func (d *damagedIndex) isReported(t *testing.T, what, folder string) bool {
 	t.Helper()
 	ctx := limited(t)
-	isNamed := func(err error) bool {
+	isDamage := func(err error) bool {
 		if err != nil && (!errors.Is(err, ErrDamaged) || !strings.Contains(err.Error(), folder) ||
 			!strings.Contains(err.Error(), "ctserve index")) {
 			t.Errorf("%s: %v", what, err)
@@ -72,17 +72,17 @@ func (d *damagedIndex) says(t *testing.T, what, folder string) bool {
 		return err != nil
 	}
 	store, err := openLevelDB(ctx, folder, d.options, openLevelFiles)
-	if isNamed(err) {
+	if isDamage(err) {
 		return true
 	}
 	defer store.Close()
 	for _, id := range d.asked {
 		found, err := store.Find(ctx, []Identity{id})
-		if isNamed(err) {
+		if isDamage(err) {
 			return true
 		}
 		leaves, err := store.FindLeaves(ctx, []Identity{leafOf(id)})
-		if isNamed(err) {
+		if isDamage(err) {
 			return true
 		}
 		if found[id] != d.want[id] || leaves[leafOf(id)] != d.want[id] {
@@ -92,11 +92,11 @@ func (d *damagedIndex) says(t *testing.T, what, folder string) bool {
 	return false
 }
 
-// isJournal reports whether a file is one. Nobody can tell a journal without its last rows from one that was being
-// written.
+// isJournal reports whether a file is a journal. A journal without its last rows cannot be distinguished from one that
+// was still being written.
 func isJournal(name string) bool { return strings.HasSuffix(name, ".log") }
 
-// files returns the names of the files that have rows, or say where they are, and how many are tables.
+// files returns the names of the files that contain rows or say where rows are, and the number of tables among them.
 func (d *damagedIndex) files(t *testing.T) (names []string, tables int) {
 	t.Helper()
 	files, err := os.ReadDir(d.folder)
@@ -114,11 +114,11 @@ func (d *damagedIndex) files(t *testing.T) (names []string, tables int) {
 	return names, tables
 }
 
-// TestLevelDBWithoutAFile: if a file is missing, cut off or empty, the index is damaged, where it is, and what to do is
-// said.
-func TestLevelDBWithoutAFile(t *testing.T) {
-	of := newDamagedIndex(t)
-	names, tables := of.files(t)
+// TestLevelDBReportsAMissingFile: if a file is missing, cut off or empty, an error says that the index is damaged,
+// where it is, and what to do.
+func TestLevelDBReportsAMissingFile(t *testing.T) {
+	index := newDamagedIndex(t)
+	names, tables := index.files(t)
 	if tables < 5 {
 		t.Errorf("there are %d tables", tables)
 	}
@@ -130,49 +130,49 @@ func TestLevelDBWithoutAFile(t *testing.T) {
 			"has zeros in its place": func(content []byte) []byte { return make([]byte, len(content)) },
 		} {
 			what = name + " " + what
-			if !isJournal(name) && !of.says(t, what, damaged(t, of.folder, name, damage)) {
-				t.Errorf("%s, and nothing is said", what)
+			if !isJournal(name) && !index.isReported(t, what, damaged(t, index.folder, name, damage)) {
+				t.Errorf("%s, and this is not reported", what)
 			}
 		}
 	}
 }
 
-// TestLevelDBThatIsDamaged: whatever bit of whatever file is another one, all rows are found, or a call says that the
+// TestLevelDBReportsAFlippedBit: if any bit of any file is flipped, all rows are found, or a call reports that the
 // index is damaged. No row is dropped.
-func TestLevelDBThatIsDamaged(t *testing.T) {
-	of, random, named := newDamagedIndex(t), rand.New(rand.NewSource(1)), 0
-	names, _ := of.files(t)
+func TestLevelDBReportsAFlippedBit(t *testing.T) {
+	index, random, reported := newDamagedIndex(t), rand.New(rand.NewSource(1)), 0
+	names, _ := index.files(t)
 	for _, name := range names {
 		for range 5 {
-			what := fmt.Sprintf("a bit of %s is another one", name)
-			if of.says(t, what, damaged(t, of.folder, name, func(content []byte) []byte {
+			what := fmt.Sprintf("a bit of %s is flipped", name)
+			if index.isReported(t, what, damaged(t, index.folder, name, func(content []byte) []byte {
 				if len(content) == 0 {
 					return content
 				}
 				at := random.Intn(len(content))
-				// (the length of the last record says where the file should end)
+				// The last record of a journal is not damaged: with another length it looks unfinished, and is cut off.
 				if last := len(content) - 100*110; isJournal(name) && at > last {
 					at = max(last, 0) / 2
 				}
 				content[at] ^= 1 << random.Intn(8)
 				return content
 			})) {
-				named++
+				reported++
 			}
 		}
 	}
-	if named < 20 {
-		t.Errorf("%d damages were named", named)
+	if reported < 20 {
+		t.Errorf("%d damages were reported", reported)
 	}
 }
 
-// TestLevelDBWithoutItsLastRecord: wherever the journal ends, and if zeros follow there, all rows of whole records are
-// found, and the index takes more.
-func TestLevelDBWithoutItsLastRecord(t *testing.T) {
+// TestLevelDBDropsAnUnfinishedRecord: wherever the journal is cut off, with or without zeros after that, all rows of
+// complete records are found, and more rows can be added.
+func TestLevelDBDropsAnUnfinishedRecord(t *testing.T) {
 	ctx, folder := limited(t), filepath.Join(t.TempDir(), "index")
 	store, err := OpenLevelDB(ctx, folder)
 	must(t, err)
-	// (the last record goes over two ends of a block)
+	// The last record crosses two ends of blocks.
 	var ends []int64
 	lengths := []int{3, 1, 100, 400, 700}
 	journal := func() string {
@@ -204,10 +204,10 @@ func TestLevelDBWithoutItsLastRecord(t *testing.T) {
 	cuts = append(cuts, levelBlock-1, levelBlock, levelBlock+1, levelBlock+7, levelBlock+8, 2*levelBlock, 3*levelBlock)
 	for _, cut := range cuts {
 		for _, zeros := range []int{0, 1, 50_000} {
-			there := 0
+			complete := 0
 			for i, end := range ends {
 				if end <= cut {
-					there += lengths[i]
+					complete += lengths[i]
 				}
 			}
 			left := damaged(t, folder, name, func(content []byte) []byte {
@@ -219,19 +219,19 @@ func TestLevelDBWithoutItsLastRecord(t *testing.T) {
 				continue
 			}
 			asked, _, _ := someOf(0, total)
-			_, _, want := someOf(0, there)
-			finds(t, store, asked, want)
+			_, _, want := someOf(0, complete)
+			wantFound(t, store, asked, want)
 			_, all, want := someOf(0, total)
 			must(t, store.Add(ctx, all))
-			finds(t, store, asked, want)
+			wantFound(t, store, asked, want)
 			must(t, store.Close())
 		}
 	}
 }
 
-// TestLevelDBManifestWithoutItsEnd: if a manifest has lost records, or ends within one, the index is damaged, or
-// nothing in it is missing.
-func TestLevelDBManifestWithoutItsEnd(t *testing.T) {
+// TestLevelDBReportsACutManifest: if a manifest has lost records, or ends within one, the index is reported as damaged,
+// or no row is missing.
+func TestLevelDBReportsACutManifest(t *testing.T) {
 	ctx, folder, options := limited(t), filepath.Join(t.TempDir(), "index"), smallOptions()
 	options.CompactionL0Trigger, options.WriteL0SlowdownTrigger, options.WriteL0PauseTrigger = 1000, 1000, 1000
 	store, err := openLevelDB(ctx, folder, options, openLevelFiles)
@@ -260,7 +260,7 @@ func TestLevelDBManifestWithoutItsEnd(t *testing.T) {
 			}
 			continue
 		}
-		finds(t, store, asked, want)
+		wantFound(t, store, asked, want)
 		must(t, store.Close())
 	}
 	if refused < 30 {

@@ -20,15 +20,15 @@ import (
 // inLevelDB keeps an index in a folder, by goleveldb. Only one process can have it open. A step's rows of both tables
 // are one write, which is on the disk before Add returns.
 //
-// Identities and leaf hashes are random, so a table that is kept in order (a B-tree) writes a page for each row.
-// LevelDB writes rows one after another, and sorts many of them at once.
+// Identities and leaf hashes are random, so an engine that keeps a table sorted (as a B-tree) writes a page for each
+// row. LevelDB writes rows one after another, and sorts many of them at once.
 type inLevelDB struct {
 	path    string
 	files   *levelFiles
 	options opt.Options
-	// turn is held by the one that adds: Add looks up what is there before it writes.
+	// turn is held by the only goroutine that may write, since Add looks up which rows exist before it writes.
 	turn chan struct{}
-	// isBroken says that a write failed, so that db takes no other one. It belongs to the turn.
+	// isBroken is whether a write failed, so that db accepts no further one. Only the holder of turn may use it.
 	isBroken bool
 	mu       sync.RWMutex
 	db       *leveldb.DB
@@ -73,14 +73,14 @@ var levelOptions = opt.Options{
 	NoWriteMerge: true,
 }
 
-// OpenLevelDB opens the index in a folder, and makes it where it isn't there.
+// OpenLevelDB opens the index in a folder. It makes the folder and the index if they do not exist.
 func OpenLevelDB(ctx context.Context, path string) (Index, error) {
 	return openLevelDB(ctx, path, levelOptions, openLevelFiles)
 }
 
 func openLevelFiles(path string) (storage.Storage, error) { return storage.OpenFile(path, false) }
 
-// openLevelDB opens an index with these options, whose files are opened by a function.
+// openLevelDB opens an index with these options. The function open opens its files.
 func openLevelDB(ctx context.Context, path string, options opt.Options,
 	open func(path string) (storage.Storage, error)) (Index, error) {
 	path, err := filepath.Abs(path)
@@ -93,21 +93,21 @@ func openLevelDB(ctx context.Context, path string, options opt.Options,
 	if err := MakeFolder(path); err != nil {
 		return nil, err
 	}
-	of := &inLevelDB{path: path, options: options, turn: make(chan struct{}, 1)}
+	index := &inLevelDB{path: path, options: options, turn: make(chan struct{}, 1)}
 	files, err := open(path)
 	if err != nil {
-		return nil, of.failed("open", err)
+		return nil, index.wrap("open", err)
 	}
-	of.files = &levelFiles{Storage: files, path: path}
-	if of.db, err = leveldb.Open(of.files, &of.options); err != nil {
+	index.files = &levelFiles{Storage: files, path: path}
+	if index.db, err = leveldb.Open(index.files, &index.options); err != nil {
 		_ = files.Close()
-		return nil, of.failed("open", err)
+		return nil, index.wrap("open", err)
 	}
-	return of, nil
+	return index, nil
 }
 
-// failed wraps an error of LevelDB, and says what to do about it.
-func (l *inLevelDB) failed(what string, err error) error {
+// wrap wraps an error of LevelDB, and adds what to do about it.
+func (l *inLevelDB) wrap(what string, err error) error {
 	switch {
 	case errors.Is(err, syscall.EWOULDBLOCK):
 		return fmt.Errorf("%w: the index in %s (stop the log or the command that has it open; nodes that share an index "+
@@ -119,24 +119,24 @@ func (l *inLevelDB) failed(what string, err error) error {
 	return fmt.Errorf("stores: index %s: %s: %w", l.path, what, err)
 }
 
-// reopen opens the index again after a write failed. LevelDB's journal is of no use then: it may have a part of a row.
-// If nothing can be written yet, the index is opened to be read, so that look-ups go on.
+// reopen opens the index again after a write failed. LevelDB cannot continue its journal then, since the journal may
+// end with a part of a row. If nothing can be written yet, the index is opened read-only, so that look-ups go on.
 func (l *inLevelDB) reopen() error {
 	l.mu.Lock()
 	defer l.mu.Unlock()
-	// What was acknowledged is on the disk, and the error that led here was returned.
+	// The error is ignored: what was acknowledged is on the disk, and the error of the failed write was returned.
 	_ = l.db.Close()
 	db, err := leveldb.Open(l.files, &l.options)
 	if err == nil {
 		l.db, l.isBroken = db, false
 		return nil
 	}
-	reading := l.options
-	reading.ReadOnly = true
-	if db, failed := leveldb.Open(l.files, &reading); failed == nil {
+	readOnly := l.options
+	readOnly.ReadOnly = true
+	if db, openErr := leveldb.Open(l.files, &readOnly); openErr == nil {
 		l.db = db
 	}
-	return l.failed("open", err)
+	return l.wrap("open", err)
 }
 
 func (l *inLevelDB) Find(ctx context.Context, identities []Identity) (map[Identity]Place, error) {
@@ -164,21 +164,21 @@ func (l *inLevelDB) find(ctx context.Context, table byte, keys []Identity) (map[
 			continue
 		}
 		if err != nil {
-			return nil, l.failed("find", err)
+			return nil, l.wrap("find", err)
 		}
 		if found[keys[i]], err = placeIn(value); err != nil {
-			return nil, l.failed("find", err)
+			return nil, l.wrap("find", err)
 		}
 	}
 	return found, nil
 }
 
 // keyIn returns the key of a row of a table.
-func keyIn(table byte, of *Identity) []byte {
-	return append(append(make([]byte, 0, 1+len(of)), table), of[:]...)
+func keyIn(table byte, key *Identity) []byte {
+	return append(append(make([]byte, 0, 1+len(key)), table), key[:]...)
 }
 
-// placeIn reads the value of a row: the index and the timestamp, as varints.
+// placeIn returns the place in the value of a row, which has the index and the timestamp as varints.
 func placeIn(value []byte) (place Place, err error) {
 	index, length := binary.Uvarint(value)
 	timestamp, more := binary.Uvarint(value[max(length, 0):])
@@ -196,7 +196,7 @@ func (l *inLevelDB) Replace(ctx context.Context, rows []Row) error {
 	return l.write(ctx, rows, "replace", true)
 }
 
-// write writes rows. The call ends with its context. The write itself does not: the next one waits for it.
+// write writes rows. The call ends with its context, but the write itself goes on. The next write waits for it.
 func (l *inLevelDB) write(ctx context.Context, rows []Row, what string, replaces bool) error {
 	identities, leaves, err := firsts(rows)
 	if err != nil || len(rows) == 0 {
@@ -224,7 +224,7 @@ func (l *inLevelDB) write(ctx context.Context, rows []Row, what string, replaces
 	}
 }
 
-// put makes one write of the rows that are missing, or of all that are to be replaced.
+// put makes one write of the rows that are missing or, if replaces is true, of all rows. The caller must hold turn.
 func (l *inLevelDB) put(identities, leaves []keyed, what string, replaces bool) error {
 	if l.isBroken {
 		if err := l.reopen(); err != nil {
@@ -240,7 +240,7 @@ func (l *inLevelDB) put(identities, leaves []keyed, what string, replaces bool) 
 			if !replaces {
 				has, err := l.db.Has(key, nil)
 				if err != nil {
-					return l.failed(what, err)
+					return l.wrap(what, err)
 				}
 				if has {
 					continue
@@ -256,7 +256,7 @@ func (l *inLevelDB) put(identities, leaves []keyed, what string, replaces bool) 
 	}
 	if err := l.db.Write(&batch, &opt.WriteOptions{Sync: true}); err != nil {
 		l.isBroken = true
-		return l.failed(what, err)
+		return l.wrap(what, err)
 	}
 	return nil
 }

@@ -16,7 +16,7 @@ import (
 	"wagtenib/internal/testutil"
 )
 
-// smallOptions are those of an index whose buffers and tables are so small that some hundred rows fill them.
+// smallOptions returns options with buffers and tables that are so small that some hundred rows fill them.
 func smallOptions() opt.Options {
 	small := levelOptions
 	small.WriteBuffer, small.CompactionTableSize, small.CompactionTotalSize = 16<<10, 4<<10, 64<<10
@@ -24,76 +24,78 @@ func smallOptions() opt.Options {
 	return small
 }
 
-// opens are the indexes of LevelDB that the suite has open, by their folders. Only one can be open at a time: each open
-// closes the one before, and all handles go on with the newest.
-type opens struct {
-	mu sync.Mutex
-	of map[string]*opening
+// openIndexes holds the indexes in LevelDB that the suite has open, by their folders. Only one index in a folder can be
+// open at a time. So each open closes the index that was open before, and all handles use the newest one.
+type openIndexes struct {
+	mu       sync.Mutex
+	byFolder map[string]*sharedIndex
 }
 
-var levelOpens = opens{of: map[string]*opening{}}
+var levelOpens = openIndexes{byFolder: map[string]*sharedIndex{}}
 
-type opening struct {
+// sharedIndex is an index whose handles all use the index that was opened last.
+type sharedIndex struct {
 	mu    sync.RWMutex
 	index Index
 }
 
-func (o *opens) opening(options opt.Options) func(ctx context.Context, place string) (Index, error) {
+// opening returns a function that opens the index in a folder with these options.
+func (o *openIndexes) opening(options opt.Options) func(ctx context.Context, place string) (Index, error) {
 	return func(ctx context.Context, place string) (Index, error) {
 		o.mu.Lock()
-		of := o.of[place]
-		if of == nil {
-			of = &opening{}
-			o.of[place] = of
+		shared := o.byFolder[place]
+		if shared == nil {
+			shared = &sharedIndex{}
+			o.byFolder[place] = shared
 		}
 		o.mu.Unlock()
-		of.mu.Lock()
-		defer of.mu.Unlock()
-		if of.index != nil {
-			if err := of.index.Close(); err != nil {
+		shared.mu.Lock()
+		defer shared.mu.Unlock()
+		if shared.index != nil {
+			if err := shared.index.Close(); err != nil {
 				return nil, err
 			}
 		}
 		var err error
-		if of.index, err = openLevelDB(ctx, filepath.Join(place, "index"), options, openLevelFiles); err != nil {
-			of.index = nil
+		if shared.index, err = openLevelDB(ctx, filepath.Join(place, "index"), options, openLevelFiles); err != nil {
+			shared.index = nil
 			return nil, err
 		}
-		return of, nil
+		return shared, nil
 	}
 }
 
-// newest returns the index, which stays open until the function is called.
-func (o *opening) newest() (Index, func()) {
+// newest returns the index, which stays open until the returned function is called.
+func (o *sharedIndex) newest() (Index, func()) {
 	o.mu.RLock()
 	return o.index, o.mu.RUnlock
 }
 
-func (o *opening) Find(ctx context.Context, identities []Identity) (map[Identity]Place, error) {
+func (o *sharedIndex) Find(ctx context.Context, identities []Identity) (map[Identity]Place, error) {
 	index, done := o.newest()
 	defer done()
 	return index.Find(ctx, identities)
 }
 
-func (o *opening) FindLeaves(ctx context.Context, hashes []Identity) (map[Identity]Place, error) {
+func (o *sharedIndex) FindLeaves(ctx context.Context, hashes []Identity) (map[Identity]Place, error) {
 	index, done := o.newest()
 	defer done()
 	return index.FindLeaves(ctx, hashes)
 }
 
-func (o *opening) Add(ctx context.Context, rows []Row) error {
+func (o *sharedIndex) Add(ctx context.Context, rows []Row) error {
 	index, done := o.newest()
 	defer done()
 	return index.Add(ctx, rows)
 }
 
-func (o *opening) Replace(ctx context.Context, rows []Row) error {
+func (o *sharedIndex) Replace(ctx context.Context, rows []Row) error {
 	index, done := o.newest()
 	defer done()
 	return index.Replace(ctx, rows)
 }
 
-func (o *opening) Close() error {
+func (o *sharedIndex) Close() error {
 	o.mu.Lock()
 	defer o.mu.Unlock()
 	if o.index == nil {
@@ -104,8 +106,9 @@ func (o *opening) Close() error {
 	return index.Close()
 }
 
-// TestLevelDBIsOfOneProcess: an index that is open is refused by name, and can be opened after it was closed.
-func TestLevelDBIsOfOneProcess(t *testing.T) {
+// TestLevelDBRefusesASecondOpen: an open of an index that is open is refused with its path. The index can be opened
+// after it was closed.
+func TestLevelDBRefusesASecondOpen(t *testing.T) {
 	path, ctx := filepath.Join(t.TempDir(), "index"), limited(t)
 	one, err := OpenLevelDB(ctx, path)
 	must(t, err)
@@ -116,12 +119,11 @@ func TestLevelDBIsOfOneProcess(t *testing.T) {
 	must(t, one.Close())
 	again, err := OpenLevelDB(ctx, path)
 	must(t, err)
-	finds(t, again, []Identity{identity(1)}, map[Identity]Place{identity(1): rowAt(1).Place})
+	wantFound(t, again, []Identity{identity(1)}, map[Identity]Place{identity(1): rowAt(1).Place})
 	must(t, again.Close())
 }
 
-// TestLevelDBEndsWithItsContext: a call that waits for another one's write waits no longer than its context lasts.
-// Look-ups go on.
+// TestLevelDBEndsWithItsContext: a call that waits for the write of another call ends with its context. Look-ups go on.
 func TestLevelDBEndsWithItsContext(t *testing.T) {
 	ctx := limited(t)
 	store, err := OpenLevelDB(ctx, filepath.Join(t.TempDir(), "index"))
@@ -130,35 +132,35 @@ func TestLevelDBEndsWithItsContext(t *testing.T) {
 	turn := store.(*inLevelDB).turn
 	turn <- struct{}{}
 	ending, end := context.WithCancel(ctx)
-	told := make(chan error, 2)
+	errs := make(chan error, 2)
 	for _, call := range []func(context.Context, []Row) error{store.Add, store.Replace} {
-		go func() { told <- call(ending, []Row{rowAt(1)}) }()
+		go func() { errs <- call(ending, []Row{rowAt(1)}) }()
 	}
 	end()
-	for i := 0; i < cap(told); i++ {
+	for i := 0; i < cap(errs); i++ {
 		select {
-		case err := <-told:
-			testutil.Wants(t, err, context.Canceled)
+		case err := <-errs:
+			testutil.WantError(t, err, context.Canceled)
 		case <-ctx.Done():
-			t.Fatal("it waits after its context has ended")
+			t.Fatal("a call waits after its context has ended")
 		}
 	}
-	finds(t, store, []Identity{identity(1)}, map[Identity]Place{})
+	wantFound(t, store, []Identity{identity(1)}, map[Identity]Place{})
 	<-turn
 	must(t, store.Add(ctx, []Row{rowAt(1)}))
 }
 
-// counting counts what an index does with its files.
+// counting counts what an index does with its journals.
 type counting struct {
 	storage.Storage
 	mu sync.Mutex
-	// syncs are those of journals, and writes the calls that write to one.
+	// syncs is the number of syncs of journals, and writes the number of writes to journals.
 	syncs, writes int
 }
 
 type countingFile struct {
 	storage.Writer
-	of *counting
+	counts *counting
 }
 
 func (c *counting) Create(fd storage.FileDesc) (storage.Writer, error) {
@@ -170,27 +172,27 @@ func (c *counting) Create(fd storage.FileDesc) (storage.Writer, error) {
 }
 
 func (c *countingFile) Write(content []byte) (int, error) {
-	c.of.mu.Lock()
-	defer c.of.mu.Unlock()
-	c.of.writes++
+	c.counts.mu.Lock()
+	defer c.counts.mu.Unlock()
+	c.counts.writes++
 	return c.Writer.Write(content)
 }
 
 func (c *countingFile) Sync() error {
-	c.of.mu.Lock()
-	defer c.of.mu.Unlock()
-	c.of.syncs++
+	c.counts.mu.Lock()
+	defer c.counts.mu.Unlock()
+	c.counts.syncs++
 	return c.Writer.Sync()
 }
 
-// TestLevelDBSyncsOnce: the rows of both tables are one write, and one sync of the journal. Rows that are there need
-// none.
+// TestLevelDBSyncsOnce: the rows of both tables need one write and one sync of the journal. Rows that are already in
+// the index need none.
 func TestLevelDBSyncsOnce(t *testing.T) {
-	ctx, of := limited(t), &counting{}
+	ctx, files := limited(t), &counting{}
 	store, err := openLevelDB(ctx, filepath.Join(t.TempDir(), "index"), levelOptions,
 		func(path string) (_ storage.Storage, err error) {
-			of.Storage, err = openLevelFiles(path)
-			return of, err
+			files.Storage, err = openLevelFiles(path)
+			return files, err
 		})
 	must(t, err)
 	defer store.Close()
@@ -205,16 +207,16 @@ func TestLevelDBSyncsOnce(t *testing.T) {
 		{"the same, to replace", func() error { return store.Replace(ctx, all) }, 1},
 		{"one more", func() error { return store.Add(ctx, append([]Row{rowAt(64)}, all...)) }, 1},
 	} {
-		of.syncs, of.writes = 0, 0
+		files.syncs, files.writes = 0, 0
 		must(t, one.call())
-		if of.syncs != one.syncs || of.writes != one.syncs {
-			t.Errorf("%s: %d syncs and %d writes, not %d", one.what, of.syncs, of.writes, one.syncs)
+		if files.syncs != one.syncs || files.writes != one.syncs {
+			t.Errorf("%s: %d syncs and %d writes, not %d", one.what, files.syncs, files.writes, one.syncs)
 		}
 	}
 }
 
-// TestLevelDBFilesOpen: the number of open files does not grow with the log.
-func TestLevelDBFilesOpen(t *testing.T) {
+// TestLevelDBBoundsOpenFiles: the number of open files does not grow with the log.
+func TestLevelDBBoundsOpenFiles(t *testing.T) {
 	root, ctx := t.TempDir(), limited(t)
 	store, err := openLevelDB(ctx, filepath.Join(root, "index"), smallOptions(), openLevelFiles)
 	must(t, err)
@@ -222,20 +224,22 @@ func TestLevelDBFilesOpen(t *testing.T) {
 	for from := 0; from < 6000; from += 500 {
 		asked, all, want := someOf(from, from+500)
 		must(t, store.Add(ctx, all))
-		finds(t, store, asked, want)
+		wantFound(t, store, asked, want)
 	}
 	tables, err := filepath.Glob(filepath.Join(root, "index", "*.ldb"))
 	must(t, err)
-	// Beside the tables, these are the lock, LevelDB's own log, the manifest and two journals. While it merges tables, it
-	// has those open that it reads, the one that it writes, and those of the youngest level.
-	const most = 8 + 5 + 2 + 24
-	if many := opened(t, root); len(tables) < 3*most || many > most {
-		t.Errorf("%d files of %d tables are open, and at most %d should be", many, len(tables), most)
+	// In addition to cached tables, the lock, LevelDB's own log, the manifest and two journals are open. While LevelDB
+	// merges tables, it also has the tables open that it reads, the one that it writes, and those of the youngest
+	// level.
+	const maxOpen = 8 + 5 + 2 + 24
+	if many := countOpen(t, root); len(tables) < 3*maxOpen || many > maxOpen {
+		t.Errorf("%d files of %d tables are open, and at most %d should be", many, len(tables), maxOpen)
 	}
 }
 
-// TestLevelDBOfAnotherForm: the error of a folder that is a file, or of a row that is not one, names it.
-func TestLevelDBOfAnotherForm(t *testing.T) {
+// TestLevelDBReportsAnotherForm: if the folder is a file, the error names it. A row with an invalid value is reported
+// as damaged.
+func TestLevelDBReportsAnotherForm(t *testing.T) {
 	root, ctx := t.TempDir(), limited(t)
 	path := filepath.Join(root, "file")
 	must(t, os.WriteFile(path, []byte(strings.Repeat("no index ", 1000)), 0o644))

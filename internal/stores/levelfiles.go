@@ -15,24 +15,24 @@ import (
 	"github.com/syndtr/goleveldb/leveldb/util"
 )
 
-// levelFiles are the files of an index. They do what goleveldb leaves out:
+// levelFiles holds the files of an index. It does what goleveldb leaves out:
 //
-//   - A new manifest is on the disk before CURRENT names it. goleveldb syncs it only after the next change, and deletes
-//     the manifest before it. If power failed in between, there would be none.
-//   - The name of a new journal is on the disk as soon as the first row in it. goleveldb syncs the folder only with a
-//     manifest.
+//   - A new manifest is on the disk before CURRENT names it. goleveldb syncs it only after the next change, and before
+//     that deletes the old manifest. If power failed in between, there would be none.
+//   - The name of a new journal is on the disk as soon as the first row in it is. goleveldb syncs the folder only with
+//     a manifest.
 //   - A record that a kill or a power cut left unfinished at the end of a journal or a manifest is cut off. It was not
-//     acknowledged. With opt.StrictAll, goleveldb refuses such a file, and without it it also drops damaged
+//     acknowledged. With opt.StrictAll, goleveldb refuses such a file. Without opt.StrictAll, it also drops damaged
 //     records in the middle.
 type levelFiles struct {
 	storage.Storage
 	path string
 	mu   sync.Mutex
-	// manifest is the newest that was made, or nil.
+	// manifest is the newest manifest that was made, or nil.
 	manifest *levelFile
 }
 
-// Create is storage.Storage's.
+// Create implements storage.Storage.
 func (l *levelFiles) Create(fd storage.FileDesc) (storage.Writer, error) {
 	w, err := l.Storage.Create(fd)
 	if err != nil {
@@ -47,7 +47,7 @@ func (l *levelFiles) Create(fd storage.FileDesc) (storage.Writer, error) {
 	return made, nil
 }
 
-// SetMeta is storage.Storage's.
+// SetMeta implements storage.Storage. It syncs the newest manifest first.
 func (l *levelFiles) SetMeta(fd storage.FileDesc) error {
 	l.mu.Lock()
 	defer l.mu.Unlock()
@@ -59,7 +59,8 @@ func (l *levelFiles) SetMeta(fd storage.FileDesc) error {
 	return l.Storage.SetMeta(fd)
 }
 
-// Open is storage.Storage's.
+// Open implements storage.Storage. It reads a journal or a manifest as a whole, without an unfinished record at its
+// end.
 func (l *levelFiles) Open(fd storage.FileDesc) (storage.Reader, error) {
 	r, err := l.Storage.Open(fd)
 	if err != nil || fd.Type != storage.TypeJournal && fd.Type != storage.TypeManifest {
@@ -70,7 +71,7 @@ func (l *levelFiles) Open(fd storage.FileDesc) (storage.Reader, error) {
 		_ = r.Close()
 		return nil, fmt.Errorf("stores: index: %w", err)
 	}
-	content = content[:untorn(content)]
+	content = content[:completeLength(content)]
 	if fd.Type == storage.TypeManifest {
 		if err := l.checkNewest(content); err != nil {
 			_ = r.Close()
@@ -80,9 +81,10 @@ func (l *levelFiles) Open(fd storage.FileDesc) (storage.Reader, error) {
 	return levelJournal{bytes.NewReader(content), r}, nil
 }
 
-// checkNewest returns an error unless the journal is there that a manifest names. After the rows of a journal are in a
-// table, the manifest names the table and the next journal, and then the journal is deleted. So if the manifest has
-// lost that record, the journal that it names is missing. Before the first journal there is no table.
+// checkNewest returns an error if a manifest has lost its last records, so that the journal that it names is missing.
+// After the rows of a journal are in a table, goleveldb adds a record with the table and the next journal to the
+// manifest, and then deletes the journal. So a manifest without that record names the deleted journal. A manifest that
+// names no journal is correct only as long as there is no table.
 func (l *levelFiles) checkNewest(manifest []byte) error {
 	number, err := journalIn(manifest)
 	if err != nil {
@@ -97,14 +99,15 @@ func (l *levelFiles) checkNewest(manifest []byte) error {
 			return errors.New("it names no journal, and there are tables")
 		}
 	}
-	if its := (storage.FileDesc{Type: storage.TypeJournal, Num: number}); number != 0 && !slices.Contains(others, its) {
-		return fmt.Errorf("it names %v, which is missing", its)
+	last := storage.FileDesc{Type: storage.TypeJournal, Num: number}
+	if number != 0 && !slices.Contains(others, last) {
+		return fmt.Errorf("it names %v, which is missing", last)
 	}
 	return nil
 }
 
-// The fields of LevelDB's manifests, by their tags: a comparer's name, numbers, a key of a level, a deleted table and
-// an added one.
+// The tags of the fields of LevelDB's manifests: a comparer's name, numbers, a key of a level, a deleted table and an
+// added one.
 const (
 	comparerField, journalField, fileField, sequenceField, earlierField = 1, 2, 3, 4, 9
 	keyField, deletedField, addedField                                  = 5, 6, 7
@@ -156,7 +159,7 @@ func journalIn(manifest []byte) (number int64, err error) {
 	}
 }
 
-// manifestFields are what is left of a record of a manifest.
+// manifestFields reads the fields of a record of a manifest. It holds the rest of the record.
 type manifestFields struct {
 	rest    []byte
 	isWrong bool
@@ -185,14 +188,14 @@ type levelJournal struct {
 	io.Closer
 }
 
-// levelFile is a file that is written. Its first sync is one of its name, too.
+// levelFile is a file that is being written. Its first sync also syncs its name.
 type levelFile struct {
 	storage.Writer
 	folder  string
 	isNamed bool
 }
 
-// Sync is storage.Writer's.
+// Sync implements storage.Writer.
 func (l *levelFile) Sync() error {
 	if err := l.Writer.Sync(); err != nil || l.isNamed {
 		return err
@@ -204,7 +207,8 @@ func (l *levelFile) Sync() error {
 	return nil
 }
 
-// The format of LevelDB's journals: blocks, and in them chunks with a header of a checksum, a length and a kind.
+// The format of LevelDB's journals: they consist of blocks, and blocks consist of chunks. A chunk has a header with a
+// checksum, a length and a kind.
 const (
 	levelBlock  = 32 << 10
 	levelHeader = 7
@@ -212,10 +216,10 @@ const (
 	lastChunk   = 4
 )
 
-// untorn returns the length of a journal without the record at its end that was being written when the process or the
-// machine stopped: the file ends within it, or has zeros in place of its end. If anything else is wrong, it returns the
-// whole length, and LevelDB refuses the journal.
-func untorn(content []byte) int {
+// completeLength returns the length of a journal without an unfinished record at its end. That is a record that was
+// being written when the process or the machine stopped: the file ends within it, or has zeros in place of its end. If
+// anything else is wrong, completeLength returns the whole length, and LevelDB refuses the journal.
+func completeLength(content []byte) int {
 	written, end := len(bytes.TrimRight(content, "\x00")), 0
 	for at := 0; ; {
 		room := levelBlock - at%levelBlock

@@ -11,19 +11,20 @@ import (
 	"github.com/syndtr/goleveldb/leveldb/storage"
 )
 
-// fragile is storage on a disk that keeps only what it was asked to keep.
+// fragile is storage on a disk that keeps only what was synced.
 type fragile struct {
 	storage.Storage
 	folder string
 	mu     sync.Mutex
-	// kept has the length of each file that is on the disk, and named the files whose names are.
+	// kept holds, for each file, how many of its bytes are on the disk. named holds the files whose names are on the
+	// disk.
 	kept  map[string]int64
 	named map[string]bool
 }
 
 type fragileFile struct {
 	storage.Writer
-	of         *fragile
+	disk       *fragile
 	fd         storage.FileDesc
 	name       string
 	length     int64
@@ -35,7 +36,7 @@ func (f *fragile) Create(fd storage.FileDesc) (storage.Writer, error) {
 	defer f.mu.Unlock()
 	w, err := f.Storage.Create(fd)
 	f.kept[fd.String()] = 0
-	return &fragileFile{Writer: w, of: f, fd: fd, name: fd.String(), isManifest: fd.Type == storage.TypeManifest}, err
+	return &fragileFile{Writer: w, disk: f, fd: fd, name: fd.String(), isManifest: fd.Type == storage.TypeManifest}, err
 }
 
 func (f *fragile) Remove(fd storage.FileDesc) error {
@@ -51,7 +52,7 @@ func (f *fragile) SetMeta(fd storage.FileDesc) error {
 	return f.Storage.SetMeta(fd)
 }
 
-// nameAll says that the folder was written to the disk.
+// nameAll notes that the folder was synced.
 func (f *fragile) nameAll() {
 	for name := range f.kept {
 		f.named[name] = true
@@ -59,26 +60,26 @@ func (f *fragile) nameAll() {
 }
 
 func (f *fragileFile) Write(content []byte) (int, error) {
-	f.of.mu.Lock()
-	defer f.of.mu.Unlock()
+	f.disk.mu.Lock()
+	defer f.disk.mu.Unlock()
 	n, err := f.Writer.Write(content)
 	f.length += int64(n)
 	return n, err
 }
 
 func (f *fragileFile) Sync() error {
-	f.of.mu.Lock()
-	defer f.of.mu.Unlock()
-	f.of.kept[f.name] = f.length
+	f.disk.mu.Lock()
+	defer f.disk.mu.Unlock()
+	f.disk.kept[f.name] = f.length
 	if f.isManifest {
-		f.of.nameAll()
+		f.disk.nameAll()
 	}
-	// (the test's disk is not written: it counts what would be)
+	// Nothing is really synced, since the test only counts what would be on the disk.
 	return nil
 }
 
-// cut returns a folder with what is left after a power cut: of each file what was synced, or more, or zeros in place of
-// that. A file whose name was not synced is there or not.
+// cut returns a folder with what is left after a power cut. Each file contains the bytes that were synced, and may
+// contain more of its bytes, or zeros in their place. A file whose name was not synced may be missing.
 func (f *fragile) cut(t *testing.T, random *rand.Rand) string {
 	t.Helper()
 	f.mu.Lock()
@@ -136,7 +137,7 @@ func TestLevelDBOutlivesPowerCuts(t *testing.T) {
 					t.Fatalf("%s, seed %d, start %d: %v", name, seed, start, err)
 				}
 				asked, _, want := someOf(0, added)
-				finds(t, store, asked, want)
+				wantFound(t, store, asked, want)
 				for range random.Intn(8) {
 					next := added + 1 + random.Intn(200)
 					_, all, _ := someOf(added, next)

@@ -11,48 +11,48 @@ import (
 	"wagtenib/internal/testutil"
 )
 
-// noted is a connection that keeps the last deadline that it was given, or refuses one.
-type noted struct {
+// fakeConn is a connection that keeps its last deadline, or refuses a deadline.
+type fakeConn struct {
 	net.Conn
 	deadline time.Time
-	refuses  error
-	asked    int
+	refusal  error
+	calls    int
 }
 
-func (n *noted) SetDeadline(at time.Time) error {
-	n.deadline = at
-	return n.refuses
+func (f *fakeConn) SetDeadline(at time.Time) error {
+	f.deadline = at
+	return f.refusal
 }
 
-func (n *noted) Read(into []byte) (int, error) {
-	n.asked++
-	return copy(into, "said"), nil
+func (f *fakeConn) Read(into []byte) (int, error) {
+	f.calls++
+	return copy(into, "read"), nil
 }
 
-func (n *noted) Write(from []byte) (int, error) {
-	n.asked++
+func (f *fakeConn) Write(from []byte) (int, error) {
+	f.calls++
 	return len(from), nil
 }
 
-// TestImpatientConnections: each read and each write of a connection to PostgreSQL has its own end, and none is made
-// without one.
-func TestImpatientConnections(t *testing.T) {
+// TestConnectionsSetDeadlines: each read and each write of a connection to PostgreSQL has its own deadline, and none is
+// made without a deadline.
+func TestConnectionsSetDeadlines(t *testing.T) {
 	refused := errors.New("no deadline")
 	for name, call := range map[string]func(io.ReadWriter) (int, error){
 		"read":  func(c io.ReadWriter) (int, error) { return c.Read(make([]byte, 9)) },
-		"write": func(c io.ReadWriter) (int, error) { return c.Write([]byte("told")) },
+		"write": func(c io.ReadWriter) (int, error) { return c.Write([]byte("text")) },
 	} {
-		of := &noted{}
+		fake := &fakeConn{}
 		before := time.Now()
-		if n, err := call(timed{of}); n != 4 || err != nil || of.asked != 1 {
+		if n, err := call(deadlineConn{fake}); n != 4 || err != nil || fake.calls != 1 {
 			t.Errorf("%s: %d, %v", name, n, err)
 		}
-		if of.deadline.Before(before.Add(waits)) || of.deadline.After(time.Now().Add(waits)) {
-			t.Errorf("%s: it ends at %v, and began at %v", name, of.deadline, before)
+		if fake.deadline.Before(before.Add(maxSilence)) || fake.deadline.After(time.Now().Add(maxSilence)) {
+			t.Errorf("%s: the deadline is %v, and the call began at %v", name, fake.deadline, before)
 		}
-		of = &noted{refuses: refused}
-		if n, err := call(timed{of}); n != 0 || err != refused || of.asked != 0 {
-			t.Errorf("%s: where no end can be set: %d, %v", name, n, err)
+		fake = &fakeConn{refusal: refused}
+		if n, err := call(deadlineConn{fake}); n != 0 || err != refused || fake.calls != 0 {
+			t.Errorf("%s: no deadline can be set: %d, %v", name, n, err)
 		}
 	}
 	listener, err := net.Listen("tcp", "127.0.0.1:0")
@@ -60,34 +60,36 @@ func TestImpatientConnections(t *testing.T) {
 	defer listener.Close()
 	address := listener.Addr().String()
 	for name, dial := range map[string]func() (net.Conn, error){
-		"Dial":        func() (net.Conn, error) { return impatient{}.Dial("tcp", address) },
-		"DialContext": func() (net.Conn, error) { return impatient{}.DialContext(limited(t), "tcp", address) },
-		"DialTimeout": func() (net.Conn, error) { return impatient{}.DialTimeout("tcp", address, testutil.Longest) },
+		"Dial":        func() (net.Conn, error) { return deadlineDialer{}.Dial("tcp", address) },
+		"DialContext": func() (net.Conn, error) { return deadlineDialer{}.DialContext(limited(t), "tcp", address) },
+		"DialTimeout": func() (net.Conn, error) {
+			return deadlineDialer{}.DialTimeout("tcp", address, testutil.Longest)
+		},
 	} {
 		connection, err := dial()
-		if _, ends := connection.(timed); err != nil || !ends {
+		if _, ok := connection.(deadlineConn); err != nil || !ok {
 			t.Errorf("%s: %T, %v", name, connection, err)
 			continue
 		}
 		connection.Close()
 	}
-	if _, err := (impatient{}).DialTimeout("tcp", address, -time.Second); err == nil {
-		t.Error("it is dialled behind the end of its time")
+	if _, err := (deadlineDialer{}).DialTimeout("tcp", address, -time.Second); err == nil {
+		t.Error("it is dialled after its timeout")
 	}
 }
 
-// TestCallsOfPostgresEnd: a call that doesn't end by itself ends with its context, and one that does gives what it
-// gave.
-func TestCallsOfPostgresEnd(t *testing.T) {
+// TestPostgresCallsEndWithTheirContext: a call that does not end by itself ends with its context. The results of a call
+// that ends by itself are returned.
+func TestPostgresCallsEndWithTheirContext(t *testing.T) {
 	broken := errors.New("broken")
-	if value, err := within(limited(t), func() (int, error) { return 7, broken }); value != 7 || err != broken {
+	if value, err := withContext(limited(t), func() (int, error) { return 7, broken }); value != 7 || err != broken {
 		t.Errorf("%d, %v", value, err)
 	}
 	ctx, cancel := context.WithCancel(context.Background())
-	let := make(chan struct{})
-	defer close(let)
+	goOn := make(chan struct{})
+	defer close(goOn)
 	cancel()
-	if value, err := within(ctx, func() (int, error) { <-let; return 7, nil }); value != 0 ||
+	if value, err := withContext(ctx, func() (int, error) { <-goOn; return 7, nil }); value != 0 ||
 		!errors.Is(err, context.Canceled) {
 		t.Errorf("%d, %v", value, err)
 	}

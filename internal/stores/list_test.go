@@ -9,8 +9,8 @@ import (
 	"wagtenib/internal/testbucket"
 )
 
-// TestS3ListEndsWithItsContext ends the context of each list before its answer. A list that is cut off must not look like
-// a whole one.
+// TestS3ListEndsWithItsContext ends the context of each list before the response. A list that is cut off must return an
+// error, since it would look like a complete one.
 func TestS3ListEndsWithItsContext(t *testing.T) {
 	bucket := testbucket.New(true)
 	store, err := OpenS3(limited(t), serve(t, bucket))
@@ -36,9 +36,9 @@ func TestS3ListEndsWithItsContext(t *testing.T) {
 	}
 }
 
-// TestSwapOfAnotherName has a second object swapped from the content that the first one got last. The second is not
-// there, so nothing is swapped.
-func TestSwapOfAnotherName(t *testing.T) {
+// TestSwapComparesTheNameToo swaps a second object from the content that the last swap gave to the first object. The
+// second object does not exist, so nothing is swapped.
+func TestSwapComparesTheNameToo(t *testing.T) {
 	bucket := testbucket.New(true)
 	objects, current, err := OpenPublic(limited(t), addressOfS3(serve(t, bucket), ""))
 	must(t, err)

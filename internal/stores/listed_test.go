@@ -11,9 +11,9 @@ import (
 	"testing"
 )
 
-// TestFolderListsAsWalked: a list of a folder after any text, of any length, has the names that a walk over its files
-// finds, in order.
-func TestFolderListsAsWalked(t *testing.T) {
+// TestFolderListsWhatAWalkFinds: a list of a folder, after any text and of any length, has the names that a walk over
+// its files finds, in order.
+func TestFolderListsWhatAWalkFinds(t *testing.T) {
 	t.Parallel()
 	root, ctx := t.TempDir(), limited(t)
 	store, err := OpenFolder(root)
@@ -27,7 +27,7 @@ func TestFolderListsAsWalked(t *testing.T) {
 		}
 		must(t, store.Put(ctx, name, nil))
 	}
-	// (what isn't a name, and folders that have nothing)
+	// A file whose name is not the name of an object, and empty folders, are not listed.
 	must(t, os.WriteFile(filepath.Join(root, "a", "no name"), nil, 0o600))
 	must(t, os.MkdirAll(filepath.Join(root, "a", "empty", "too"), 0o755))
 	var all []string
@@ -48,14 +48,14 @@ func TestFolderListsAsWalked(t *testing.T) {
 					want = append(want, name)
 				}
 			}
-			for _, most := range []int{1, 3, MaxListed} {
+			for _, maxNames := range []int{1, 3, MaxListed} {
 				some := want
-				if len(some) > most {
-					some = some[:most]
+				if len(some) > maxNames {
+					some = some[:maxNames]
 				}
-				got, err := store.List(ctx, prefix, after, most)
+				got, err := store.List(ctx, prefix, after, maxNames)
 				if err != nil || fmt.Sprint(got) != fmt.Sprint(some) {
-					t.Fatalf("%d of %q behind %q: %q, %v, and not %q", most, prefix, after, got, err, some)
+					t.Fatalf("%d of %q after %q: %q, %v, and not %q", maxNames, prefix, after, got, err, some)
 				}
 			}
 		}

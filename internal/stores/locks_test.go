@@ -13,7 +13,7 @@ import (
 	"time"
 )
 
-// allBytes is a text of every byte.
+// allBytes returns a text with each of the 256 bytes.
 func allBytes() string {
 	var text [256]byte
 	for i := range text {
@@ -22,29 +22,29 @@ func allBytes() string {
 	return string(text[:])
 }
 
-// standsAs fails the test unless the lock has this text and published number.
-func standsAs(t *testing.T, lock Lock, text string, published uint64) {
+// wantLock fails the test unless the lock has this text and a published head of this size.
+func wantLock(t *testing.T, lock Lock, text string, published uint64) {
 	t.Helper()
 	if got, err := lock.Read(limited(t)); err != nil || got != text {
-		t.Errorf("%.40q stands, %v, and %.40q should", got, err, text)
+		t.Errorf("the text is %.40q, %v, and should be %.40q", got, err, text)
 	}
-	isPublished(t, lock, Published{Size: published})
+	wantPublished(t, lock, Published{Size: published})
 }
 
-// isPublished fails the test unless this is published.
-func isPublished(t *testing.T, lock Lock, published Published) {
+// wantPublished fails the test unless the lock has this published head.
+func wantPublished(t *testing.T, lock Lock, published Published) {
 	t.Helper()
 	if got, err := lock.Published(limited(t)); err != nil || got != published {
-		t.Errorf("%v is published, %v, and %v should be", got, err, published)
+		t.Errorf("the published head is %v, %v, and should be %v", got, err, published)
 	}
 }
 
 func TestLockIsCreatedOnce(t *testing.T) {
 	eachOf(t, locks, func(t *testing.T, at tried[Lock]) {
 		lock, ctx := at.opened(t), limited(t)
-		_, reading := lock.Read(ctx)
-		_, asking := lock.Published(ctx)
-		for what, err := range map[string]error{"Read": reading, "Published": asking,
+		_, readErr := lock.Read(ctx)
+		_, publishedErr := lock.Published(ctx)
+		for what, err := range map[string]error{"Read": readErr, "Published": publishedErr,
 			"Swap": lock.Swap(ctx, "a", "b"), "Raise": lock.Raise(ctx, Published{Size: 1})} {
 			if !errors.Is(err, ErrAbsent) {
 				t.Errorf("%s before Create: %v", what, err)
@@ -61,17 +61,17 @@ func TestLockIsCreatedOnce(t *testing.T) {
 		if won != 1 {
 			t.Errorf("%d of 16 created it", won)
 		}
-		standsAs(t, lock, "first", 0)
+		wantLock(t, lock, "first", 0)
 		must(t, lock.Raise(ctx, Published{Size: 7}))
 		if err := lock.Create(ctx, "again"); !errors.Is(err, ErrExists) {
-			t.Errorf("Create once more: %v", err)
+			t.Errorf("a second Create: %v", err)
 		}
-		standsAs(t, at.opened(t), "first", 7)
+		wantLock(t, at.opened(t), "first", 7)
 	})
 }
 
-// TestFileWhoseTextIsLost: a lost text is not created again, since the log would start from nothing.
-func TestFileWhoseTextIsLost(t *testing.T) {
+// TestFileRefusesToCreateALostText: a lost text is not created again, since the log would start from nothing.
+func TestFileRefusesToCreateALostText(t *testing.T) {
 	root, ctx := t.TempDir(), limited(t)
 	lock, err := OpenFile(root)
 	must(t, err)
@@ -91,14 +91,14 @@ func TestFileWhoseTextIsLost(t *testing.T) {
 		t.Errorf("Swap: %v", err)
 	}
 	must(t, os.WriteFile(filepath.Join(root, textFile), []byte("a"), 0o644))
-	isPublished(t, lock, Published{Size: 5})
-	for what, bend := range map[string]func() error{
+	wantPublished(t, lock, Published{Size: 5})
+	for what, damage := range map[string]func() error{
 		"a number below 0": func() error { return os.WriteFile(filepath.Join(root, headFile), []byte("-5 1"), 0o644) },
-		"a size alone":     func() error { return os.WriteFile(filepath.Join(root, headFile), []byte("6"), 0o644) },
+		"only a size":      func() error { return os.WriteFile(filepath.Join(root, headFile), []byte("6"), 0o644) },
 		"nothing":          func() error { return os.WriteFile(filepath.Join(root, headFile), nil, 0o644) },
 		"no file":          func() error { return os.Remove(filepath.Join(root, headFile)) },
 	} {
-		must(t, bend())
+		must(t, damage())
 		err := lock.Raise(ctx, Published{Size: 6})
 		if err == nil || errors.Is(err, ErrAbsent) || !strings.Contains(err.Error(), filepath.Join(root, headFile)) {
 			t.Errorf("Raise over %s: %v", what, err)
@@ -130,13 +130,13 @@ func TestReadingWaitsForNobody(t *testing.T) {
 	must(t, syscall.Flock(int(taken.Fd()), syscall.LOCK_EX))
 	defer func() { fsync = (*os.File).Sync }()
 	fsync = func(*os.File) error { return syscall.EROFS }
-	standsAs(t, lock, "text", 5)
-	// (another process doesn't know yet what is on the disk)
+	wantLock(t, lock, "text", 5)
+	// The second handle is like another process: it does not know yet what is on the disk.
 	fsync = (*os.File).Sync
 	other, err := OpenFile(root)
 	must(t, err)
 	fsync = func(*os.File) error { return syscall.EIO }
-	standsAs(t, lock, "text", 5)
+	wantLock(t, lock, "text", 5)
 	if _, err := other.Read(ctx); !errors.Is(err, syscall.EIO) {
 		t.Errorf("a disk that fails: %v", err)
 	}
@@ -144,7 +144,7 @@ func TestReadingWaitsForNobody(t *testing.T) {
 		t.Errorf("a disk that fails: %v", err)
 	}
 	fsync = func(*os.File) error { return syscall.EROFS }
-	standsAs(t, other, "text", 5)
+	wantLock(t, other, "text", 5)
 }
 
 func TestLockSwapsTheTextThatWasRead(t *testing.T) {
@@ -158,11 +158,11 @@ func TestLockSwapsTheTextThatWasRead(t *testing.T) {
 				t.Errorf("Swap over %.20q: %v", old, err)
 			}
 		}
-		standsAs(t, lock, "b", 0)
+		wantLock(t, lock, "b", 0)
 		longest := strings.Repeat("x", MaxText)
 		must(t, lock.Swap(ctx, "b", longest))
 		must(t, lock.Swap(ctx, longest, allBytes()))
-		standsAs(t, at.opened(t), allBytes(), 0)
+		wantLock(t, at.opened(t), allBytes(), 0)
 		for _, texts := range [][2]string{{allBytes(), longest + "x"}, {longest + "x", "d"}} {
 			if err := lock.Swap(ctx, texts[0], texts[1]); !errors.Is(err, ErrTooLong) {
 				t.Errorf("Swap of too long a text: %v", err)
@@ -173,7 +173,7 @@ func TestLockSwapsTheTextThatWasRead(t *testing.T) {
 				t.Errorf("Swap of no text: %v", err)
 			}
 		}
-		standsAs(t, lock, allBytes(), 0)
+		wantLock(t, lock, allBytes(), 0)
 	})
 }
 
@@ -199,15 +199,15 @@ func TestLockLetsOneOfManyWin(t *testing.T) {
 				case err == nil:
 					winner = i
 				case !errors.Is(err, ErrLost):
-					t.Errorf("a loser is told %v", err)
+					t.Errorf("a loser gets %v", err)
 				}
 			}
 			if winner < 0 {
 				t.Fatal("nobody wins")
 			}
-			standsAs(t, handles[round%16], text(winner), 0)
+			wantLock(t, handles[round%16], text(winner), 0)
 		}
-		took(t, at.name+": swaps by 16", 16*rounds, start)
+		logDuration(t, at.name+": swaps by 16", 16*rounds, start)
 	})
 }
 
@@ -258,7 +258,7 @@ func TestLockHasOneHistory(t *testing.T) {
 		if length != many*swaps {
 			t.Errorf("a history of %d swaps, and %d were acknowledged", length, many*swaps)
 		}
-		standsAs(t, lock, text, 0)
+		wantLock(t, lock, text, 0)
 	})
 }
 
@@ -275,9 +275,9 @@ func TestPublishedNeverFalls(t *testing.T) {
 			}
 			numbers := rand.New(rand.NewSource(int64(i)))
 			for done := 0; done < raises; done++ {
-				// By the number of digits, so that an order of texts would be seen.
-				number := func(digits int) uint64 { return uint64(numbers.Int63n(int64(1) << digits)) }
-				// (of some sizes there are many)
+				// The numbers differ in their numbers of digits, so that an engine that compares them as texts fails.
+				number := func(bits int) uint64 { return uint64(numbers.Int63n(int64(1) << bits)) }
+				// There are few sizes, so that many heads have the same one.
 				head := Published{number(2) << (20 * numbers.Intn(3)), number(numbers.Intn(60))}
 				if err := lock.Raise(ctx, head); err != nil {
 					return err
@@ -286,7 +286,7 @@ func TestPublishedNeverFalls(t *testing.T) {
 					largest[i] = head
 				}
 				if now, err := other.Published(ctx); err != nil || now.Before(largest[i]) {
-					return fmt.Errorf("%v is published, %v, behind %v that was acknowledged", now, err, largest[i])
+					return fmt.Errorf("%v is published, %v, after %v was acknowledged", now, err, largest[i])
 				}
 			}
 			if i == 0 {
@@ -294,34 +294,34 @@ func TestPublishedNeverFalls(t *testing.T) {
 			}
 			return nil
 		})
-		most := Published{}
+		newest := Published{}
 		for i, err := range errs {
 			if err != nil {
 				t.Error(err)
 			}
-			if i < many && most.Before(largest[i]) {
-				most = largest[i]
+			if i < many && newest.Before(largest[i]) {
+				newest = largest[i]
 			}
 		}
-		isPublished(t, lock, most)
+		wantPublished(t, lock, newest)
 		must(t, lock.Raise(ctx, Published{MaxNumber, 3}))
 		must(t, lock.Raise(ctx, Published{MaxNumber, MaxNumber}))
 		must(t, lock.Raise(ctx, Published{3, MaxNumber}))
 		for _, head := range []Published{{MaxNumber + 1, 0}, {0, MaxNumber + 1}} {
 			if err := lock.Raise(ctx, head); !errors.Is(err, ErrNumber) {
-				t.Errorf("Raise to more than may be: %v", err)
+				t.Errorf("Raise to more than the maximum: %v", err)
 			}
 		}
-		isPublished(t, at.opened(t), Published{MaxNumber, MaxNumber})
+		wantPublished(t, at.opened(t), Published{MaxNumber, MaxNumber})
 	})
 }
 
-// watch reads the published number until it is stopped, and fails if the number falls.
+// watch reads the published head until it is stopped, and returns an error if the head goes back.
 func watch(ctx context.Context, lock Lock, until chan struct{}) error {
 	for last := (Published{}); ; {
 		now, err := lock.Published(ctx)
 		if err != nil || now.Before(last) {
-			return fmt.Errorf("published fell from %v to %v, %v", last, now, err)
+			return fmt.Errorf("the published head went back from %v to %v, %v", last, now, err)
 		}
 		last = now
 		select {
@@ -332,42 +332,43 @@ func watch(ctx context.Context, lock Lock, until chan struct{}) error {
 	}
 }
 
-// TestLockSettlesByReading has swaps whose context ends at any time. Whatever they return, the lock has the old
-// text or theirs. It has theirs if they return nil. A swap that has lost is never performed later.
-func TestLockSettlesByReading(t *testing.T) {
+// TestReadDecidesAbandonedSwap makes swaps whose contexts end at random times. Whatever a swap returns, the lock has
+// the old text or the new one. It has the new one if the swap returned nil. A swap that has lost is never performed
+// later.
+func TestReadDecidesAbandonedSwap(t *testing.T) {
 	eachOf(t, locks, func(t *testing.T, at tried[Lock]) {
 		ctx, lock := limited(t), at.opened(t)
 		must(t, lock.Create(ctx, "text 0"))
 		start := time.Now()
 		must(t, lock.Swap(ctx, "text 0", "text 1"))
 		usual := time.Since(start)
-		stands, outcomes := "text 1", map[string]int{}
+		current, outcomes := "text 1", map[string]int{}
 		for i := 2; i < 42; i++ {
 			short, cancel := context.WithTimeout(ctx, time.Duration(rand.Int63n(int64(3*usual))))
 			new := fmt.Sprintf("text %d", i)
-			err := lock.Swap(short, stands, new)
+			err := lock.Swap(short, current, new)
 			cancel()
-			read, reading := lock.Read(ctx)
-			must(t, reading)
+			read, readErr := lock.Read(ctx)
+			must(t, readErr)
 			switch {
 			case err == nil && read != new:
-				t.Fatalf("%q stands behind a swap to %q that was acknowledged", read, new)
-			case read != new && read != stands:
-				t.Fatalf("%q stands behind a swap from %q to %q", read, stands, new)
+				t.Fatalf("the text is %q after a swap to %q was acknowledged", read, new)
+			case read != new && read != current:
+				t.Fatalf("the text is %q after a swap from %q to %q", read, current, new)
 			case errors.Is(err, ErrLost) || errors.Is(err, ErrAbsent):
-				t.Fatalf("a swap from what stands: %v", err)
+				t.Fatalf("a swap of the current text: %v", err)
 			}
 			outcomes[fmt.Sprintf("acknowledged %t, done %t", err == nil, read == new)]++
-			settled := fmt.Sprintf("settled %d", i)
-			if err := lock.Swap(ctx, read, settled); errors.Is(err, ErrLost) {
+			next := fmt.Sprintf("settled %d", i)
+			if err := lock.Swap(ctx, read, next); errors.Is(err, ErrLost) {
 				// The abandoned swap was performed after the read.
-				must(t, lock.Swap(ctx, new, settled))
+				must(t, lock.Swap(ctx, new, next))
 			} else {
 				must(t, err)
 			}
-			stands = settled
+			current = next
 		}
-		standsAs(t, lock, stands, 0)
+		wantLock(t, lock, current, 0)
 		t.Logf("%s: %v", at.name, outcomes)
 	})
 }
@@ -378,16 +379,16 @@ func TestLockEndsWithItsContext(t *testing.T) {
 		must(t, lock.Create(limited(t), "text"))
 		ended, cancel := context.WithCancel(limited(t))
 		cancel()
-		_, reading := lock.Read(ended)
-		_, asking := lock.Published(ended)
-		calls := map[string]error{"Read": reading, "Published": asking,
+		_, readErr := lock.Read(ended)
+		_, publishedErr := lock.Published(ended)
+		calls := map[string]error{"Read": readErr, "Published": publishedErr,
 			"Raise": lock.Raise(ended, Published{Size: 1}), "Swap": lock.Swap(ended, "text", "other")}
 		for what, err := range calls {
 			if err == nil || errors.Is(err, ErrLost) || errors.Is(err, ErrAbsent) {
 				t.Errorf("%s: %v", what, err)
 			}
 		}
-		standsAs(t, lock, "text", 0)
+		wantLock(t, lock, "text", 0)
 	})
 }
 
@@ -407,5 +408,5 @@ func TestFileWaitsForItsLockFile(t *testing.T) {
 	}
 	time.AfterFunc(50*time.Millisecond, func() { taken.Close() })
 	must(t, lock.Swap(limited(t), "text", "another"))
-	standsAs(t, lock, "another", 0)
+	wantLock(t, lock, "another", 0)
 }

@@ -5,9 +5,9 @@ import (
 	"testing"
 )
 
-// TestElsewhere: a store is on another machine where neither its address is one of this machine's, nor who asks has the
-// same.
-func TestElsewhere(t *testing.T) {
+// TestIsElsewhere: a store is on another machine if its address is none of this machine's, and differs from the address
+// from which it is asked.
+func TestIsElsewhere(t *testing.T) {
 	for store, here := range map[string]string{
 		"": "", "203.0.113.1": "203.0.113.1", "127.0.0.1": "127.0.0.1", "127.0.0.9": "192.0.2.1", "::1": "::1",
 		"::ffff:127.0.0.1": "192.0.2.1", "0.0.0.0": "192.0.2.1", "no address": "192.0.2.1",

@@ -11,7 +11,7 @@ const (
 	maxParts = 16
 )
 
-// checkName reports whether a name is of the form that Objects states.
+// checkName returns ErrName if a name does not have the form that Objects states.
 func checkName(name string) error {
 	if len(name) > maxName {
 		return fmt.Errorf("%w: of %d bytes", ErrName, len(name))
@@ -33,7 +33,7 @@ func notInNames(c rune) bool {
 	return !letter && !('0' <= c && c <= '9') && c != '-' && c != '_' && c != '.'
 }
 
-// checkObject checks what is put.
+// checkObject checks the name and the length of an object before it is put.
 func checkObject(name string, content []byte) error {
 	if len(content) > MaxObject {
 		return fmt.Errorf("%w: object %.80q of %d bytes", ErrTooLong, name, len(content))
@@ -41,7 +41,8 @@ func checkObject(name string, content []byte) error {
 	return checkName(name)
 }
 
-// checkPrefix reports whether a text is the beginning of names: whole parts with a slash at the end, or the empty text.
+// checkPrefix returns ErrName if a text is not a prefix that List takes: whole parts with a slash at the end, or the
+// empty text.
 func checkPrefix(prefix string) error {
 	if prefix == "" {
 		return nil
@@ -52,7 +53,8 @@ func checkPrefix(prefix string) error {
 	return checkName(strings.TrimSuffix(prefix, "/"))
 }
 
-// checkAfter reports whether a text is a name, the beginning of a name, or empty. List returns the names after it.
+// checkAfter returns ErrName if a text is not a name, the beginning of a name, or empty. List returns the names after
+// it.
 func checkAfter(text string) error {
 	if len(text) > maxName || strings.IndexFunc(strings.ReplaceAll(text, "/", ""), notInNames) >= 0 {
 		return fmt.Errorf("%w: %.80q", ErrName, text)
@@ -60,15 +62,15 @@ func checkAfter(text string) error {
 	return nil
 }
 
-// atMost bounds how many names are listed.
-func atMost(most int) int {
-	if most < 0 {
+// boundListed returns the number of names that List may return if it is asked for so many.
+func boundListed(maxNames int) int {
+	if maxNames < 0 {
 		return 0
 	}
-	if most > MaxListed {
+	if maxNames > MaxListed {
 		return MaxListed
 	}
-	return most
+	return maxNames
 }
 
 func checkText(texts ...string) error {
@@ -115,13 +117,13 @@ func firsts(rows []Row) (identities, leaves []keyed, err error) {
 	return identities, leaves, nil
 }
 
-// keyed is one row of one of an index's two tables.
+// keyed is a row of one of the two tables of an index.
 type keyed struct {
 	key   Identity
 	place Place
 }
 
-// distinct checks a list of identities, and gives each once.
+// distinct checks the length of a list of identities, and returns each identity once.
 func distinct(identities []Identity) ([]Identity, error) {
 	if len(identities) > MaxRows {
 		return nil, fmt.Errorf("%w: %d identities", ErrTooLong, len(identities))
@@ -137,7 +139,7 @@ func distinct(identities []Identity) ([]Identity, error) {
 	return once, nil
 }
 
-// parts cuts a list of n into parts of at most size, and gives each part's bounds.
+// parts divides a list of n elements into parts of at most size elements, and calls each with the bounds of each part.
 func parts(n, size int, each func(from, to int) error) error {
 	for from := 0; from < n; from += size {
 		to := from + size

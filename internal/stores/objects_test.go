@@ -43,13 +43,13 @@ func TestObjectsHaveOneContent(t *testing.T) {
 			}
 		}
 		if _, err := store.Get(ctx, "staging/x", manyBytes-1); !errors.Is(err, ErrTooLong) {
-			t.Errorf("Get of more than may be: %v", err)
+			t.Errorf("Get of more than the maximum: %v", err)
 		}
 		if _, err := store.Get(ctx, "tile/0", manyBytes); !errors.Is(err, ErrAbsent) {
-			t.Errorf("Get of a beginning of names: %v", err)
+			t.Errorf("Get of the beginning of a name: %v", err)
 		}
 		if err := store.Put(ctx, "long", make([]byte, MaxObject+1)); !errors.Is(err, ErrTooLong) {
-			t.Errorf("Put of more than may be: %v", err)
+			t.Errorf("Put of more than the maximum: %v", err)
 		}
 		must(t, store.Delete(ctx, "staging/x"))
 		must(t, store.Delete(ctx, "staging/x"))
@@ -57,9 +57,9 @@ func TestObjectsHaveOneContent(t *testing.T) {
 		if _, err := store.Get(ctx, "staging/x", manyBytes); !errors.Is(err, ErrAbsent) {
 			t.Errorf("Get after Delete: %v", err)
 		}
-		must(t, store.Put(ctx, "staging/x", []byte("anew")))
+		must(t, store.Put(ctx, "staging/x", []byte("again")))
 		if _, err := store.Get(ctx, "tile/0/000", 0); err != nil {
-			t.Errorf("Get beside what was deleted: %v", err)
+			t.Errorf("Get of an object that was not deleted: %v", err)
 		}
 	})
 }
@@ -95,13 +95,13 @@ func TestObjectsRefuseWrongNames(t *testing.T) {
 		if at.folder {
 			beside, err := os.ReadDir(filepath.Dir(at.place))
 			if err != nil || len(beside) != 1 {
-				t.Errorf("beside the store lies something: %v, %v", beside, err)
+				t.Errorf("there is another file beside the store: %v, %v", beside, err)
 			}
 		}
 		longest := strings.Repeat("a/", maxParts-1) + strings.Repeat("b", maxName-2*(maxParts-1))
 		must(t, store.Put(ctx, longest, []byte("x")))
 		if listed, err := store.List(ctx, "", "", 9); err != nil || len(listed) == 0 || listed[0] != longest {
-			t.Errorf("List gives %q, %v", listed, err)
+			t.Errorf("List returns %q, %v", listed, err)
 		}
 	})
 }
@@ -109,7 +109,7 @@ func TestObjectsRefuseWrongNames(t *testing.T) {
 func TestObjectsAreListedInOrder(t *testing.T) {
 	eachOf(t, objectStores, func(t *testing.T, at tried[Objects]) {
 		store, ctx := at.opened(t), limited(t)
-		// If other bytes than a slash are in names, the order of names differs from that of folders.
+		// The order of names differs from that of folders if names contain bytes that are less than a slash.
 		names := []string{"h/a-b", "h/a.b", "h/a/c", "h/a/c-d/e", "h/a/d/e", "h/a0", "h/ab/c", "h/A", "h/_", "h/0",
 			"h/00", "h/z/z/z/z", "i/a", "g"}
 		sort.Strings(names)
@@ -125,20 +125,20 @@ func TestObjectsAreListedInOrder(t *testing.T) {
 					want = append(want, name)
 				}
 			}
-			for _, most := range []int{1, 2, 5, len(names), MaxListed + 1} {
-				got, err := store.List(ctx, "h/", after, most)
+			for _, maxNames := range []int{1, 2, 5, len(names), MaxListed + 1} {
+				got, err := store.List(ctx, "h/", after, maxNames)
 				first := want
-				if len(first) > most {
-					first = first[:most]
+				if len(first) > maxNames {
+					first = first[:maxNames]
 				}
 				if err != nil || len(got) != len(first) || len(got) > 0 && !reflect.DeepEqual(got, first) {
-					t.Errorf("List after %q, %d: %q, %v", after, most, got, err)
+					t.Errorf("List after %q, %d: %q, %v", after, maxNames, got, err)
 				}
 			}
 		}
-		for _, most := range []int{0, -1} {
-			if got, err := store.List(ctx, "h/", "", most); len(got) > 0 || err != nil {
-				t.Errorf("List of %d: %q, %v", most, got, err)
+		for _, maxNames := range []int{0, -1} {
+			if got, err := store.List(ctx, "h/", "", maxNames); len(got) > 0 || err != nil {
+				t.Errorf("List of %d: %q, %v", maxNames, got, err)
 			}
 		}
 		for _, after := range []string{"\x00", "h/a\xff", "h/a b", strings.Repeat("h/", maxName)} {
@@ -161,18 +161,18 @@ func TestFolderListsMoreThanABound(t *testing.T) {
 	for i := 0; i < many; i++ {
 		must(t, store.Put(ctx, fmt.Sprintf("heads/%06d", i), nil))
 	}
-	took(t, "folder: puts, one after the other", many, start)
+	logDuration(t, "folder: puts, one after the other", many, start)
 	first, err := store.List(ctx, "heads/", "", many)
 	if err != nil || len(first) != MaxListed || first[MaxListed-1] != fmt.Sprintf("heads/%06d", MaxListed-1) {
-		t.Errorf("List gives %d, %v", len(first), err)
+		t.Errorf("List returns %d, %v", len(first), err)
 	}
 	rest, err := store.List(ctx, "", first[MaxListed-1], many)
 	if err != nil || len(rest) != many-MaxListed || rest[len(rest)-1] != fmt.Sprintf("heads/%06d", many-1) {
-		t.Errorf("List gives %d more, %v", len(rest), err)
+		t.Errorf("List returns %d more, %v", len(rest), err)
 	}
 }
 
-func TestFolderListsBehindEmptyFolders(t *testing.T) {
+func TestFolderListsAfterEmptyFolders(t *testing.T) {
 	root := t.TempDir()
 	store, err := OpenFolder(root)
 	must(t, err)
@@ -181,7 +181,7 @@ func TestFolderListsBehindEmptyFolders(t *testing.T) {
 	}
 	must(t, store.Put(limited(t), "a/9", nil))
 	if got, err := store.List(limited(t), "a/", "", 1); err != nil || len(got) != 1 || got[0] != "a/9" {
-		t.Errorf("List gives %q, %v", got, err)
+		t.Errorf("List returns %q, %v", got, err)
 	}
 }
 
@@ -201,11 +201,12 @@ func TestObjectsOfManyAtOnce(t *testing.T) {
 				tryOneWins(t, stores, fmt.Sprintf("other/%d/b", round))
 			}
 		}
-		took(t, at.name+": puts by 16", 16*rounds, start)
+		logDuration(t, at.name+": puts by 16", 16*rounds, start)
 	})
 }
 
-// tryOneWins has 16 calls put 16 contents under one name at once. Exactly one succeeds, and the object has its content.
+// tryOneWins puts 16 contents under one name at the same time. Exactly one call succeeds, and the object has its
+// content.
 func tryOneWins(t *testing.T, stores []Objects, name string) {
 	ctx := limited(t)
 	content := func(i int) []byte { return bytes.Repeat([]byte{byte(i)}, 1000) }
@@ -217,12 +218,12 @@ func tryOneWins(t *testing.T, stores []Objects, name string) {
 		case err == nil:
 			winner = i
 		case !errors.Is(err, ErrOther):
-			t.Errorf("a loser is told %v", err)
+			t.Errorf("a loser gets %v", err)
 		}
 	}
 	got, err := stores[0].Get(ctx, name, manyBytes)
 	if winner < 0 || err != nil || !bytes.Equal(got, content(winner)) {
-		t.Errorf("%d wins, and %d bytes stand, %v", winner, len(got), err)
+		t.Errorf("%d wins, and the object has %d bytes, %v", winner, len(got), err)
 	}
 }
 
@@ -246,7 +247,7 @@ func TestObjectsEndWithTheirContext(t *testing.T) {
 	})
 }
 
-func TestFolderSweepsWhatKilledWritersLeft(t *testing.T) {
+func TestFolderRemovesAbandonedFiles(t *testing.T) {
 	root := t.TempDir()
 	must(t, os.MkdirAll(filepath.Join(root, temporary), 0o755))
 	old, young := filepath.Join(root, temporary, "file-1"), filepath.Join(root, temporary, "file-2")
@@ -259,9 +260,9 @@ func TestFolderSweepsWhatKilledWritersLeft(t *testing.T) {
 		t.Fatal(err)
 	}
 	if _, err := os.Stat(old); !os.IsNotExist(err) {
-		t.Errorf("what was abandoned is still there: %v", err)
+		t.Errorf("the abandoned file still exists: %v", err)
 	}
 	if _, err := os.Stat(young); err != nil {
-		t.Errorf("what may still be written is gone: %v", err)
+		t.Errorf("a file that may still be written was removed: %v", err)
 	}
 }

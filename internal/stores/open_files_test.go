@@ -12,13 +12,13 @@ import (
 	"wagtenib/internal/testutil"
 )
 
-// opened counts the files below a folder that this process has open, whose names are gone.
-func opened(t *testing.T, root string) (many int) {
+// countOpen returns the number of files below a folder that this process has open. These may be deleted files.
+func countOpen(t *testing.T, root string) (many int) {
 	t.Helper()
 	links, err := filepath.Glob("/proc/self/fd/*")
 	must(t, err)
 	for _, link := range links {
-		// (one that was closed meanwhile leads nowhere)
+		// Readlink fails for a file that was closed meanwhile.
 		if to, err := os.Readlink(link); err == nil && strings.HasPrefix(to, root) {
 			many++
 		}
@@ -26,12 +26,12 @@ func opened(t *testing.T, root string) (many int) {
 	return many
 }
 
-// TestNothingStaysOpen: a lock that is swapped, and objects that are deleted, leave no file open.
-func TestNothingStaysOpen(t *testing.T) {
-	// (a collection would close what was forgotten)
+// TestLeavesNoFileOpen: swaps of a lock and deletions of objects leave no file open.
+func TestLeavesNoFileOpen(t *testing.T) {
+	// A garbage collection would close files that the code forgot to close.
 	defer debug.SetGCPercent(debug.SetGCPercent(-1))
 	root, ctx := t.TempDir(), limited(t)
-	lock, err := OpenFile(filepath.Join(root, "register"))
+	lock, err := OpenFile(filepath.Join(root, "lock"))
 	must(t, err)
 	objects, err := OpenFolder(filepath.Join(root, "objects"))
 	must(t, err)
@@ -42,34 +42,35 @@ func TestNothingStaysOpen(t *testing.T) {
 		must(t, objects.Delete(ctx, "b/c"))
 		must(t, KeepFile(filepath.Join(root, "kept"), []byte("x")))
 	}
-	testutil.Eventually(t, "all files are closed whose names are gone", func() bool { return opened(t, root) == 0 })
+	testutil.Eventually(t, "all deleted files are closed", func() bool { return countOpen(t, root) == 0 })
 }
 
-// TestFreesBeside: a file is freed after its name was taken away, and at most maxFreeing files at once.
-func TestFreesBeside(t *testing.T) {
+// TestFreesInTheBackground: a file is freed after its name was removed, and at most maxFreeing files are freed at once
+// in the background.
+func TestFreesInTheBackground(t *testing.T) {
 	root := t.TempDir()
 	path := filepath.Join(root, "file")
-	removes := func() error { return os.Remove(path) }
-	if err := freesLater(path, removes); !errors.Is(err, fs.ErrNotExist) || opened(t, root) != 0 {
+	remove := func() error { return os.Remove(path) }
+	if err := freeLater(path, remove); !errors.Is(err, fs.ErrNotExist) || countOpen(t, root) != 0 {
 		t.Errorf("no file: %v", err)
 	}
-	isOpen := func() error {
-		if opened(t, root) != 1 {
-			t.Error("the file is not held while its name is taken away")
+	removeOpen := func() error {
+		if countOpen(t, root) != 1 {
+			t.Error("the file is not open while its name is removed")
 		}
-		return removes()
+		return remove()
 	}
 	must(t, os.WriteFile(path, []byte("x"), 0o600))
-	must(t, freesLater(path, isOpen))
-	testutil.Eventually(t, "it is freed", func() bool { return opened(t, root) == 0 })
+	must(t, freeLater(path, removeOpen))
+	testutil.Eventually(t, "the file is freed", func() bool { return countOpen(t, root) == 0 })
 	// All places are taken, so the next file is freed before the call returns.
 	for range maxFreeing {
 		freeing <- struct{}{}
 	}
 	must(t, os.WriteFile(path, []byte("x"), 0o600))
-	must(t, freesLater(path, isOpen))
-	if many := opened(t, root); many != 0 {
-		t.Errorf("%d more than %d files are freed beside", many, maxFreeing)
+	must(t, freeLater(path, removeOpen))
+	if many := countOpen(t, root); many != 0 {
+		t.Errorf("%d more than %d files are freed in the background", many, maxFreeing)
 	}
 	for range maxFreeing {
 		<-freeing

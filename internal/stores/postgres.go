@@ -11,7 +11,7 @@ import (
 	"github.com/lib/pq"
 )
 
-// Postgres says where a database is, in the form of libpq (a URL or key=value), and by which name a log is known in it.
+// Postgres holds the address of a database in a form of libpq (a URL or key=value), and the name of a log in it.
 type Postgres struct {
 	Source, Log string
 }
@@ -19,13 +19,14 @@ type Postgres struct {
 // maxConnections is how many connections to a database one store opens.
 const maxConnections = 4
 
-// tables makes the tables that are missing. Without the lock, two processes that make them at the same time would fail.
-const tables = `select pg_advisory_xact_lock(4957128866342178);
+// createTables makes the tables that are missing. Without the advisory lock, two processes that make them at the same
+// time would fail.
+const createTables = `select pg_advisory_xact_lock(4957128866342178);
 create table if not exists ct_register (log text primary key, text bytea not null, published bigint not null, moment bigint not null);
 create table if not exists ct_places (log text, identity bytea, index bigint not null, timestamp bigint not null, primary key (log, identity));
 create table if not exists ct_leaves (like ct_places including all)`
 
-// open connects, sees whether the server keeps what it acknowledges, and makes the tables.
+// open connects to the server, checks that its settings are safe, and makes the tables.
 func (at Postgres) open(ctx context.Context) (*sql.DB, error) {
 	if at.Log == "" {
 		return nil, fmt.Errorf("%w: the name of a log", ErrEmpty)
@@ -34,28 +35,29 @@ func (at Postgres) open(ctx context.Context) (*sql.DB, error) {
 	if err != nil {
 		return nil, fmt.Errorf("stores: PostgreSQL: %w", err)
 	}
-	connector.Dialer(impatient{})
-	db := sql.OpenDB(brief{connector})
+	connector.Dialer(deadlineDialer{})
+	db := sql.OpenDB(sessionConnector{connector})
 	db.SetMaxOpenConns(maxConnections)
-	if _, err := within(ctx, func() (any, error) { return nil, prepare(ctx, db) }); err != nil {
+	if _, err := withContext(ctx, func() (any, error) { return nil, prepare(ctx, db) }); err != nil {
 		db.Close()
 		return nil, err
 	}
 	return db, nil
 }
 
-// sessions sets the parameters of each session, whatever the server, its database or the address say. A commit waits
-// until a standby that may take over has it on its disk. No timeout ends that wait, since after it the commit would be
-// acknowledged.
-const sessions = `set lock_timeout = '10s'; set statement_timeout = 0;
+// sessionSettings sets the parameters of each session, whatever the server, its database or the address say. A commit
+// waits until a standby that may take over has it on its disk. No timeout ends that wait, since the server would
+// acknowledge the commit after a timeout.
+const sessionSettings = `set lock_timeout = '10s'; set statement_timeout = 0;
 select set_config('synchronous_commit', 'on', false) where current_setting('synchronous_commit') <> 'remote_apply'`
 
-// brief opens sessions that don't wait for long for a row that another one has locked. Whose commit waits for a standby
-// has it locked, and the server forgets no session that waits for him.
-type brief struct{ driver.Connector }
+// sessionConnector opens sessions with sessionSettings. They include a lock timeout, so that a session waits only
+// briefly for a row that another session has locked. A session whose commit waits for a standby keeps its row locked,
+// and the server never ends sessions that wait for that row.
+type sessionConnector struct{ driver.Connector }
 
-func (b brief) Connect(ctx context.Context) (driver.Conn, error) {
-	connection, err := b.Connector.Connect(ctx)
+func (s sessionConnector) Connect(ctx context.Context) (driver.Conn, error) {
+	connection, err := s.Connector.Connect(ctx)
 	if err != nil {
 		return nil, err
 	}
@@ -64,17 +66,18 @@ func (b brief) Connect(ctx context.Context) (driver.Conn, error) {
 		connection.Close()
 		return nil, fmt.Errorf("%w: PostgreSQL: a session takes no settings", ErrUnsafe)
 	}
-	if _, err := session.ExecContext(ctx, sessions, nil); err != nil {
+	if _, err := session.ExecContext(ctx, sessionSettings, nil); err != nil {
 		connection.Close()
 		return nil, err
 	}
 	return connection, nil
 }
 
+// prepare returns ErrUnsafe if a setting lets the server lose what it acknowledges, and makes the tables.
 func prepare(ctx context.Context, db *sql.DB) error {
 	for _, setting := range []string{"fsync", "full_page_writes", "synchronous_commit"} {
 		var value string
-		// (what a session would have that sets nothing itself)
+		// reset_val is the value for a session that does not set the parameter itself.
 		if err := db.QueryRowContext(ctx, "select reset_val from pg_settings where name = $1",
 			setting).Scan(&value); err != nil {
 			return fmt.Errorf("stores: PostgreSQL: %w", err)
@@ -83,7 +86,7 @@ func prepare(ctx context.Context, db *sql.DB) error {
 			return fmt.Errorf("%w: PostgreSQL has %s off", ErrUnsafe, setting)
 		}
 	}
-	if _, err := db.ExecContext(ctx, tables); err != nil {
+	if _, err := db.ExecContext(ctx, createTables); err != nil {
 		return fmt.Errorf("stores: PostgreSQL: tables: %w", err)
 	}
 	return nil
@@ -107,52 +110,55 @@ func OpenPostgres(ctx context.Context, at Postgres) (Lock, error) {
 	return &inPostgres{db, at.Log}, nil
 }
 
-// timeOf asks a server what time it is, and where it is.
+// timeOf returns the time of a server and its maximum error, with ErrSameMachine if the server is on this machine.
 func timeOf(ctx context.Context, db *sql.DB) (time.Time, time.Duration, error) {
-	type told struct {
-		at           time.Time
+	type reply struct {
+		time         time.Time
 		server, here string
 	}
-	one, err := within(ctx, func() (one told, err error) {
+	got, err := withContext(ctx, func() (got reply, err error) {
 		err = db.QueryRowContext(ctx, "select clock_timestamp(), coalesce(host(inet_server_addr()), ''), "+
-			"coalesce(host(inet_client_addr()), '')").Scan(&one.at, &one.server, &one.here)
-		return one, err
+			"coalesce(host(inet_client_addr()), '')").Scan(&got.time, &got.server, &got.here)
+		return got, err
 	})
 	if err != nil {
 		return time.Time{}, 0, fmt.Errorf("stores: PostgreSQL: time: %w", err)
 	}
-	if !isElsewhere(one.server, one.here) {
-		return one.at, time.Millisecond, ErrSameMachine
+	if !isElsewhere(got.server, got.here) {
+		return got.time, time.Millisecond, ErrSameMachine
 	}
-	return one.at, time.Millisecond, nil
+	return got.time, time.Millisecond, nil
 }
 
-// Time is Timed's.
+// Time implements Timed.
 func (p *inPostgres) Time(ctx context.Context) (time.Time, time.Duration, error) {
 	return timeOf(ctx, p.db)
 }
 
-// Time is Timed's.
+// Time implements Timed.
 func (p *indexInPostgres) Time(ctx context.Context) (time.Time, time.Duration, error) {
 	return timeOf(ctx, p.db)
 }
 
-// written wraps the error of a write: unless the server says that it refused it, it may have been done.
-func written(what string, err error) error {
-	var said *pq.Error
-	if errors.As(err, &said) && (said.Code.Class() == "22" || said.Code.Class() == "23" || said.Code.Class() == "40" ||
-		said.Code.Class() == "53") {
-		return fmt.Errorf("stores: PostgreSQL: %s: %w", what, err)
+// postgresWriteError wraps the error of a write. It is ErrUnknown, since the write may have been done, unless the
+// server reports that it refused the write.
+func postgresWriteError(what string, err error) error {
+	var reported *pq.Error
+	if errors.As(err, &reported) {
+		switch reported.Code.Class() {
+		case "22", "23", "40", "53":
+			return fmt.Errorf("stores: PostgreSQL: %s: %w", what, err)
+		}
 	}
 	return fmt.Errorf("%w: PostgreSQL: %s: %v", ErrUnknown, what, err)
 }
 
-// uncancelled makes a write, and says how many rows it changed. It goes over one connection: the pool itself would make
-// a write again on another where the first broke, and would so tell a swap that was done that it lost. The end of the
-// context ends the call, and doesn't cancel the write: the server would end its commit's wait for a standby by that,
-// show it, and acknowledge it.
-func uncancelled(ctx context.Context, db *sql.DB, statement string, values ...any) (int64, error) {
-	return within(ctx, func() (int64, error) {
+// writeUncancelled makes a write, and returns how many rows it changed. It uses one connection: if that broke, the pool
+// would repeat the write on another connection, and a swap that was done would be reported as lost. The end of the
+// context ends the call, but does not cancel the write. By a cancellation the server would end the commit's wait for a
+// standby, make the commit visible, and acknowledge it.
+func writeUncancelled(ctx context.Context, db *sql.DB, statement string, values ...any) (int64, error) {
+	return withContext(ctx, func() (int64, error) {
 		connection, err := db.Conn(ctx)
 		if err != nil {
 			return 0, err
@@ -166,11 +172,11 @@ func uncancelled(ctx context.Context, db *sql.DB, statement string, values ...an
 	})
 }
 
-// changed makes a write, and says whether it changed a row.
-func (p *inPostgres) changed(ctx context.Context, what, statement string, values ...any) (bool, error) {
-	rows, err := uncancelled(ctx, p.db, statement, values...)
+// write makes a write, and returns whether it changed a row.
+func (p *inPostgres) write(ctx context.Context, what, statement string, values ...any) (bool, error) {
+	rows, err := writeUncancelled(ctx, p.db, statement, values...)
 	if err != nil {
-		return false, written(what, err)
+		return false, postgresWriteError(what, err)
 	}
 	return rows > 0, nil
 }
@@ -179,7 +185,7 @@ func (p *inPostgres) Create(ctx context.Context, text string) error {
 	if err := checkText(text); err != nil {
 		return err
 	}
-	done, err := p.changed(ctx, "create",
+	done, err := p.write(ctx, "create",
 		"insert into ct_register (log, text, published, moment) values ($1, $2, 0, 0) on conflict do nothing",
 		p.log, []byte(text))
 	if err == nil && !done {
@@ -188,15 +194,15 @@ func (p *inPostgres) Create(ctx context.Context, text string) error {
 	return err
 }
 
-// row is the lock's.
+// row holds the row of a lock.
 type row struct {
 	text      []byte
 	published Published
 }
 
-// read reads the row. That what it reads stays is the server's: a row is seen once its transaction is on the disk.
+// read reads the row. What it reads persists, since the server shows a row only after its transaction is on the disk.
 func (p *inPostgres) read(ctx context.Context) (row, error) {
-	read, err := within(ctx, func() (read row, err error) {
+	read, err := withContext(ctx, func() (read row, err error) {
 		const one = "select text, published, moment from ct_register where log = $1"
 		err = p.db.QueryRowContext(ctx, one, p.log).Scan(&read.text, &read.published.Size, &read.published.Timestamp)
 		return read, err
@@ -219,16 +225,16 @@ func (p *inPostgres) Swap(ctx context.Context, old, new string) error {
 	if err := checkText(old, new); err != nil {
 		return err
 	}
-	done, err := p.changed(ctx, "swap", "update ct_register set text = $3 where log = $1 and text = $2", p.log,
+	done, err := p.write(ctx, "swap", "update ct_register set text = $3 where log = $1 and text = $2", p.log,
 		[]byte(old), []byte(new))
 	if err != nil || done {
 		return err
 	}
-	standing, err := p.Read(ctx)
+	current, err := p.Read(ctx)
 	switch {
 	case err != nil:
 		return err
-	case standing == new:
+	case current == new:
 		return nil
 	}
 	return ErrLost
@@ -244,7 +250,7 @@ func (p *inPostgres) Raise(ctx context.Context, published Published) error {
 		return err
 	}
 	const raise = "update ct_register set published = $2, moment = $3 where log = $1 and (published, moment) < ($2, $3)"
-	done, err := p.changed(ctx, "raise", raise, p.log, int64(published.Size), int64(published.Timestamp))
+	done, err := p.write(ctx, "raise", raise, p.log, int64(published.Size), int64(published.Timestamp))
 	if err != nil || done {
 		return err
 	}
@@ -288,13 +294,13 @@ func (p *indexInPostgres) find(ctx context.Context, table string, keys []Identit
 	if err != nil {
 		return nil, err
 	}
-	asked := make(pq.ByteaArray, len(keys))
+	values := make(pq.ByteaArray, len(keys))
 	for i := range keys {
-		asked[i] = keys[i][:]
+		values[i] = keys[i][:]
 	}
-	return within(ctx, func() (map[Identity]Place, error) {
-		some := "select identity, index, timestamp from " + table + " where log = $1 and identity = any($2)"
-		rows, err := p.db.QueryContext(ctx, some, p.log, asked)
+	return withContext(ctx, func() (map[Identity]Place, error) {
+		query := "select identity, index, timestamp from " + table + " where log = $1 and identity = any($2)"
+		rows, err := p.db.QueryContext(ctx, query, p.log, values)
 		if err != nil {
 			return nil, fmt.Errorf("stores: PostgreSQL: find: %w", err)
 		}
@@ -302,7 +308,7 @@ func (p *indexInPostgres) find(ctx context.Context, table string, keys []Identit
 	})
 }
 
-// scanPlaces reads rows of identity, index and timestamp.
+// scanPlaces returns the places in rows of identity, index and timestamp.
 func scanPlaces(rows *sql.Rows) (map[Identity]Place, error) {
 	defer rows.Close()
 	found := map[Identity]Place{}
@@ -332,31 +338,32 @@ func (p *indexInPostgres) Replace(ctx context.Context, rows []Row) error {
 	return p.add(ctx, rows, "replace", "update set index = excluded.index, timestamp = excluded.timestamp")
 }
 
-// add adds rows to both tables by one statement, which is one transaction. onConflict says what happens if one has a
-// place already.
+// add adds rows to both tables by one statement, which is one transaction. onConflict is what the statement does if an
+// identity or a leaf hash has a place already.
 func (p *indexInPostgres) add(ctx context.Context, rows []Row, what, onConflict string) error {
 	identities, leaves, err := firsts(rows)
 	if err != nil || len(rows) == 0 {
 		return err
 	}
 	values := append(append([]any{p.log}, columns(identities)...), columns(leaves)...)
-	// In the order of keys, so that of two such calls neither waits for the other.
+	// Rows are added in the order of their keys, so that two such calls cannot deadlock.
 	into := func(table string, from int) string {
 		return fmt.Sprintf("insert into %s select $1, i, n, t from unnest($%d::bytea[], $%d::bigint[], $%d::bigint[]) "+
 			"as u(i, n, t) order by i on conflict (log, identity) do %s", table, from, from+1, from+2, onConflict)
 	}
 	add := "with identities as (" + into(identityTable, 2) + ") " + into(leafTable, 5)
-	if _, err = uncancelled(ctx, p.db, add, values...); err != nil {
+	if _, err = writeUncancelled(ctx, p.db, add, values...); err != nil {
 		return fmt.Errorf("stores: PostgreSQL: %s: %w", what, err)
 	}
 	return nil
 }
 
-// columns returns the values of a table's rows by columns.
-func columns(of []keyed) []any {
-	keys, indexes, timestamps := make(pq.ByteaArray, len(of)), make(pq.Int64Array, len(of)), make(pq.Int64Array, len(of))
-	for i := range of {
-		keys[i], indexes[i], timestamps[i] = of[i].key[:], int64(of[i].place.Index), int64(of[i].place.Timestamp)
+// columns returns the values of a table's rows, column by column.
+func columns(rows []keyed) []any {
+	n := len(rows)
+	keys, indexes, timestamps := make(pq.ByteaArray, n), make(pq.Int64Array, n), make(pq.Int64Array, n)
+	for i := range rows {
+		keys[i], indexes[i], timestamps[i] = rows[i].key[:], int64(rows[i].place.Index), int64(rows[i].place.Timestamp)
 	}
 	return []any{keys, indexes, timestamps}
 }

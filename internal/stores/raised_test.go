@@ -7,9 +7,9 @@ import (
 	"testing"
 )
 
-// TestOnTheDisk: a process that knows one text, or one head, to be on the disk does not assume this of a text that
-// another process set. It does not assume it either of a text that it set or read itself if the sync failed.
-func TestOnTheDisk(t *testing.T) {
+// TestSyncsUnknownTexts: if a process knows that one text or one head is on the disk, it does not assume this of a text
+// that another process set. If a sync failed, it does not assume it of a text that it set or read itself.
+func TestSyncsUnknownTexts(t *testing.T) {
 	root, ctx := t.TempDir(), limited(t)
 	one, err := OpenFile(root)
 	must(t, err)
@@ -21,8 +21,8 @@ func TestOnTheDisk(t *testing.T) {
 	published := func() error { _, err := other.Published(ctx); return err }
 	both := func(when string, want []string) {
 		t.Helper()
-		syncedAs(t, "Read "+when, syncs(t, root, "none", read), want)
-		syncedAs(t, "Published "+when, syncs(t, root, "none", published), want)
+		wantSynced(t, "Read "+when, syncs(t, root, "none", read), want)
+		wantSynced(t, "Published "+when, syncs(t, root, "none", published), want)
 	}
 	both("at first", []string{"."})
 	both("of the same", nil)
@@ -45,37 +45,37 @@ func TestOnTheDisk(t *testing.T) {
 	}
 	for _, time := range []string{"first", "second"} {
 		if err := read(); !errors.Is(err, fault) {
-			t.Errorf("the %s Read of what isn't on the disk: %v", time, err)
+			t.Errorf("the %s Read of a text that is not on the disk: %v", time, err)
 		}
 		if err := published(); !errors.Is(err, fault) {
-			t.Errorf("the %s Published of what isn't on the disk: %v", time, err)
+			t.Errorf("the %s Published of a head that is not on the disk: %v", time, err)
 		}
 	}
 	fsync = (*os.File).Sync
-	both("once the disk takes it", []string{"."})
+	both("after the disk works again", []string{"."})
 	if text, err := other.Read(ctx); err != nil || text != "c" {
-		t.Errorf("it has %q, %v", text, err)
+		t.Errorf("the text is %q, %v", text, err)
 	}
 	if at, err := other.Published(ctx); err != nil || at != (Published{7, 3}) {
 		t.Errorf("%+v is published, %v", at, err)
 	}
 }
 
-// TestRaiseThatIsNotWritten: if the disk takes no file, nothing is raised, and nothing is left.
-func TestRaiseThatIsNotWritten(t *testing.T) {
+// TestFailedRaiseChangesNothing: if the disk accepts no file, Raise changes nothing and leaves no temporary file.
+func TestFailedRaiseChangesNothing(t *testing.T) {
 	root, ctx := t.TempDir(), limited(t)
 	lock, err := OpenFile(root)
 	must(t, err)
 	must(t, lock.Create(ctx, "a"))
 	must(t, lock.Raise(ctx, Published{5, 1}))
-	fault := errors.New("the disk takes nothing")
+	fault := errors.New("the disk accepts nothing")
 	fsync = func(*os.File) error { return fault }
 	defer func() { fsync = (*os.File).Sync }()
 	if err := lock.Raise(ctx, Published{6, 2}); !errors.Is(err, fault) || errors.Is(err, ErrUnknown) {
 		t.Fatal(err)
 	}
 	fsync = (*os.File).Sync
-	isPublished(t, lock, Published{5, 1})
+	wantPublished(t, lock, Published{5, 1})
 	if left, err := os.ReadDir(filepath.Join(root, temporary)); err != nil || len(left) > 0 {
 		t.Fatalf("files are left: %v, %v", left, err)
 	}

@@ -19,18 +19,18 @@ import (
 	"github.com/minio/minio-go/v7/pkg/credentials"
 )
 
-// S3 says where a bucket is.
+// S3 holds the address of a bucket, and how to call its engine.
 type S3 struct {
-	// Endpoint is a host with a port, Bucket a bucket that is there.
+	// Endpoint is a host with a port. Bucket is the name of a bucket that exists.
 	Endpoint, Bucket string
 	// Region may be empty.
 	Region string
 	// Key and Secret are the credentials.
 	Key, Secret string
-	// TLS reports whether the endpoint is asked over TLS.
+	// TLS is whether the endpoint is called over TLS.
 	TLS bool
-	// Conditional says that the engine has conditional puts (If-None-Match: *), so that of two calls at once one wins. It
-	// is tried when the bucket is opened. Without it each Put reads before it puts.
+	// Conditional is whether the engine has conditional puts (If-None-Match: *), so that one of two puts at the same
+	// time wins. This is tried when the bucket is opened. If it is false, each Put reads before it puts.
 	Conditional bool
 }
 
@@ -41,38 +41,39 @@ type bucket struct {
 	core        minio.Core
 	name        string
 	conditional bool
-	// public says that data tiles are put in gzip.
+	// public is whether data tiles are put in gzip.
 	public bool
-	// last is the content that Swap put last. It saves a read before the next one.
-	last atomic.Pointer[standing]
+	// last is the content that Swap put last. It saves a read before the next swap.
+	last atomic.Pointer[tagged]
 }
 
-// ifAbsent marks the context of a put that may only be done where no object is.
-type ifAbsent struct{}
+// ifAbsentKey marks the context of a put that may only be done if there is no object.
+type ifAbsentKey struct{}
 
-// condition adds the header to such puts; minio-go has no option for it. A header that isn't signed is taken by S3.
-type condition struct{ http.RoundTripper }
+// conditionTransport adds the header for the condition to such puts, because minio-go has no option for it. S3 accepts
+// a header that is not signed. It also returns the Date of a response if the request's context has a dateKey.
+type conditionTransport struct{ http.RoundTripper }
 
-func (c condition) RoundTrip(request *http.Request) (*http.Response, error) {
-	response, err := c.RoundTripper.RoundTrip(conditionOf(request))
-	if said, ok := request.Context().Value(date{}).(*string); ok && err == nil {
-		*said = response.Header.Get("Date")
+func (c conditionTransport) RoundTrip(request *http.Request) (*http.Response, error) {
+	response, err := c.RoundTripper.RoundTrip(withCondition(request))
+	if date, ok := request.Context().Value(dateKey{}).(*string); ok && err == nil {
+		*date = response.Header.Get("Date")
 	}
 	return response, err
 }
 
-// date marks the context of a request whose answer's Date is wanted.
-type date struct{}
+// dateKey marks the context of a request whose caller needs the Date of the response.
+type dateKey struct{}
 
-// Time is Timed's: by the Date of an answer (RFC 9110, section 6.6.1), also of one that refuses a request whose own
-// date is far off.
+// Time implements Timed. It returns the Date of a response (RFC 9110, section 6.6.1). The response may be a refusal,
+// since the engine refuses a request whose own date is far off.
 func (b *bucket) Time(ctx context.Context) (time.Time, time.Duration, error) {
-	said, elsewhere := "", false
+	date, elsewhere := "", false
 	ctx = httptrace.WithClientTrace(ctx, &httptrace.ClientTrace{GotConn: func(got httptrace.GotConnInfo) {
 		elsewhere = IsElsewhere(got.Conn)
 	}})
-	_, err := b.core.BucketExists(context.WithValue(ctx, date{}, &said), b.name)
-	if at, unread := http.ParseTime(said); unread == nil {
+	_, err := b.core.BucketExists(context.WithValue(ctx, dateKey{}, &date), b.name)
+	if at, parseErr := http.ParseTime(date); parseErr == nil {
 		if !elsewhere {
 			return at, time.Second, ErrSameMachine
 		}
@@ -84,15 +85,15 @@ func (b *bucket) Time(ctx context.Context) (time.Time, time.Duration, error) {
 	return time.Time{}, 0, fmt.Errorf("stores: S3: time: %w", err)
 }
 
-// prompt is a connection that acknowledges at once what it has read. Linux puts that off by 40 ms, for which a gateway
-// waits that sends an answer's headers and its body apart (Nagle's algorithm; radosgw has it on unless its settings say
-// tcp_nodelay=1).
-type prompt struct{ *net.TCPConn }
+// quickAckConn is a connection that acknowledges at once what it has read. By default, Linux delays acknowledgements by
+// 40 ms. A gateway that sends the headers and the body of a response separately waits for them because of Nagle's
+// algorithm, which radosgw uses unless its settings contain tcp_nodelay=1.
+type quickAckConn struct{ *net.TCPConn }
 
-func (p prompt) Read(into []byte) (int, error) {
-	n, err := p.TCPConn.Read(into)
-	if raw, failed := p.TCPConn.SyscallConn(); failed == nil && n > 0 {
-		// Without this option the connection is slower, and no less correct.
+func (q quickAckConn) Read(into []byte) (int, error) {
+	n, err := q.TCPConn.Read(into)
+	if raw, rawErr := q.TCPConn.SyscallConn(); rawErr == nil && n > 0 {
+		// Errors are ignored, since without this option the connection is only slower.
 		_ = raw.Control(func(file uintptr) {
 			_ = syscall.SetsockoptInt(int(file), syscall.IPPROTO_TCP, syscall.TCP_QUICKACK, 1)
 		})
@@ -103,19 +104,19 @@ func (p prompt) Read(into []byte) (int, error) {
 // dialer opens a connection, as net.Dialer does.
 type dialer = func(ctx context.Context, network, address string) (net.Conn, error)
 
-// promptly dials such connections.
-func promptly(dial dialer) dialer {
+// withQuickAck returns a dialer whose TCP connections are quickAckConns.
+func withQuickAck(dial dialer) dialer {
 	return func(ctx context.Context, network, address string) (net.Conn, error) {
 		connection, err := dial(ctx, network, address)
-		if over, ok := connection.(*net.TCPConn); ok && err == nil {
-			return prompt{over}, nil
+		if tcp, ok := connection.(*net.TCPConn); ok && err == nil {
+			return quickAckConn{tcp}, nil
 		}
 		return connection, err
 	}
 }
 
-// OpenS3 opens the objects in a bucket; ErrAbsent where there is no such bucket, ErrUnsafe where conditional puts are
-// said to be there and aren't.
+// OpenS3 opens the objects in a bucket. It returns ErrAbsent if there is no such bucket, and ErrUnsafe if the engine
+// lacks the conditional puts that at.Conditional states.
 func OpenS3(ctx context.Context, at S3) (Objects, error) {
 	b, err := openS3(ctx, at, false)
 	if b == nil {
@@ -129,23 +130,23 @@ func openS3(ctx context.Context, at S3, public bool) (*bucket, error) {
 	if err != nil {
 		return nil, fmt.Errorf("stores: S3: %w", err)
 	}
-	transport.ResponseHeaderTimeout = waits
-	transport.DialContext = promptly(transport.DialContext)
+	transport.ResponseHeaderTimeout = maxSilence
+	transport.DialContext = withQuickAck(transport.DialContext)
 	client, err := minio.New(at.Endpoint, &minio.Options{
 		Creds:        credentials.NewStaticV4(at.Key, at.Secret, ""),
 		Secure:       at.TLS,
 		Region:       at.Region,
 		BucketLookup: minio.BucketLookupPath,
-		Transport:    condition{transport},
+		Transport:    conditionTransport{transport},
 	})
 	if err != nil {
 		return nil, fmt.Errorf("stores: S3: %w", err)
 	}
-	there, err := client.BucketExists(ctx, at.Bucket)
+	exists, err := client.BucketExists(ctx, at.Bucket)
 	if err != nil {
 		return nil, fmt.Errorf("stores: S3: %w", err)
 	}
-	if !there {
+	if !exists {
 		return nil, fmt.Errorf("%w: bucket %s", ErrAbsent, at.Bucket)
 	}
 	b := &bucket{core: minio.Core{Client: client}, name: at.Bucket, conditional: at.Conditional, public: public}
@@ -155,11 +156,12 @@ func openS3(ctx context.Context, at S3, public bool) (*bucket, error) {
 	return b, nil
 }
 
-// tryConditions puts two contents under one name of its own, of which the second has to be refused.
+// tryConditions puts two contents under one name, which it uses for nothing else. It returns ErrUnsafe if the engine
+// does not refuse the second one.
 func (b *bucket) tryConditions(ctx context.Context) error {
 	const name = "conditional-put/tried"
 	for _, content := range []string{"first", "second"} {
-		err := b.putText(context.WithValue(ctx, ifAbsent{}, true), name, content)
+		err := b.putText(context.WithValue(ctx, ifAbsentKey{}, true), name, content)
 		if err != nil && !isRefused(err) {
 			return fmt.Errorf("stores: S3: conditional put: %w", err)
 		}
@@ -196,7 +198,7 @@ func (b *bucket) Put(ctx context.Context, name string, content []byte) error {
 		return err
 	}
 	if b.conditional {
-		ctx = context.WithValue(ctx, ifAbsent{}, true)
+		ctx = context.WithValue(ctx, ifAbsentKey{}, true)
 	} else if err := b.compare(ctx, name, content); !errors.Is(err, ErrAbsent) {
 		return err
 	}
@@ -210,31 +212,31 @@ func (b *bucket) Put(ctx context.Context, name string, content []byte) error {
 	return nil
 }
 
-// compare reports whether the object of a name has this content.
+// compare returns ErrOther if the object of a name has another content.
 func (b *bucket) compare(ctx context.Context, name string, content []byte) error {
-	standing, err := b.Get(ctx, name, int64(len(content)))
-	if errors.Is(err, ErrTooLong) || err == nil && !bytes.Equal(standing, content) {
+	existing, err := b.Get(ctx, name, int64(len(content)))
+	if errors.Is(err, ErrTooLong) || err == nil && !bytes.Equal(existing, content) {
 		return fmt.Errorf("stores: put %s: %w", name, ErrOther)
 	}
 	return err
 }
 
-func (b *bucket) Get(ctx context.Context, name string, most int64) ([]byte, error) {
+func (b *bucket) Get(ctx context.Context, name string, maxBytes int64) ([]byte, error) {
 	if err := checkName(name); err != nil {
 		return nil, err
 	}
-	content, _, err := b.get(ctx, name, most)
+	content, _, err := b.get(ctx, name, maxBytes)
 	if err != nil {
 		return nil, fmt.Errorf("stores: get %s: %w", name, err)
 	}
 	return content, nil
 }
 
-// errNoLength: whether all of an answer came isn't known where it doesn't say how much that is.
+// errNoLength: a response does not state its length, so it is not known whether all of it was received.
 var errNoLength = errors.New("the response has no length")
 
 // get reads a content, which may be stored in gzip, and its ETag.
-func (b *bucket) get(ctx context.Context, name string, most int64) (content []byte, tag string, err error) {
+func (b *bucket) get(ctx context.Context, name string, maxBytes int64) (content []byte, tag string, err error) {
 	body, info, header, err := b.core.GetObject(ctx, b.name, name, minio.GetObjectOptions{})
 	if err != nil {
 		if isNoObject(err) {
@@ -244,7 +246,7 @@ func (b *bucket) get(ctx context.Context, name string, most int64) (content []by
 	}
 	defer body.Close()
 	isPacked := header.Get("Content-Encoding") == inGzip
-	if info.Size > most && !isPacked || info.Size > MaxObject {
+	if info.Size > maxBytes && !isPacked || info.Size > MaxObject {
 		return nil, "", TooLong{info.Size}
 	}
 	if info.Size < 0 {
@@ -255,28 +257,28 @@ func (b *bucket) get(ctx context.Context, name string, most int64) (content []by
 		return nil, "", err
 	}
 	if isPacked {
-		content, err = unpack(ctx, name, content, most)
+		content, err = unpack(ctx, name, content, maxBytes)
 	}
 	return content, info.ETag, err
 }
 
-func (b *bucket) List(ctx context.Context, prefix, after string, most int) ([]string, error) {
+func (b *bucket) List(ctx context.Context, prefix, after string, maxNames int) ([]string, error) {
 	if err := checkPrefix(prefix); err != nil {
 		return nil, err
 	}
 	if err := checkAfter(after); err != nil {
 		return nil, err
 	}
-	most = atMost(most)
-	if most == 0 {
+	maxNames = boundListed(maxNames)
+	if maxNames == 0 {
 		return nil, nil
 	}
 	listing, cancel := context.WithCancel(ctx)
 	defer cancel()
-	options := minio.ListObjectsOptions{Prefix: prefix, StartAfter: after, MaxKeys: most, Recursive: true}
+	options := minio.ListObjectsOptions{Prefix: prefix, StartAfter: after, MaxKeys: maxNames, Recursive: true}
 	var found []string
 	for object := range b.core.Client.ListObjects(listing, b.name, options) {
-		if len(found) == most {
+		if len(found) == maxNames {
 			cancel()
 			continue
 		}

@@ -19,31 +19,31 @@ import (
 	"wagtenib/internal/testutil"
 )
 
-// serve serves a bucket until the test ends, and returns where.
-func serve(t *testing.T, of *testbucket.Bucket) S3 {
+// serve serves a bucket until the test ends, and returns its address.
+func serve(t *testing.T, bucket *testbucket.Bucket) S3 {
 	t.Helper()
-	server := httptest.NewServer(of)
+	server := httptest.NewServer(bucket)
 	t.Cleanup(server.Close)
-	at := strings.TrimPrefix(server.URL, "http://")
-	return S3{Endpoint: at, Bucket: testbucket.Name, Key: "key", Secret: "secret", Region: "us-east-1",
-		Conditional: of.Conditional}
+	endpoint := strings.TrimPrefix(server.URL, "http://")
+	return S3{Endpoint: endpoint, Bucket: testbucket.Name, Key: "key", Secret: "secret", Region: "us-east-1",
+		Conditional: bucket.Conditional}
 }
 
-func TestS3SaysWhatABucketCant(t *testing.T) {
+func TestS3RefusesUnfitBuckets(t *testing.T) {
 	at := serve(t, testbucket.New(false))
 	at.Conditional = true
 	if _, err := OpenS3(limited(t), at); !errors.Is(err, ErrUnsafe) {
-		t.Errorf("conditional puts that aren't there: %v", err)
+		t.Errorf("an engine without conditional puts: %v", err)
 	}
 	at.Conditional, at.Bucket = false, "another"
 	if _, err := OpenS3(limited(t), at); !errors.Is(err, ErrAbsent) {
-		t.Errorf("a bucket that isn't there: %v", err)
+		t.Errorf("a bucket that does not exist: %v", err)
 	}
 }
 
-// TestS3LosesAnswers: every third response is lost after its request was processed, and every fourth request fails.
-// Still each put is done once, and no object gets another content.
-func TestS3LosesAnswers(t *testing.T) {
+// TestS3SurvivesLostResponses: every third response is lost after its request was processed, and every fourth request
+// fails. Nevertheless each put is done, and no object gets another content.
+func TestS3SurvivesLostResponses(t *testing.T) {
 	for _, conditional := range []bool{true, false} {
 		fake := testbucket.New(conditional)
 		store, err := OpenS3(limited(t), serve(t, fake))
@@ -63,8 +63,8 @@ func TestS3LosesAnswers(t *testing.T) {
 	}
 }
 
-// TestS3IsBrokenOff: an answer that ends early isn't an object.
-func TestS3IsBrokenOff(t *testing.T) {
+// TestS3RefusesCutResponse: a response that ends early is not returned as an object.
+func TestS3RefusesCutResponse(t *testing.T) {
 	server := httptest.NewServer(http.HandlerFunc(func(w http.ResponseWriter, r *http.Request) {
 		w.Header().Set("Last-Modified", "Thu, 01 Jan 2026 00:00:00 GMT")
 		w.Header().Set("Content-Length", "100")
@@ -80,8 +80,9 @@ func TestS3IsBrokenOff(t *testing.T) {
 	}
 }
 
-// TestS3SaysNoLength: an answer in chunks isn't an object, whether it has more than may be or not.
-func TestS3SaysNoLength(t *testing.T) {
+// TestS3RefusesResponseWithoutLength: a response in chunks is not returned as an object, whether or not it has more
+// than the maximum of bytes.
+func TestS3RefusesResponseWithoutLength(t *testing.T) {
 	server := httptest.NewServer(http.HandlerFunc(func(w http.ResponseWriter, r *http.Request) {
 		w.Header().Set("Last-Modified", "Thu, 01 Jan 2026 00:00:00 GMT")
 		w.(http.Flusher).Flush()
@@ -92,18 +93,18 @@ func TestS3SaysNoLength(t *testing.T) {
 		Region: "us-east-1"}
 	store, err := OpenS3(limited(t), at)
 	must(t, err)
-	for _, most := range []int64{10, 50, manyBytes} {
-		if got, err := store.Get(limited(t), "a", most); !errors.Is(err, errNoLength) {
+	for _, maxBytes := range []int64{10, 50, manyBytes} {
+		if got, err := store.Get(limited(t), "a", maxBytes); !errors.Is(err, errNoLength) {
 			t.Errorf("%d bytes, %v", len(got), err)
 		}
 	}
 }
 
-// TestS3AcknowledgesAtOnce: a gateway that sends an answer's headers, and its body once these are acknowledged, isn't
-// kept waiting for the 40 ms by which Linux puts acknowledgements off. The quickest of many answers over one connection
-// says so, whatever else the machine does.
+// TestS3AcknowledgesAtOnce: a gateway that sends the body of a response after the headers were acknowledged does not
+// wait for the 40 ms by which Linux delays acknowledgements. The test looks at the quickest of many responses over one
+// connection, so that a busy machine does not matter.
 func TestS3AcknowledgesAtOnce(t *testing.T) {
-	const later, many, delay = 100, 120, 40 * time.Millisecond
+	const young, many, delay = 100, 120, 40 * time.Millisecond
 	listener, err := net.Listen("tcp", "127.0.0.1:0")
 	must(t, err)
 	defer listener.Close()
@@ -119,7 +120,7 @@ func TestS3AcknowledgesAtOnce(t *testing.T) {
 					return
 				}
 				for from := bufio.NewReader(connection); ; {
-					// (what asks for the bucket, by HEAD, has no body)
+					// The response to HEAD, which asks for the bucket, has no body.
 					request, err := http.ReadRequest(from)
 					if err != nil {
 						return
@@ -140,26 +141,26 @@ func TestS3AcknowledgesAtOnce(t *testing.T) {
 	store, err := OpenS3(limited(t), S3{Endpoint: listener.Addr().String(), Bucket: testbucket.Name, Key: "key",
 		Secret: "secret", Region: "us-east-1"})
 	must(t, err)
-	least := time.Hour
+	minDuration := time.Hour
 	for i := 0; i < many; i++ {
 		began := time.Now()
 		if got, err := store.Get(limited(t), "a", manyBytes); err != nil || string(got) != "content" {
 			t.Fatalf("%q, %v", got, err)
 		}
-		// (Linux puts no acknowledgement off on a connection that is young)
-		if took := time.Since(began); i >= later && took < least {
-			least = took
+		// Linux does not delay acknowledgements on a young connection.
+		if duration := time.Since(began); i >= young && duration < minDuration {
+			minDuration = duration
 		}
 	}
-	if least >= delay {
-		t.Errorf("the quickest of %d answers takes %v", many-later, least)
+	if minDuration >= delay {
+		t.Errorf("the quickest of %d responses takes %v", many-young, minDuration)
 	}
 }
 
-// TestS3SaysTheTime: a bucket's time is the Date of an answer, also of a refusal; without one there is none. A server
-// on this machine is known as such.
-func TestS3SaysTheTime(t *testing.T) {
-	const said = "Sun, 06 Nov 1994 08:49:37 GMT"
+// TestS3ReturnsTheTime: a bucket's time is the Date of a response, which may be a refusal. Without a Date there is an
+// error. A server on this machine is reported as such.
+func TestS3ReturnsTheTime(t *testing.T) {
+	const validDate = "Sun, 06 Nov 1994 08:49:37 GMT"
 	var date string
 	status := http.StatusOK
 	server := httptest.NewServer(http.HandlerFunc(func(w http.ResponseWriter, r *http.Request) {
@@ -173,10 +174,10 @@ func TestS3SaysTheTime(t *testing.T) {
 	store, err := OpenS3(limited(t), S3{Endpoint: strings.TrimPrefix(server.URL, "http://"), Bucket: testbucket.Name,
 		Key: "key", Secret: "secret", Region: "us-east-1"})
 	must(t, err)
-	date = said
+	date = validDate
 	for _, status = range []int{http.StatusOK, http.StatusForbidden} {
 		if at, within, err := store.(Timed).Time(limited(t)); !errors.Is(err, ErrSameMachine) ||
-			within != time.Second || at.UTC().Format(http.TimeFormat) != said {
+			within != time.Second || at.UTC().Format(http.TimeFormat) != validDate {
 			t.Errorf("status %d: %v, %v, %v", status, at, within, err)
 		}
 	}
@@ -187,14 +188,15 @@ func TestS3SaysTheTime(t *testing.T) {
 	}
 	server.Close()
 	if at, _, err := store.(Timed).Time(limited(t)); err == nil || errors.Is(err, ErrSameMachine) {
-		t.Errorf("from nowhere: %v", at)
+		t.Errorf("no server: %v", at)
 	}
 }
 
-// TestPostgresSaysTheTime: the server's time is about this machine's, on which it is known to run.
-func TestPostgresSaysTheTime(t *testing.T) {
+// TestPostgresReturnsTheTime: the server's time is about the time of this machine, and the server is reported to run on
+// it.
+func TestPostgresReturnsTheTime(t *testing.T) {
 	if postgresURL == "" {
-		t.Skip(wants(postgresURL, "postgresql"))
+		t.Skip(missingEngine(postgresURL, "postgresql"))
 	}
 	lock, err := OpenPostgres(limited(t), Postgres{postgresURL, "time"})
 	must(t, err)
@@ -211,19 +213,19 @@ func TestPostgresSaysTheTime(t *testing.T) {
 	}
 }
 
-// TestPostgresSessions: whatever the server or the address says, a session of a store's waits for the standby's disk,
-// and no timeout ends that.
+// TestPostgresSessions: whatever the server or the address says, a session of a store waits until a commit is on the
+// standby's disk, and no timeout ends this wait.
 func TestPostgresSessions(t *testing.T) {
-	if why := wants(postgresURL, "postgresql"); why != "" {
+	if why := missingEngine(postgresURL, "postgresql"); why != "" {
 		t.Skip(why)
 	}
-	for said, due := range map[string]string{"": "on", "synchronous_commit=local": "on",
+	for setting, expected := range map[string]string{"": "on", "synchronous_commit=local": "on",
 		"synchronous_commit=remote_write": "on", "synchronous_commit=remote_apply": "remote_apply",
 		"statement_timeout=5000": "on"} {
-		lock, err := OpenPostgres(limited(t), Postgres{postgresURL + " " + said, "sessions"})
+		lock, err := OpenPostgres(limited(t), Postgres{postgresURL + " " + setting, "sessions"})
 		must(t, err)
 		defer lock.Close()
-		index, err := OpenPostgresIndex(limited(t), Postgres{postgresURL + " " + said, "sessions"})
+		index, err := OpenPostgresIndex(limited(t), Postgres{postgresURL + " " + setting, "sessions"})
 		must(t, err)
 		defer index.Close()
 		for _, db := range []*sql.DB{lock.(*inPostgres).db, index.(*indexInPostgres).db} {
@@ -231,18 +233,18 @@ func TestPostgresSessions(t *testing.T) {
 			must(t, db.QueryRowContext(limited(t),
 				"select current_setting('synchronous_commit'), current_setting('statement_timeout')").Scan(
 				&commit, &timeout))
-			if commit != due || timeout != "0" {
-				t.Errorf("%q: synchronous_commit is %s, statement_timeout %s", said, commit, timeout)
+			if commit != expected || timeout != "0" {
+				t.Errorf("%q: synchronous_commit is %s, statement_timeout %s", setting, commit, timeout)
 			}
 		}
 	}
 }
 
-func TestPostgresThatKeepsNothing(t *testing.T) {
-	if why := wants(postgresURL, "postgresql"); why != "" {
+func TestRefusesUnsafePostgres(t *testing.T) {
+	if why := missingEngine(postgresURL, "postgresql"); why != "" {
 		t.Skip(why)
 	}
-	at := Postgres{postgresURL + " synchronous_commit=off", "suite-" + chance()}
+	at := Postgres{postgresURL + " synchronous_commit=off", "suite-" + randomName()}
 	if _, err := OpenPostgres(limited(t), at); !errors.Is(err, ErrUnsafe) {
 		t.Errorf("synchronous_commit is off: %v", err)
 	}
@@ -251,13 +253,13 @@ func TestPostgresThatKeepsNothing(t *testing.T) {
 	}
 }
 
-// TestPostgresWithoutItsStandby has PostgreSQL wait for a standby that isn't there: a swap whose caller goes meanwhile
-// is of unknown outcome, nobody reads its text, and it is done once the server waits no more.
+// TestPostgresWithoutItsStandby lets PostgreSQL wait for a standby that does not exist. A swap whose context ends
+// meanwhile returns an error, and its text cannot be read. It is done after the server stops waiting.
 func TestPostgresWithoutItsStandby(t *testing.T) {
-	if why := wants(postgresURL, "postgresql"); why != "" {
+	if why := missingEngine(postgresURL, "postgresql"); why != "" {
 		t.Skip(why)
 	}
-	at := Postgres{postgresURL, "suite-" + chance()}
+	at := Postgres{postgresURL, "suite-" + randomName()}
 	lock, err := OpenPostgres(limited(t), at)
 	must(t, err)
 	defer lock.Close()
@@ -279,12 +281,12 @@ func TestPostgresWithoutItsStandby(t *testing.T) {
 		defer cancel()
 		return lock.Swap(ctx, fmt.Sprint(from), fmt.Sprint(from+1))
 	}
-	stands := 0
+	current := 0
 	for waits, all := false, limited(t); !waits; {
-		// (the server takes the setting up by and by)
-		err := swap(stands)
+		// The server does not apply the setting at once.
+		err := swap(current)
 		if err == nil {
-			stands++
+			current++
 			continue
 		}
 		// On a busy machine a swap may take this long without a standby. Then the test repeats it until it succeeds.
@@ -295,37 +297,36 @@ func TestPostgresWithoutItsStandby(t *testing.T) {
 			"select count(*) > 0 from pg_stat_activity where wait_event = 'SyncRep'").Scan(&waits))
 	}
 	for i := 0; i < 3; i++ {
-		if text, err := lock.Read(limited(t)); err != nil || text != fmt.Sprint(stands) {
+		if text, err := lock.Read(limited(t)); err != nil || text != fmt.Sprint(current) {
 			t.Errorf("%q is read, %v", text, err)
 		}
-		if err := swap(stands); !errors.Is(err, ErrUnknown) {
-			t.Errorf("once more: %v", err)
+		if err := swap(current); !errors.Is(err, ErrUnknown) {
+			t.Errorf("swap number %d while the server waits: %v", i, err)
 		}
 	}
 	set(reset)
-	for since := time.Now(); swap(stands) != nil; time.Sleep(10 * time.Millisecond) {
+	for since := time.Now(); swap(current) != nil; time.Sleep(10 * time.Millisecond) {
 		if time.Since(since) > testutil.Longest {
-			t.Fatal("it isn't done")
+			t.Fatal("the swap is not done")
 		}
 	}
-	if text, err := lock.Read(limited(t)); err != nil || text != fmt.Sprint(stands+1) {
+	if text, err := lock.Read(limited(t)); err != nil || text != fmt.Sprint(current+1) {
 		t.Errorf("%q is read, %v", text, err)
 	}
 }
 
-// memoryS3 is the suite's place in memory: a bucket of its own for each place.
+// memoryS3 holds a bucket in memory for each place of the suite.
 var memoryS3 sync.Map
 
 func openFake(ctx context.Context, place string, conditional bool) (Objects, error) {
-	made, _ := memoryS3.LoadOrStore(place, testbucket.New(conditional))
-	transport := made.(*testbucket.Bucket)
-	server := httptest.NewServer(transport)
+	stored, _ := memoryS3.LoadOrStore(place, testbucket.New(conditional))
+	server := httptest.NewServer(stored.(*testbucket.Bucket))
 	store, err := OpenS3(ctx, S3{Endpoint: strings.TrimPrefix(server.URL, "http://"), Bucket: testbucket.Name, Key: "key",
 		Secret: "secret", Region: "us-east-1", Conditional: conditional})
 	return closing{store, server}, err
 }
 
-// closing ends a server with its store.
+// closing holds a store, and a server that is closed with it.
 type closing struct {
 	Objects
 	server *httptest.Server

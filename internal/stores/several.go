@@ -8,9 +8,9 @@ import (
 	"strings"
 )
 
-// LockOf opens one of several locks at an address, as LockAt has them: each name has its own, below the
-// path or the prefix, or beside PostgreSQL's name. Names are whatever they are; a lock's place is named by SHA-256
-// of it.
+// LockOf opens one of several locks at an address, which has the form that LockAt takes. Each name has a lock of its
+// own: below the path of a folder, below the prefix in etcd, or in PostgreSQL under the log's name with a suffix. A
+// name may be any text, since the SHA-256 digest of it is used.
 func LockOf(ctx context.Context, address, name string) (Lock, error) {
 	own, err := addressOf(address, name)
 	if err != nil {
@@ -19,7 +19,7 @@ func LockOf(ctx context.Context, address, name string) (Lock, error) {
 	return LockAt(ctx, own)
 }
 
-// addressOf is the address of one of several locks.
+// addressOf returns the address of the lock with this name.
 func addressOf(address, name string) (string, error) {
 	sum := sha256.Sum256([]byte(name))
 	own := hex.EncodeToString(sum[:])
@@ -28,7 +28,7 @@ func addressOf(address, name string) (string, error) {
 		path, err := pathOf("file", rest)
 		return "file:" + strings.TrimRight(path, "/") + "/" + own, err
 	}
-	u, query, err := parsed(address, kind)
+	u, query, err := parseURL(address, kind)
 	switch {
 	case kind != "etcd" && kind != "postgres" && kind != "postgresql":
 		return "", fmt.Errorf("%w: a lock is at file:PATH, etcd://.. or postgres://.., not at %.20q",
@@ -43,7 +43,7 @@ func addressOf(address, name string) (string, error) {
 		u.RawPath = ""
 		return u.String(), nil
 	}
-	log, err := word(query, "log")
+	log, err := takeValue(query, "log")
 	if err != nil || log == "" {
 		return "", fmt.Errorf("%w: postgres needs a name: ?log=NAME", ErrAddress)
 	}

@@ -7,7 +7,7 @@ import (
 	"testing"
 )
 
-// TestSeveralLocks: each name below one address has a lock of its own, also if two names differ only in case.
+// TestSeveralLocks: each name at one address has a lock of its own, even if two names differ only in case.
 func TestSeveralLocks(t *testing.T) {
 	ctx, address := context.Background(), "file:"+filepath.Join(t.TempDir(), "states")
 	for _, name := range []string{"a.example/1", "A.example/1", "../a", ""} {

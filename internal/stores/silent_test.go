@@ -10,18 +10,18 @@ import (
 	"wagtenib/internal/testutil"
 )
 
-// pause is the command that stops an engine's process (SIGSTOP) for some seconds. tests/engines.sh sets it.
-var pause = os.Getenv("STORES_PAUSE")
+// pauseCommand is the command that stops an engine's process (SIGSTOP) for some seconds. tests/engines.sh sets it.
+var pauseCommand = os.Getenv("STORES_PAUSE")
 
-// paused is how long an engine is stopped.
-const paused = "4"
+// pauseSeconds is how long an engine is stopped.
+const pauseSeconds = "4"
 
-// stop stops an engine, makes calls of a second until one fails, and gives that one's error; nil where the engine went
-// on before.
+// stop stops an engine, makes calls of at most a second until one fails, and returns its error. It returns nil if no
+// call failed before the engine continued.
 func stop(t *testing.T, engine string, call func(ctx context.Context) error) (err error) {
 	t.Helper()
 	all := processes[engine]
-	command := exec.Command("sh", "-c", pause+" "+all[len(all)-1]+" "+paused)
+	command := exec.Command("sh", "-c", pauseCommand+" "+all[len(all)-1]+" "+pauseSeconds)
 	command.Stderr = os.Stderr
 	must(t, command.Start())
 	ended := make(chan error, 1)
@@ -31,23 +31,23 @@ func stop(t *testing.T, engine string, call func(ctx context.Context) error) (er
 		err = call(ctx)
 		cancel()
 	}
-	goesOn := len(ended) > 0
+	continued := len(ended) > 0
 	must(t, <-ended)
-	if goesOn {
+	if continued {
 		return nil
 	}
 	return err
 }
 
-// whilePaused makes a call of a second on an engine that is stopped: it ends with its context, before the engine goes
-// on, and says so. Once that goes on, the call is made again until it is done.
+// whilePaused checks that a call on a stopped engine ends with its context, before the engine continues, and returns an
+// error. After the engine continues, the call is repeated until it is done.
 func whilePaused(t *testing.T, engine string, call func(ctx context.Context) error) {
 	t.Helper()
 	must(t, call(limited(t)))
-	// (on a machine that has much else to do none may begin, or be heard of, in that time)
+	// On a busy machine it may happen that no call begins and ends in that time. Then the engine is stopped again.
 	for all := limited(t); stop(t, engine, call) == nil; {
 		if all.Err() != nil {
-			t.Fatalf("%s: no call on a silent engine fails before it goes on", engine)
+			t.Fatalf("%s: no call on a silent engine fails before the engine continues", engine)
 		}
 	}
 	start := time.Now()
@@ -59,7 +59,7 @@ func whilePaused(t *testing.T, engine string, call func(ctx context.Context) err
 			return
 		}
 		if time.Since(start) > testutil.Longest {
-			t.Fatalf("%s: it goes on, and the call doesn't: %v", engine, err)
+			t.Fatalf("%s: the engine continues, and the call still fails: %v", engine, err)
 		}
 	}
 }

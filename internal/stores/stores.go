@@ -27,9 +27,9 @@ const (
 
 // The kinds of errors. Use errors.Is. Any other error is the engine's, wrapped.
 var (
-	// ErrName: a name isn't of the form that Objects states. Nothing was done.
+	// ErrName: a name does not have the form that Objects states. Nothing was done.
 	ErrName = errors.New("stores: invalid name")
-	// ErrEmpty: a text is empty, or the name by which a log is known in an engine. Nothing was done.
+	// ErrEmpty: a text, or the name of a log in an engine, is empty. Nothing was done.
 	ErrEmpty = errors.New("stores: empty")
 	// ErrTooLong: an object, a text or a list is longer than its bound. Nothing was done.
 	ErrTooLong = errors.New("stores: too long")
@@ -37,7 +37,7 @@ var (
 	ErrNumber = errors.New("stores: number too large")
 	// ErrAbsent: there is no object of this name, or no lock.
 	ErrAbsent = errors.New("stores: absent")
-	// ErrOther: the name has another content, which stays.
+	// ErrOther: the name has another content, which was not changed.
 	ErrOther = errors.New("stores: the name has another content")
 	// ErrLost: the swap was not performed, since the lock has another text.
 	ErrLost = errors.New("stores: the lock has another text")
@@ -49,16 +49,16 @@ var (
 	ErrInUse = errors.New("stores: in use by another process")
 	// ErrDamaged: a file of the index is missing, or its bytes are not those that were written.
 	ErrDamaged = errors.New("stores: damaged")
-	// ErrUnsafe: an engine is set so that it doesn't keep what it acknowledges.
+	// ErrUnsafe: with its settings, an engine may lose what it acknowledged.
 	ErrUnsafe = errors.New("stores: the engine's settings may lose what it acknowledges")
 )
 
-// TooLong is ErrTooLong of an object: it has so many bytes.
+// TooLong is the ErrTooLong of an object. It holds the object's length in bytes.
 type TooLong struct{ Length int64 }
 
 func (e TooLong) Error() string { return fmt.Sprintf("%v: %d bytes", ErrTooLong, e.Length) }
 
-// Is says that it is ErrTooLong.
+// Is reports whether the target is ErrTooLong.
 func (e TooLong) Is(target error) bool { return target == ErrTooLong }
 
 // Objects keeps bytes under names. Each name has one content for ever. A name consists of parts with a slash between
@@ -75,28 +75,28 @@ type Objects interface {
 	// ErrOther to the other call. Another engine may store either, so a caller that needs more must use two names.
 	// After any other error the object may exist or not, and the call may be repeated.
 	Put(ctx context.Context, name string, content []byte) error
-	// Get returns the content, or ErrAbsent. If the content has more than most bytes, it returns TooLong, and nothing of
-	// the content.
-	Get(ctx context.Context, name string, most int64) ([]byte, error)
-	// List returns the first names that begin with the prefix and come after a text, in the order of their bytes. There
-	// are at most as many as requested, and at most MaxListed. The prefix is empty or ends with a slash. The text is a
-	// name, the beginning of one, or empty.
-	List(ctx context.Context, prefix, after string, most int) ([]string, error)
+	// Get returns the content, or ErrAbsent. If the content has more than maxBytes bytes, it returns TooLong, and
+	// nothing of the content.
+	Get(ctx context.Context, name string, maxBytes int64) ([]byte, error)
+	// List returns the first names that begin with the prefix and are greater than the text after, in the order of
+	// their bytes. It returns at most maxNames names, and at most MaxListed. The prefix is empty or ends with a slash.
+	// The text is a name, the beginning of one, or empty.
+	List(ctx context.Context, prefix, after string, maxNames int) ([]string, error)
 	// Delete deletes an object. It returns nil if there is none.
 	Delete(ctx context.Context, name string) error
 	Close() error
 }
 
-// Lock has the text that decides a log's next state, and the published head. The text has 1 to MaxText bytes of
-// any value. Two attempts to set it have two texts, since each text names its predecessor and a random number. So a
-// node that reads a text knows whether it is its own.
+// Lock holds the text that decides a log's next state, and the published head. The text has 1 to MaxText bytes of any
+// value. Two attempts to set it have two texts, since each text names its predecessor and a random number. So a node
+// that reads a text knows whether it is its own.
 //
 // The engine must promise that swaps and reads of one lock are linearizable, and that what was acknowledged or read
-// persists, even if processes are killed or power fails. The lock must never be rolled back: a lock from an
-// older copy lets a log fork.
+// persists, even if processes are killed or power fails. The lock must never be rolled back: a lock from an older copy
+// lets a log fork.
 type Lock interface {
-	// Create sets the first text, and published to zero; ErrExists where the lock was created before, whatever its
-	// text.
+	// Create sets the first text, and sets the published head to zero. It returns ErrExists if the lock was created
+	// before, whatever its text is.
 	Create(ctx context.Context, text string) error
 	// Read returns the text. It returns ErrAbsent if the lock was not created, or was lost.
 	Read(ctx context.Context) (string, error)
@@ -104,23 +104,25 @@ type Lock interface {
 	// may be repeated. It returns ErrLost if the lock has another text, and ErrAbsent if it does not exist.
 	// ErrUnknown means that the swap may have happened, or may still happen as long as the text is old.
 	Swap(ctx context.Context, old, new string) error
-	// Published returns the latest that Raise was given and acknowledged; the zero one after Create.
+	// Published returns the latest head that Raise acknowledged, or the zero head if there was none since Create.
 	Published(ctx context.Context) (Published, error)
-	// Raise sets the published head unless it is older than the current one. It never falls, and the call may be
-	// repeated. Raise returns ErrAbsent if the lock was not created.
+	// Raise sets the published head unless the new head is older than the current one. So the published head never goes
+	// back, and the call may be repeated. Raise returns ErrAbsent if the lock was not created.
 	Raise(ctx context.Context, published Published) error
 	Close() error
 }
 
-// Published is how far a log is published: by a head of so many entries, with a timestamp in milliseconds since 1970.
+// Published holds the size and the timestamp of a log's published head. The size is a number of entries, and the
+// timestamp is in milliseconds since 1970.
 type Published struct{ Size, Timestamp uint64 }
 
-// Before reports whether p is before another one: of fewer entries, or of as many and an earlier moment.
+// Before reports whether p is older than the other head: it has fewer entries, or as many and an earlier timestamp.
 func (p Published) Before(other Published) bool {
 	return p.Size < other.Size || p.Size == other.Size && p.Timestamp < other.Timestamp
 }
 
-// Identity is by what a submission is known when it comes again: SHA-256 over what of it goes into the log.
+// Identity identifies a submission, so that a duplicate of it is found. It is the SHA-256 digest of the part of the
+// submission that gets into the log.
 type Identity [32]byte
 
 // Place is the index and the timestamp of an entry. The timestamp is in milliseconds.
@@ -128,7 +130,7 @@ type Place struct {
 	Index, Timestamp uint64
 }
 
-// Row is an entry in the index: what its submission and its leaf are known by, and its place.
+// Row holds an entry of the index: the identity of its submission, the hash of its leaf, and its place.
 type Row struct {
 	Identity Identity
 	// Leaf is the hash of the entry's leaf (RFC 6962, section 2.1).
@@ -145,21 +147,21 @@ type Row struct {
 // be correct, since they are checked with an inclusion proof. If it loses identities, duplicates get into the log, and
 // nothing else happens.
 type Index interface {
-	// Find returns the places of those of these identities that have one; at most MaxRows are asked for.
+	// Find returns the places of the identities that have one. A call takes at most MaxRows identities.
 	Find(ctx context.Context, identities []Identity) (map[Identity]Place, error)
-	// FindLeaves is Find by the hashes of leaves.
+	// FindLeaves returns places as Find does, but looks them up by the hashes of leaves.
 	FindLeaves(ctx context.Context, hashes []Identity) (map[Identity]Place, error)
 	// Add adds at most MaxRows rows. An identity or a leaf hash that has a place, or occurs earlier in the list, keeps
-	// its first one. After an error some may have been added, and the call may be repeated.
+	// its first place. After an error some rows may have been added, and the call may be repeated.
 	Add(ctx context.Context, rows []Row) error
 	// Replace sets the places of the identities and leaf hashes of at most MaxRows rows, whatever they were. If one
-	// occurs twice in the list, its first place counts. After an error some may have been set, and the call may be
-	// repeated.
+	// occurs twice in the list, its first place counts. After an error some places may have been set, and the call may
+	// be repeated.
 	Replace(ctx context.Context, rows []Row) error
 	Close() error
 }
 
-// Timed is a store that says what time it is on its machine.
+// Timed is a store that reports the time of its machine.
 type Timed interface {
 	// Time returns the time of day and its maximum error. If the clock is this machine's own, it returns both with
 	// ErrSameMachine.

@@ -14,8 +14,8 @@ import (
 	"wagtenib/internal/testutil"
 )
 
-// syncs returns the paths below a root that are synced to the disk during a call, in their order. A file without its
-// public name is "file". It is "file (named)" if the public name exists by then.
+// syncs returns the paths below a root that are synced to the disk during a call, in their order. A file with a
+// temporary name is called "file". " (named)" is appended to a path if the public name exists at the time of its sync.
 func syncs(t *testing.T, root, public string, call func() error) (paths []string) {
 	t.Helper()
 	var mu sync.Mutex
@@ -38,7 +38,7 @@ func syncs(t *testing.T, root, public string, call func() error) (paths []string
 	return paths
 }
 
-func syncedAs(t *testing.T, what string, got, want []string) {
+func wantSynced(t *testing.T, what string, got, want []string) {
 	t.Helper()
 	if !reflect.DeepEqual(got, want) {
 		t.Errorf("%s: synced %q, and %q should be", what, got, want)
@@ -54,24 +54,24 @@ func TestFolderSyncs(t *testing.T) {
 	put := func(name string) []string {
 		return syncs(t, root, name, func() error { return store.Put(ctx, name, []byte("x")) })
 	}
-	syncedAs(t, "an object in new folders", put("a/b/c"), []string{"file", "a/b (named)", "a (named)", ". (named)"})
-	syncedAs(t, "another one", put("a/b/d"), []string{"file", "a/b (named)"})
-	// The process that put it first may have been killed before it was on the disk.
-	syncedAs(t, "the same once more", put("a/b/c"), []string{"file (named)", "a/b (named)"})
+	wantSynced(t, "an object in new folders", put("a/b/c"), []string{"file", "a/b (named)", "a (named)", ". (named)"})
+	wantSynced(t, "another one", put("a/b/d"), []string{"file", "a/b (named)"})
+	// The process that put the object first may have been killed before its sync.
+	wantSynced(t, "the same again", put("a/b/c"), []string{"file (named)", "a/b (named)"})
 	again, err := OpenFolder(root)
 	must(t, err)
 	store = again
-	syncedAs(t, "one in folders of others", put("a/b/e"), []string{"file", "a/b (named)", "a (named)", ". (named)"})
-	syncedAs(t, "one at the top", put("f"), []string{"file", ". (named)"})
+	wantSynced(t, "one in folders of others", put("a/b/e"), []string{"file", "a/b (named)", "a (named)", ". (named)"})
+	wantSynced(t, "one at the top", put("f"), []string{"file", ". (named)"})
 }
 
-// TestMadeFoldersSync: folders that are made are on the disk with their names, each before the one below it; one that
-// is there stays as it is.
+// TestMadeFoldersSync: the names of folders that are made are synced, each before the name of the folder below it. A
+// folder that exists is not synced.
 func TestMadeFoldersSync(t *testing.T) {
 	root := t.TempDir()
 	folders := func() error { return MakeFolder(filepath.Join(root, "a/b")) }
-	syncedAs(t, "new folders", syncs(t, root, "none", folders), []string{".", "a"})
-	syncedAs(t, "the same once more", syncs(t, root, "none", folders), nil)
+	wantSynced(t, "new folders", syncs(t, root, "none", folders), []string{".", "a"})
+	wantSynced(t, "the same once more", syncs(t, root, "none", folders), nil)
 	must(t, os.WriteFile(filepath.Join(root, "file"), nil, 0o600))
 	if err := MakeFolder(filepath.Join(root, "file/b")); err == nil {
 		t.Error("a folder is made below a file")
@@ -84,44 +84,44 @@ func TestFileSyncs(t *testing.T) {
 	lock, err := OpenFile(root)
 	must(t, err)
 	got := syncs(t, root, textFile, func() error { return lock.Create(ctx, "a") })
-	syncedAs(t, "Create", got, []string{"file", ".", "file", ". (named)"})
+	wantSynced(t, "Create", got, []string{"file", ".", "file", ". (named)"})
 	read := func() error { _, err := lock.Read(ctx); return err }
-	syncedAs(t, "Read", syncs(t, root, "none", read), []string{"."})
-	// (what this process knows to be on the disk is synced once)
-	syncedAs(t, "Read of the same", syncs(t, root, "none", read), nil)
+	wantSynced(t, "Read", syncs(t, root, "none", read), []string{"."})
+	// A text that this process knows to be on the disk is not synced again.
+	wantSynced(t, "Read of the same", syncs(t, root, "none", read), nil)
 	swap := func() error { return lock.Swap(ctx, "a", "b") }
-	syncedAs(t, "Swap", syncs(t, root, "none", swap), []string{"file", "."})
-	syncedAs(t, "the same Swap", syncs(t, root, "none", swap), nil)
-	syncedAs(t, "Read of what was swapped", syncs(t, root, "none", read), nil)
+	wantSynced(t, "Swap", syncs(t, root, "none", swap), []string{"file", "."})
+	wantSynced(t, "the same Swap", syncs(t, root, "none", swap), nil)
+	wantSynced(t, "Read of what was swapped", syncs(t, root, "none", read), nil)
 	raise := func() error { return lock.Raise(ctx, Published{Size: 5}) }
-	syncedAs(t, "Raise", syncs(t, root, "none", raise), []string{"file", "."})
+	wantSynced(t, "Raise", syncs(t, root, "none", raise), []string{"file", "."})
 	same := func() error { return lock.Raise(ctx, Published{5, 1}) }
-	syncedAs(t, "Raise of one size", syncs(t, root, "none", same), []string{"file", "."})
+	wantSynced(t, "Raise of one size", syncs(t, root, "none", same), []string{"file", "."})
 	published := func() error { _, err := lock.Published(ctx); return err }
-	syncedAs(t, "Published", syncs(t, root, "none", published), nil)
+	wantSynced(t, "Published", syncs(t, root, "none", published), nil)
 	// The text that another process set may not be on the disk.
 	other, err := OpenFile(root)
 	must(t, err)
 	lock = other
-	syncedAs(t, "Published by another process", syncs(t, root, "none", published), []string{"."})
-	syncedAs(t, "the same Raise", syncs(t, root, "none", same), nil)
-	syncedAs(t, "Read by another process", syncs(t, root, "none", read), []string{"."})
+	wantSynced(t, "Published by another process", syncs(t, root, "none", published), []string{"."})
+	wantSynced(t, "the same Raise", syncs(t, root, "none", same), nil)
+	wantSynced(t, "Read by another process", syncs(t, root, "none", read), []string{"."})
 	third, err := OpenFile(root)
 	must(t, err)
 	lock = third
-	syncedAs(t, "the same Swap by another process", syncs(t, root, "none", swap), []string{"."})
-	syncedAs(t, "the same Raise by another process", syncs(t, root, "none", same), []string{"."})
+	wantSynced(t, "the same Swap by another process", syncs(t, root, "none", swap), []string{"."})
+	wantSynced(t, "the same Raise by another process", syncs(t, root, "none", same), []string{"."})
 }
 
-// TestCurrentSyncs: the folder of an object that is replaced is on the disk before Swap returns, also if another process
-// has replaced the object before, and may have been killed before its own sync.
+// TestCurrentSyncs: the folder of an object that is replaced is on the disk before Swap returns. This is so even if
+// another process replaced the object, since it may have been killed before its own sync.
 func TestCurrentSyncs(t *testing.T) {
 	root := filepath.Join(t.TempDir(), "store")
 	objects, err := OpenFolder(root)
 	must(t, err)
 	swap := func() error { return objects.(*folder).Swap(limited(t), "checkpoint", nil, []byte("a")) }
-	syncedAs(t, "Swap", syncs(t, root, "checkpoint", swap), []string{"file", ". (named)"})
-	syncedAs(t, "the same Swap", syncs(t, root, "checkpoint", swap), []string{". (named)"})
+	wantSynced(t, "Swap", syncs(t, root, "checkpoint", swap), []string{"file", ". (named)"})
+	wantSynced(t, "the same Swap", syncs(t, root, "checkpoint", swap), []string{". (named)"})
 }
 
 // TestFailedSyncs: if a sync fails, nothing is acknowledged. The outcome of a swap is unknown after its text has its
@@ -140,7 +140,7 @@ func TestFailedSyncs(t *testing.T) {
 	root, ctx := t.TempDir(), limited(t)
 	store, err := OpenFolder(filepath.Join(root, "objects"))
 	must(t, err)
-	lock, err := OpenFile(filepath.Join(root, "register"))
+	lock, err := OpenFile(filepath.Join(root, "lock"))
 	must(t, err)
 	must(t, lock.Create(ctx, "a"))
 	for _, folders := range []bool{false, true} {
@@ -151,10 +151,10 @@ func TestFailedSyncs(t *testing.T) {
 	}
 	broken(false)
 	if err := lock.Swap(ctx, "a", "b"); !errors.Is(err, fault) || errors.Is(err, ErrUnknown) {
-		t.Errorf("Swap on a disk that takes no file: %v", err)
+		t.Errorf("Swap on a disk that accepts no file: %v", err)
 	}
 	fsync = (*os.File).Sync
-	standsAs(t, lock, "a", 0)
+	wantLock(t, lock, "a", 0)
 	calls := 0
 	fsync = func(file *os.File) error {
 		if calls++; calls == 2 { // that of the folder, after the file's
@@ -163,10 +163,10 @@ func TestFailedSyncs(t *testing.T) {
 		return file.Sync()
 	}
 	if err := lock.Swap(ctx, "a", "b"); !errors.Is(err, ErrUnknown) {
-		t.Errorf("Swap on a disk that doesn't take its name: %v", err)
+		t.Errorf("Swap on a disk that does not accept the name: %v", err)
 	}
 	fsync = (*os.File).Sync
-	standsAs(t, lock, "b", 0)
+	wantLock(t, lock, "b", 0)
 }
 
 // TestKeptFile: a file has its new content or the one before. The content is on the disk before it has its name, and
@@ -213,7 +213,7 @@ func TestKeptFile(t *testing.T) {
 	}
 }
 
-// TestKeptFileInAFolderOfAnyName: what killed writers left is deleted whatever the name of the folder.
+// TestKeptFileInAFolderOfAnyName: files that killed writers left are deleted whatever the name of the folder is.
 func TestKeptFileInAFolderOfAnyName(t *testing.T) {
 	for _, name := range []string{"log [1", "log[12]", "log*", "log?\\"} {
 		folder := filepath.Join(t.TempDir(), name)
@@ -232,7 +232,7 @@ func TestKeptFileInAFolderOfAnyName(t *testing.T) {
 				names = append(names, filepath.Join(folder, file.Name()))
 			}
 			if err != nil || !reflect.DeepEqual(names, want) {
-				t.Errorf("%s: %q, and %q are due: %v", name, names, want, err)
+				t.Errorf("%s: %q, and %q are expected: %v", name, names, want, err)
 			}
 		}
 		if _, err := KeptFile(path); !errors.Is(err, ErrAbsent) {
@@ -244,9 +244,9 @@ func TestKeptFileInAFolderOfAnyName(t *testing.T) {
 	}
 }
 
-// TestFileThatIsCutShort: if the disk is full in the middle of a content, the one before stays, and nothing is left of
-// the new one. The file's mode stays as it is.
-func TestFileThatIsCutShort(t *testing.T) {
+// TestKeepsOldContentOnFullDisk: if the disk is full in the middle of a new content, the file keeps its old content and
+// its mode, and no temporary file is left.
+func TestKeepsOldContentOnFullDisk(t *testing.T) {
 	path := filepath.Join(t.TempDir(), "kept")
 	for mode, keep := range map[os.FileMode]func(string, []byte) error{0o600: KeepFile, 0o644: ShowFile} {
 		must(t, keep(path, []byte("before")))

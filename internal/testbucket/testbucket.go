@@ -1,5 +1,5 @@
-// Package testbucket is a bucket in memory for tests, which speaks as much of S3 as the stores need. So the client is
-// tried on machines without an engine, and against what an engine seldom does.
+// Package testbucket implements a bucket in memory for tests. It supports the part of S3's protocol that the stores
+// need. So the stores can be tested on machines without an engine, and with faults that an engine seldom has.
 package testbucket
 
 import (
@@ -18,54 +18,55 @@ import (
 // Name is the bucket's name.
 const Name = "bucket"
 
-// Object is what the bucket has under a name.
+// Object is an object of the bucket: its content and its headers.
 type Object struct {
 	Content []byte
 	// Type, Encoding and Cache are its headers Content-Type, Content-Encoding and Cache-Control.
 	Type, Encoding, Cache string
 }
 
-// ETag returns the object's ETag, as S3 makes it of a content that is put in one part.
+// ETag returns the object's ETag, as S3 computes it for a content that is put in one part.
 func (o Object) ETag() string {
 	sum := md5.Sum(o.Content)
 	return `"` + hex.EncodeToString(sum[:]) + `"`
 }
 
-// Bucket is a handler of HTTP. Its fields may be set before it is used.
+// Bucket is an HTTP handler for a bucket. Its fields may be set before it is used.
 type Bucket struct {
 	mu      sync.Mutex
 	objects map[string]Object
-	// Conditional says that the bucket obeys If-None-Match, and Matching that it obeys If-Match.
+	// Conditional is whether the bucket obeys If-None-Match, and Matching whether it obeys If-Match.
 	Conditional, Matching bool
-	// Losing reports whether the answer of the request with this number is lost, and Refusing whether the request is
-	// refused.
+	// Losing reports whether the response to the request with this number is lost. Refusing reports whether the request
+	// is refused. Both may be nil.
 	Losing, Refusing func(number int) bool
-	// Before is called before each request with its number, and After after it was done and before it is answered.
-	// Both may be nil.
+	// Before is called with each request and its number, before the request is done. After is called after it is done
+	// and before the response is sent. Both may be nil.
 	Before, After func(number int, r *http.Request)
 	requests      int
 }
 
-// New returns an empty bucket, which obeys conditions or does not.
+// New returns an empty bucket. conditional is whether it obeys If-None-Match and If-Match.
 func New(conditional bool) *Bucket {
 	return &Bucket{objects: map[string]Object{}, Conditional: conditional, Matching: conditional}
 }
 
 // Object returns the object of a name.
-func (b *Bucket) Object(name string) (of Object, ok bool) {
+func (b *Bucket) Object(name string) (object Object, ok bool) {
 	b.mu.Lock()
 	defer b.mu.Unlock()
-	of, ok = b.objects[name]
-	return of, ok
+	object, ok = b.objects[name]
+	return object, ok
 }
 
 // Set sets the object of a name.
-func (b *Bucket) Set(name string, of Object) {
+func (b *Bucket) Set(name string, object Object) {
 	b.mu.Lock()
 	defer b.mu.Unlock()
-	b.objects[name] = of
+	b.objects[name] = object
 }
 
+// fault answers with an error of S3's protocol.
 func fault(w http.ResponseWriter, status int, code string) {
 	w.WriteHeader(status)
 	fmt.Fprintf(w, "<Error><Code>%s</Code></Error>", code)
@@ -90,9 +91,9 @@ func (b *Bucket) ServeHTTP(w http.ResponseWriter, r *http.Request) {
 		fault(w, http.StatusServiceUnavailable, "SlowDown")
 		return
 	}
-	said := httptest.NewRecorder()
+	response := httptest.NewRecorder()
 	b.mu.Lock()
-	b.answer(said, r, body)
+	b.answer(response, r, body)
 	b.mu.Unlock()
 	if b.After != nil {
 		b.After(number, r)
@@ -100,17 +101,18 @@ func (b *Bucket) ServeHTTP(w http.ResponseWriter, r *http.Request) {
 	if b.Losing != nil && b.Losing(number) {
 		panic(http.ErrAbortHandler)
 	}
-	for name, values := range said.Header() {
+	for name, values := range response.Header() {
 		w.Header()[name] = values
 	}
-	w.WriteHeader(said.Code)
-	// A client that went away reads no answer.
-	_, _ = w.Write(said.Body.Bytes())
+	w.WriteHeader(response.Code)
+	// This fails if the client has closed the connection.
+	_, _ = w.Write(response.Body.Bytes())
 }
 
+// answer does a request and writes the response. The caller must hold the mutex.
 func (b *Bucket) answer(w http.ResponseWriter, r *http.Request, body []byte) {
 	bucket, name, _ := strings.Cut(strings.TrimPrefix(r.URL.Path, "/"), "/")
-	of, there := b.objects[name]
+	object, exists := b.objects[name]
 	switch {
 	case bucket != Name:
 		fault(w, http.StatusNotFound, "NoSuchBucket")
@@ -121,33 +123,34 @@ func (b *Bucket) answer(w http.ResponseWriter, r *http.Request, body []byte) {
 	case r.Method == http.MethodDelete:
 		delete(b.objects, name)
 		w.WriteHeader(http.StatusNoContent)
-	case !there:
+	case !exists:
 		fault(w, http.StatusNotFound, "NoSuchKey")
 	default:
 		for header, value := range map[string]string{
-			"Last-Modified": "Thu, 01 Jan 2026 00:00:00 GMT", "ETag": of.ETag(), "Content-Type": of.Type,
-			"Content-Encoding": of.Encoding, "Cache-Control": of.Cache, "Content-Length": fmt.Sprint(len(of.Content)),
+			"Last-Modified": "Thu, 01 Jan 2026 00:00:00 GMT", "ETag": object.ETag(),
+			"Content-Type": object.Type, "Content-Encoding": object.Encoding, "Cache-Control": object.Cache,
+			"Content-Length": fmt.Sprint(len(object.Content)),
 		} {
 			if value != "" {
 				w.Header().Set(header, value)
 			}
 		}
-		// A recorder takes all.
-		_, _ = w.Write(of.Content)
+		// Writing to a recorder never fails.
+		_, _ = w.Write(object.Content)
 	}
 }
 
-// put answers a PUT, by its conditions.
+// put does a PUT if its conditions hold, and writes the response.
 func (b *Bucket) put(w http.ResponseWriter, r *http.Request, name string, body []byte) {
-	of, there := b.objects[name]
+	object, exists := b.objects[name]
 	match := r.Header.Get("If-Match")
-	isMatched := b.Matching && match != ""
+	mustMatch := b.Matching && match != ""
 	switch {
-	case there && b.Conditional && r.Header.Get("If-None-Match") == "*":
+	case exists && b.Conditional && r.Header.Get("If-None-Match") == "*":
 		fault(w, http.StatusPreconditionFailed, "PreconditionFailed")
-	case isMatched && !there:
+	case mustMatch && !exists:
 		fault(w, http.StatusNotFound, "NoSuchKey")
-	case isMatched && match != of.ETag():
+	case mustMatch && match != object.ETag():
 		fault(w, http.StatusPreconditionFailed, "PreconditionFailed")
 	default:
 		put := Object{body, r.Header.Get("Content-Type"), r.Header.Get("Content-Encoding"), r.Header.Get("Cache-Control")}
@@ -156,7 +159,7 @@ func (b *Bucket) put(w http.ResponseWriter, r *http.Request, name string, body [
 	}
 }
 
-// list answers ListObjectsV2 and what asks for a bucket.
+// list answers ListObjectsV2, and requests that ask whether the bucket exists.
 func (b *Bucket) list(w http.ResponseWriter, r *http.Request) {
 	query := r.URL.Query()
 	after := query.Get("start-after")
@@ -170,9 +173,9 @@ func (b *Bucket) list(w http.ResponseWriter, r *http.Request) {
 		}
 	}
 	sort.Strings(names)
-	most := 1000
+	maxKeys := 1000
 	if text := query.Get("max-keys"); text != "" {
-		if _, err := fmt.Sscan(text, &most); err != nil {
+		if _, err := fmt.Sscan(text, &maxKeys); err != nil {
 			fault(w, http.StatusBadRequest, "InvalidArgument")
 			return
 		}
@@ -183,10 +186,10 @@ func (b *Bucket) list(w http.ResponseWriter, r *http.Request) {
 		Contents              []key
 		IsTruncated           bool
 		NextContinuationToken string
-	}{IsTruncated: len(names) > most}
+	}{IsTruncated: len(names) > maxKeys}
 	if answer.IsTruncated {
-		names = names[:most]
-		answer.NextContinuationToken = names[most-1]
+		names = names[:maxKeys]
+		answer.NextContinuationToken = names[maxKeys-1]
 	}
 	for _, name := range names {
 		answer.Contents = append(answer.Contents, key{name, "2026-01-01T00:00:00Z"})

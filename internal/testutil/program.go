@@ -11,7 +11,8 @@ import (
 // asProgram is the environment variable that makes a test process run as the program that it tests, with its arguments.
 const asProgram = "TRIAL_PROGRAM"
 
-// Main is the TestMain of a program's tests: the tests, or the program itself where Runs has started it.
+// Main implements TestMain for the tests of a program. It runs the tests or, in a process that Program or Runs started,
+// the program itself.
 func Main(m *testing.M, program func()) {
 	if os.Getenv(asProgram) != "" {
 		program()
@@ -20,25 +21,26 @@ func Main(m *testing.M, program func()) {
 	os.Exit(m.Run())
 }
 
-// Program returns the program that the tests are of (Main), with these words. It is not started yet, and does not
-// outlive the test.
-func Program(t testing.TB, words ...string) *exec.Cmd {
+// Program returns a command that runs the tested program (see Main) with these arguments. The command is not started
+// yet. It ends with the test at the latest.
+func Program(t testing.TB, arguments ...string) *exec.Cmd {
 	t.Helper()
 	program, err := os.Executable()
 	Must(t, err)
-	command := exec.CommandContext(Limited(t, Longest), program, words...)
+	command := exec.CommandContext(Limited(t, Longest), program, arguments...)
 	command.Env = append(os.Environ(), asProgram+"=1")
 	return command
 }
 
-// Runs is the program that the tests are of (Main), with these words: its status, and what it says.
-func Runs(t testing.TB, words ...string) (status int, out, problem string) {
+// Runs runs the tested program (see Main) with these arguments until it ends. It returns its status, standard output
+// and standard error.
+func Runs(t testing.TB, arguments ...string) (status int, stdout, stderr string) {
 	t.Helper()
-	command := Program(t, words...)
-	var said, wrong bytes.Buffer
-	command.Stdout, command.Stderr = &said, &wrong
+	command := Program(t, arguments...)
+	var output, problems bytes.Buffer
+	command.Stdout, command.Stderr = &output, &problems
 	if err := command.Run(); err != nil && !errors.As(err, new(*exec.ExitError)) {
 		t.Fatal(err)
 	}
-	return command.ProcessState.ExitCode(), said.String(), wrong.String()
+	return command.ProcessState.ExitCode(), output.String(), problems.String()
 }

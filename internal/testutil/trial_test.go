@@ -10,34 +10,34 @@ import (
 	"wagtenib/internal/testutil"
 )
 
-// told is a test that keeps what it is told.
-type told struct {
+// recorder is a test that records its errors.
+type recorder struct {
 	testing.TB
 	faults []string
 }
 
-func (t *told) Helper() {}
-func (t *told) Errorf(form string, words ...any) {
-	t.faults = append(t.faults, fmt.Sprintf(form, words...))
+func (r *recorder) Helper() {}
+func (r *recorder) Errorf(format string, arguments ...any) {
+	r.faults = append(r.faults, fmt.Sprintf(format, arguments...))
 }
 
-// TestSays: a page must say each sentence, and what it says must be so.
+// TestSays: a page must contain each sentence, and each sentence must be true.
 func TestSays(t *testing.T) {
 	path := filepath.Join(t.TempDir(), "page.md")
 	testutil.Must(t, os.WriteFile(path, []byte("# A page\n\nIt has two\nlines.\n"), 0o600))
 	for _, test := range []struct {
 		sentence string
-		isSo     bool
+		isTrue   bool
 		faults   []string
 	}{
 		{"It has two lines.", true, nil},
-		{"It has two lines.", false, []string{`it isn't so that "It has two lines."`}},
+		{"It has two lines.", false, []string{`the page says "It has two lines.", which is not true of the code`}},
 		{"It has three lines.", true, []string{`the page does not say "It has three lines."`}},
 	} {
-		of := &told{TB: t}
-		testutil.Says(of, testutil.Page(t, path), map[string]bool{test.sentence: test.isSo})
-		if !slices.Equal(of.faults, test.faults) {
-			t.Errorf("%q, %t: %q", test.sentence, test.isSo, of.faults)
+		r := &recorder{TB: t}
+		testutil.Says(r, testutil.Page(t, path), map[string]bool{test.sentence: test.isTrue})
+		if !slices.Equal(r.faults, test.faults) {
+			t.Errorf("%q, %t: %q", test.sentence, test.isTrue, r.faults)
 		}
 	}
 }

@@ -9,8 +9,9 @@ import (
 	"testing"
 )
 
-// Token makes a token log-token with a key of P-256 (key, 01) and one of P-384 (large, 02), and gives the module and
-// the PIN's file. The processes that the test starts find it, too. Without softhsm the test is left out.
+// Token makes a token with the label log-token. It has a P-256 key with the label key and the id 01, and a P-384 key
+// with the label large and the id 02. Token returns the path of the PKCS#11 module and the path of the file with the
+// PIN. Processes that the test starts find the token, too. If softhsm2 or opensc is not installed, the test is skipped.
 func Token(t *testing.T) (module, pin string) {
 	t.Helper()
 	found, _ := filepath.Glob("/usr/lib/*/softhsm/libsofthsm2.so")
@@ -35,16 +36,16 @@ func Token(t *testing.T) (module, pin string) {
 	if err := os.WriteFile(pin, []byte("8765\n"), 0o600); err != nil {
 		t.Fatal(err)
 	}
-	for _, words := range []string{
+	for _, line := range []string{
 		"softhsm2-util --init-token --free --label log-token --so-pin 12345678 --pin 8765",
 		"pkcs11-tool --module " + module +
 			" --login --pin 8765 --keypairgen --key-type EC:prime256v1 --label key --id 01",
 		"pkcs11-tool --module " + module +
 			" --login --pin 8765 --keypairgen --key-type EC:secp384r1 --label large --id 02",
 	} {
-		parts := strings.Fields(words)
-		if said, err := exec.Command(parts[0], parts[1:]...).CombinedOutput(); err != nil {
-			t.Fatalf("%s: %v: %s", words, err, said)
+		command := strings.Fields(line)
+		if output, err := exec.Command(command[0], command[1:]...).CombinedOutput(); err != nil {
+			t.Fatalf("%s: %v: %s", line, err, output)
 		}
 	}
 	return module, pin

@@ -1,4 +1,4 @@
-// Package unknownoutcome has a lock that does not know the outcome of some of its swaps, for tests of its users.
+// Package unknownoutcome contains a lock that does not know the outcome of some of its swaps, for tests of its users.
 package unknownoutcome
 
 import (
@@ -8,8 +8,8 @@ import (
 	"wagtenib/internal/stores"
 )
 
-// Lock does not know the outcome of two swaps of each Every, which is at least three: of one that it did not make,
-// and of one that it made. While Fails is an error it does nothing, and answers that.
+// Lock returns ErrUnknown for two of every Every swaps: it does not make the first one, and makes the second one. Every
+// must be at least three. As long as Fails is an error, Create and Swap do nothing and return it.
 type Lock struct {
 	stores.Lock
 	Every int

@@ -241,3 +241,27 @@ func makeStore(t *testing.T) string {
 	must(t, store.Close())
 	return filepath.Join(folder, watchstore.FileName)
 }
+
+// TestReadersKeepTheJournalMode: a reader does not set how SQLite writes a file. If it did, then a new store could not be
+// made while a health check looks at it ("database is locked").
+func TestReadersKeepTheJournalMode(t *testing.T) {
+	folder := t.TempDir()
+	store, err := watchstore.Open(folder, watchstore.Options{})
+	must(t, err)
+	must(t, store.Close())
+	path := filepath.Join(folder, watchstore.FileName)
+	db, err := sql.Open("sqlite3", path)
+	must(t, err)
+	_, err = db.Exec("PRAGMA journal_mode = DELETE")
+	must(t, err)
+	must(t, db.Close())
+	reader, err := watchstore.OpenToRead(folder)
+	must(t, err)
+	must(t, reader.Close())
+	content, err := os.ReadFile(path)
+	must(t, err)
+	// The file format version for writing (SQLite, "The Database Header"): 1 is a rollback journal, and 2 is WAL.
+	if content[18] != 1 {
+		t.Errorf("after a reader the file has the format version %d, and not 1", content[18])
+	}
+}

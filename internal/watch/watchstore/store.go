@@ -127,9 +127,13 @@ func open(path string, options Options, mode string) (*Store, error) {
 	if err != nil {
 		return nil, err
 	}
-	settings := url.Values{"_journal_mode": {"WAL"}, "_synchronous": {"FULL"}, "_busy_timeout": {"10000"},
-		"_foreign_keys": {"1"},
-		"_txlock":       {"immediate"}, "mode": {mode}}
+	settings := url.Values{"_synchronous": {"FULL"}, "_busy_timeout": {"10000"}, "_foreign_keys": {"1"},
+		"_txlock": {"immediate"}, "mode": {mode}}
+	if mode == "rwc" {
+		// The mode remains in the file, so a reader must not set it: if two connections set it in a new file, SQLite
+		// returns an error to one of them at once.
+		settings.Set("_journal_mode", "WAL")
+	}
 	source := url.URL{Scheme: "file", Path: absolute, RawQuery: settings.Encode()}
 	db, err := sql.Open("sqlite3", source.String())
 	if err != nil {
