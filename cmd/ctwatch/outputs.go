@@ -43,7 +43,7 @@ func (o *outputSettings) define(flags *flag.FlagSet) {
 	flags.BoolVar(&o.quiet, "quiet", false, "write no alert to standard output")
 }
 
-// open opens the outputs. The caller must call close.
+// open opens the outputs. The caller must call close, also after an error.
 func (o outputSettings) open(out io.Writer, contact string) (outputs []alert.Output, close func() error, err error) {
 	close = func() error { return nil }
 	if o.json == "-" {

@@ -103,10 +103,10 @@ func (s *settings) check(lines *httpserver.Lines) error {
 // heads.
 func (s *settings) watch(ctx context.Context, out io.Writer, lines *httpserver.Lines) (err error) {
 	outputs, closeOutputs, err := s.outputs.open(out, s.logs.contact)
+	defer func() { err = errors.Join(err, closeOutputs()) }()
 	if err != nil {
 		return err
 	}
-	defer func() { err = errors.Join(err, closeOutputs()) }()
 	w := &watching{settings: s, outputs: outputs, lines: lines}
 	for range outputs {
 		w.wakes = append(w.wakes, make(chan struct{}, 1))
