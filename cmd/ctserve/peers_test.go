@@ -142,8 +142,8 @@ func TestForwards(t *testing.T) {
 	}
 }
 
-// refusesOthers checks that a node accepts no client without a certificate of the nodes' CA, and that a client with one
-// may only submit.
+// refusesOthers checks that a node's listener for nodes accepts no client without a certificate of their CA and none
+// without TLS, and that a client with such a certificate may only submit.
 func (p *place) refusesOthers(address string) {
 	p.t.Helper()
 	pool := x509.NewCertPool()
@@ -167,6 +167,16 @@ func (p *place) refusesOthers(address string) {
 			p.t.Errorf("a client with the certificate %q: %v, %+v", name, err, answer)
 		}
 		client.CloseIdleConnections()
+	}
+	plain := &http.Client{Transport: &http.Transport{}, Timeout: testutil.Longest}
+	defer plain.CloseIdleConnections()
+	answer, err := plain.Get("http://" + address + "/ct/v1/add-chain")
+	if err == nil {
+		answer.Body.Close()
+	}
+	// net/http answers 400 to a request without TLS, before any handler.
+	if err == nil && answer.StatusCode != http.StatusBadRequest {
+		p.t.Errorf("a client without TLS: %+v", answer)
 	}
 }
 

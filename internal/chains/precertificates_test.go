@@ -157,7 +157,7 @@ func BenchmarkRealPrecertificate(b *testing.B) {
 	if err != nil {
 		b.Fatal(err)
 	}
-	c := NewChecker(roots, Rules{}, byASN1{})
+	c := NewChecker(roots, Rules{}, NewCutter())
 	for i := 0; i < b.N; i++ {
 		if _, err := c.Precertificate(line.Chain); err != nil {
 			b.Fatal(err)

@@ -127,7 +127,7 @@ func TestTwoSigners(t *testing.T) {
 		t.Errorf("%v, %v", last, err)
 	}
 	later := listOf(t, 20, 13)
-	for timestamp := uint64(200); timestamp < 230; timestamp++ {
+	for timestamp := uint64(200); timestamp < 204; timestamp++ {
 		folder := t.TempDir()
 		a, b := guardedIn(t, key, folder), guardedIn(t, key, folder)
 		failed := make(chan error, 2)
@@ -142,9 +142,6 @@ func TestTwoSigners(t *testing.T) {
 		if x, y := <-failed, <-failed; (x == nil) == (y == nil) ||
 			!errors.Is(fmt.Errorf("%w", firstError(x, y)), ErrMoved) {
 			t.Errorf("%v and %v", x, y)
-		}
-		if timestamp > 202 {
-			break
 		}
 	}
 }
