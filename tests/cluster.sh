@@ -1,10 +1,10 @@
 #!/usr/bin/env bash
 # Runs a log on loopback and in a folder: three members of etcd with its lock, PostgreSQL with its index, Ceph's S3 with its objects, NODES=3 nodes of ctserve
 # over them, WITNESSES=3 witnesses of its heads (0 for none), a loader and a reader.
-#   cluster.sh start FOLDER [PORT]   starts it, or goes on with the one that was stopped there, and says where to look
+#   cluster.sh start FOLDER [PORT]   starts it, or continues the one that was stopped there, and says where to look
 #   cluster.sh status FOLDER         says what runs and what it said last
 #   cluster.sh stop FOLDER           ends it; ctfsck judges what it published and answered
-# ENGINES="postgres s3" keeps the lock in PostgreSQL instead, and ENGINES="" keeps all of the log in the folder. FRONT=yes has nginx in front of the nodes, with
+# ENGINES="postgres s3" keeps the lock in PostgreSQL instead. ENGINES="" keeps all of the log in the folder, which one node can use. FRONT=yes has nginx in front of the nodes, with
 # release/nginx/ctserve.nginx.conf. RATE=20 is how many submissions the loader sends a second, 0 as many as are answered; LOAD=no starts neither it nor the reader.
 # BUILD=no takes the programs of cmd/out as they are.
 # One signer has the key, for all nodes. The log accepts the root in root.pem, whose key is in root.key, and the loader's own.
@@ -72,17 +72,20 @@ nodes() { numbers node; }
 witnesses() { numbers witness; }
 
 node_conf() {
-  local i=$1 port=$2
-  "$here/../release/node-certificate.sh" "$folder" "node-$i" 127.0.0.1
+  local i=$1 port=$2 peers=""
+  if [ -n "${STORES_S3:-}" ]; then
+    "$here/../release/node-certificate.sh" "$folder" "node-$i" 127.0.0.1
+    peers="nodes-listen     127.0.0.1:$((port + 20 + i))
+nodes-address    https://127.0.0.1:$((port + 20 + i))
+nodes-certificate  $folder/node-$i.pem
+nodes-key        $folder/node-$i.key
+nodes-ca         $folder/nodes-ca.pem"
+  fi
   cat >"$folder/node-$i.conf" <<END_OF_CONF
 origin           $origin
 listen           127.0.0.1:$((port + i))
 operator-listen  127.0.0.1:$((port + 10 + i))
-nodes-listen     127.0.0.1:$((port + 20 + i))
-nodes-address    https://127.0.0.1:$((port + 20 + i))
-nodes-certificate  $folder/node-$i.pem
-nodes-key        $folder/node-$i.key
-nodes-ca         $folder/nodes-ca.pem
+$peers
 signer-socket    $folder/signer
 roots            $folder/roots.pem
 $stores
@@ -149,7 +152,11 @@ front() {
 }
 
 start() {
-  local port=${1:-8618} i all="" create="" who nothing roots loaded id words="" engines=${ENGINES-members postgres s3}
+  local port=${1:-8618} i all="" create="" who nothing roots loaded id words="" engines=${ENGINES-members postgres s3} nodes=${NODES:-3}
+  if [ -z "$engines" ]; then
+    nodes=${NODES:-1}
+    [ "$nodes" = 1 ] || { echo "cluster.sh: only one node can use a folder (set NODES=1, or name engines in ENGINES)" >&2; exit 1; }
+  fi
   [ "${BUILD:-}" = no ] || "$here/../cmd/build.sh" build
   mkdir -p "$folder/engines"
   ENGINES=$engines PORT=$((port + 30)) "$here/engines.sh" start "$folder/engines"
@@ -174,7 +181,7 @@ start() {
       made_witness "$i" "$port"
       words+=" http://127.0.0.1:$((port + 7 + i)),$(tail -n 1 "$folder/witnesses")"
     done
-    for i in $(seq 0 $((${NODES:-3} - 1))); do node_conf "$i" "$port"; done
+    for i in $(seq 0 $((nodes - 1))); do node_conf "$i" "$port"; done
     [ -z "${FRONT:-}" ] || front $((port + 29))
   fi
   for i in $(nodes); do all+=${all:+,}http://$(sed -n 's/^listen *//p' "$folder/node-$i.conf"); done
@@ -209,18 +216,18 @@ start() {
   [ ! -e "$folder/nginx/conf" ] || PATH=$PATH:/usr/sbin launch front nginx -p "$folder/nginx" -c "$folder/nginx/conf"
   [ "${LOAD:-yes}" != yes ] || launch reader "$programs/ctfollow" --nodes "$all" --origin "$origin" --key "$folder/log.pem"
   cat <<END_OF_TEXT
-A log of ${all//,/, } runs:
-  a page        ${all%%,*}/
-  its head      curl ${all%%,*}/checkpoint
-  figures       curl http://$(sed -n 's/^operator-listen *//p' "$folder/node-0.conf")/metrics
-  who loads it  $folder/loader.log; what was answered: $folder/answers
-  who reads it  tail -f $folder/reader.log
-  who cosigns   $(cut -d + -f 1 "$folder/witnesses" 2>/dev/null | paste -sd ' ')
-  the bucket    $bucket
+A log at ${all//,/, } runs:
+  page          ${all%%,*}/
+  tree head     curl ${all%%,*}/checkpoint
+  metrics       curl http://$(sed -n 's/^operator-listen *//p' "$folder/node-0.conf")/metrics
+  loader        $folder/loader.log; the log's answers: $folder/answers
+  reader        tail -f $folder/reader.log
+  witnesses     $(cut -d + -f 1 "$folder/witnesses" 2>/dev/null | paste -sd ' ')
+  bucket        $bucket
   etcd          ${STORES_MEMBERS:-}
   PostgreSQL    ${STORES_POSTGRES:-}
-  a death       kill -9 \$(cut -d ' ' -f 1 $folder/node-0.id); '$0 start $folder' starts what is gone
-  its end       $0 stop $folder
+  kill a node   kill -9 \$(cut -d ' ' -f 1 $folder/node-0.id); '$0 start $folder' starts it again
+  stop          $0 stop $folder
 END_OF_TEXT
 }
 

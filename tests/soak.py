@@ -3,10 +3,10 @@
 
     soak.py [--minutes 60] [--seed N] [--folder] [--kills] [--work FOLDER]
 
-tests/cluster.sh runs the log: three nodes over etcd, PostgreSQL and Ceph's S3, or with --folder two nodes over one folder, each with a signer, three witnesses, a
-loader and a reader. Nodes, signer, witnesses and engines are killed (SIGKILL) or paused (SIGSTOP, SIGCONT). Of the engines, two members of etcd may be paused
-at once. With --kills nothing but nodes is killed, one in turn each minute, behind nginx if there are several; then the bounds of `ctserve audit` on
-availability and latency hold too.
+tests/cluster.sh runs the log: three nodes over etcd, PostgreSQL and Ceph's S3, or with --folder one node over a folder, with a signer, three witnesses, a
+loader and a reader. Nodes, signer, witnesses and engines are killed (SIGKILL) or paused (SIGSTOP, SIGCONT). Two members of etcd may be paused at once. With
+--kills only nodes are killed, one in turn each minute, and several nodes have nginx in front of them. Then the bounds of `ctserve audit` on availability and
+latency must hold, too.
 
 Four judge what happened: `ctserve audit` all the time; ctfollow, which reads the whole log; ctfsck, which compares all that was published, and all that was
 answered, at the end; and the witnesses. No process may take more than MEMORY bytes, panic, or not start again. The seed fixes the choices, and is printed.
@@ -60,7 +60,7 @@ class Soak:
     def __init__(self, work, options):
         self.work, self.options, self.port, self.chance = work, options, free_port(), random.Random(options.seed)
         engines = {"ENGINES": ""} if options.folder else {}
-        self.environment = {**os.environ, **engines, "NODES": "1" if options.folder and options.kills else "2" if options.folder else "3", "RATE": "10"}
+        self.environment = {**os.environ, **engines, "NODES": "1" if options.folder else "3", "RATE": "10"}
         if options.kills and not options.folder:
             self.environment["FRONT"] = "yes"
         self.counts, self.faults, self.peaks = {}, [], {}
