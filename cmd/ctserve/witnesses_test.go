@@ -214,7 +214,7 @@ func TestWitnessesSettings(t *testing.T) {
 		arguments []string
 		why       string
 	}{
-		{[]string{"--witnesses", "https://a.example"}, "no verifier key"},
+		{[]string{"--witnesses", "https://a.example"}, "not a verifier key"},
 		{[]string{"--witnesses", three + " x"}, "a witness is a URL"},
 		{[]string{"--witnesses", three + " " + ones[0]}, "one name, key or URL"},
 		{[]string{"--publish-quorum", "2"}, "need --witnesses"},

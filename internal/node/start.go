@@ -282,9 +282,14 @@ func (l *Loop) create(ctx context.Context) error {
 	err = l.config.Stores.Lock.Create(ctx, text)
 	if errors.Is(err, stores.ErrExists) {
 		// Another node created it; or its text is gone, and the engine still knows that it was created.
-		if _, err := l.config.Stores.Lock.Read(ctx); errors.Is(err, stores.ErrAbsent) {
+		text, err := l.config.Stores.Lock.Read(ctx)
+		if errors.Is(err, stores.ErrAbsent) {
 			return fmt.Errorf("%w: its text is gone (see \"Backup\" in OPERATING.md)", ErrRolledBack)
 		}
+		if err == nil {
+			l.keepLater(text)
+		}
+		// After another error the next try reads it.
 		return nil
 	}
 	if err != nil && !errors.Is(err, stores.ErrUnknown) {

@@ -284,6 +284,14 @@ func TestStartRefusesRolledBackLock(t *testing.T) {
 	}
 }
 
+// TestStartAfterAnotherCreatesTheLock has a node find no lock, and read the text of the one that another node created
+// meanwhile. The lock is rolled back before the node looks again. The older text must be refused.
+func TestStartAfterAnotherCreatesTheLock(t *testing.T) {
+	if result := sim.Run(sim.NewPlan(50_799_943), proved, false); result.Violation != nil {
+		t.Error(result.Violation)
+	}
+}
+
 // TestNoRollbackOfAllBesideALatePut lets a node put a head late, after all stores would be rolled back. Two machines
 // have not seen the head, so nothing could show them that. So the rollback must not happen (README.md, "What a history
 // may lose").
