@@ -12,7 +12,7 @@ import (
 	"wagtenib/bindings/go/wagtenib"
 )
 
-// lineOf is a state's line: its size and moment, and of its four hashes the first bytes.
+// lineOf returns the line of a state with a size, a timestamp, and up to four hashes. The missing hashes are zero.
 func lineOf(size, timestamp uint64, hashes ...[32]byte) string {
 	line := fmt.Sprintf("growth %016x%016x", size, timestamp)
 	for i := 0; i < 4; i++ {
@@ -25,8 +25,8 @@ func lineOf(size, timestamp uint64, hashes ...[32]byte) string {
 	return line
 }
 
-// TestWrongBegins: the line of a log without entries has neither entries nor a bundle, and is of the moment that was
-// asked for.
+// TestWrongBegins: the line of a log without entries has neither entries nor a bundle, and it has the timestamp that was
+// requested.
 func TestWrongBegins(t *testing.T) {
 	begins := func(line string) *Stepper {
 		of := Proved()
@@ -38,7 +38,7 @@ func TestWrongBegins(t *testing.T) {
 	if line, err := begins(right).Begin(5); err != nil || line != right {
 		t.Fatalf("%s, %v", line, err)
 	}
-	for what, line := range map[string]string{"an entry": lineOf(1, 5, root), "another moment": lineOf(0, 6, root),
+	for what, line := range map[string]string{"an entry": lineOf(1, 5, root), "another timestamp": lineOf(0, 6, root),
 		"a bundle": lineOf(0, 5, root, [32]byte{1}), "no state": "growth"} {
 		if _, err := begins(line).Begin(5); !errors.Is(err, ErrReply) {
 			t.Errorf("%s: %v", what, err)
@@ -46,7 +46,7 @@ func TestWrongBegins(t *testing.T) {
 	}
 }
 
-// TestWrongNeeds: names that are no tiles' aren't wanted.
+// TestWrongNeeds: a reply with a name that is not that of a tile is refused.
 func TestWrongNeeds(t *testing.T) {
 	needs := func(names ...string) *Stepper {
 		of := Proved()
@@ -83,7 +83,7 @@ func TestWrongHeads(t *testing.T) {
 	for what, bend := range map[string]func(p *wagtenib.Published){
 		"as it is":           func(*wagtenib.Published) {},
 		"another size":       func(p *wagtenib.Published) { p.Signed[17]++ },
-		"another moment":     func(p *wagtenib.Published) { p.Signed[9]++ },
+		"another timestamp":  func(p *wagtenib.Published) { p.Signed[9]++ },
 		"another root":       func(p *wagtenib.Published) { p.Signed[49] ^= 1 },
 		"another version":    func(p *wagtenib.Published) { p.Signed[0] = 1 },
 		"a timestamp's type": func(p *wagtenib.Published) { p.Signed[1] = 0 },
@@ -107,8 +107,8 @@ func TestWrongHeads(t *testing.T) {
 	for what, of := range map[string]struct {
 		before string
 		now    uint64
-	}{"of another moment": {before, 8}, "of another size": {lineOf(2, 5), 7},
-		"behind another line": {lineOf(3, 6), 7}} {
+	}{"of another timestamp": {before, 8}, "of another size": {lineOf(2, 5), 7},
+		"after another line": {lineOf(3, 6), 7}} {
 		if _, err := steps(&whole).Step(of.before, nil, nil, of.now, MaxAhead); !errors.Is(err, ErrReply) {
 			t.Errorf("a step %s: %v", what, err)
 		}
@@ -122,7 +122,7 @@ func TestWrongHeads(t *testing.T) {
 	}
 }
 
-// TestWrongClaims: a receipt has bytes to be signed, and what is no claim isn't asked.
+// TestWrongClaims: a receipt without bytes to sign is refused, and the function is not called for a wrong path.
 func TestWrongClaims(t *testing.T) {
 	of := Proved()
 	of.Claim = func(string, uint64, uint64, []wagtenib.Hash, []byte) ([]byte, error) { return nil, nil }
@@ -154,7 +154,7 @@ func TestWrongClaims(t *testing.T) {
 	}
 }
 
-// make2048 returns one fingerprint more than a chain has.
+// make2048 returns one fingerprint more than a chain may have.
 func make2048() [][]byte {
 	chain := make([][]byte, 2048)
 	for i := range chain {
@@ -163,7 +163,7 @@ func make2048() [][]byte {
 	return chain
 }
 
-// TestClaimOfOne: the one entry of a log is claimed by an empty path, of an entry without issuers.
+// TestClaimOfOne: the only entry of a log, which has no issuers, is claimed with an empty path.
 func TestClaimOfOne(t *testing.T) {
 	c, _, one := oneEntry(t)
 	receipt, err := c.Claim(one.Line, 0, 7, nil, Submission{LeafCertificate: []byte("one")})
@@ -173,12 +173,12 @@ func TestClaimOfOne(t *testing.T) {
 	// Bytes that are appended to an object must not change the next one.
 	for _, object := range one.Objects {
 		if cap(object.Content) != len(object.Content) {
-			t.Errorf("%s has room for %d bytes behind it", object.Name, cap(object.Content)-len(object.Content))
+			t.Errorf("%s has room for %d bytes after it", object.Name, cap(object.Content)-len(object.Content))
 		}
 	}
 }
 
-// TestBounds: as many entries as a log has are taken, and no more.
+// TestBounds: a state with the maximum number of entries is read, and one with more is refused.
 func TestBounds(t *testing.T) {
 	if s, err := ParseState(lineOf(MaxLeaves, 1)); err != nil || s.Size != MaxLeaves || s.Timestamp != 1 {
 		t.Errorf("%+v, %v", s, err)
@@ -188,7 +188,7 @@ func TestBounds(t *testing.T) {
 	}
 }
 
-// TestLinesThatAreNone: a step from what is no line, and to what is none, is no step.
+// TestLinesThatAreNone: a step from or to a text that is not the line of a state is refused.
 func TestLinesThatAreNone(t *testing.T) {
 	bundle := []byte("a bundle")
 	before := lineOf(3, 5)

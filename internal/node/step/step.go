@@ -12,12 +12,12 @@ import (
 	"wagtenib/bindings/go/wagtenib"
 )
 
-// MaxAhead is how many milliseconds a step's timestamp is beyond its line's at most, unless a caller has a reason for
-// more: an hour.
+// MaxAhead is the maximum number of milliseconds by which a step's timestamp is later than its line's, unless a caller
+// has a reason for more: an hour.
 const MaxAhead = 3_600_000
 
-// ErrReply is the error of a reply that isn't one to the request.
-var ErrReply = errors.New("step: not a reply to the request")
+// ErrReply is the error of a reply that does not fit its request.
+var ErrReply = errors.New("step: the reply does not fit the request")
 
 // Refusal is the reason for which a request was refused. Nothing has changed then.
 type Refusal wagtenib.Code
@@ -37,29 +37,29 @@ const (
 	NoClaim   = Refusal(wagtenib.ErrClaim)
 )
 
-// texts has the refusals in words.
+// texts are the texts of the refusals.
 var texts = map[Refusal]string{
 	BadBatch:  "the batch is not a list of submissions",
 	TooMany:   "the batch has more than 4,096 submissions",
-	BadState:  "the state is none",
-	TooFar:    "the timestamp is too far beyond the state's",
-	Edge:      "the partial tiles are not the state's",
-	Entries:   "the partial data tile is not the state's",
-	ClockBack: "the timestamp is not later than the state's",
+	BadState:  "the line is not that of a state",
+	TooFar:    "the timestamp is too much later than that of the state",
+	Edge:      "the partial tiles are not those of the state",
+	Entries:   "the partial data tile is not that of the state",
+	ClockBack: "the timestamp is not later than that of the state",
 	Full:      "the log would have more than 2^40 entries",
 	TooLong:   "a data tile would have 2^32 bytes or more",
-	Bundle:    "the bundle is not the state's",
-	NoClaim:   "the path does not lead to the state's root",
+	Bundle:    "the staged batch is not that of the state",
+	NoClaim:   "the path does not lead to the root of the state",
 }
 
-// Error returns the refusal in words.
+// Error returns the text of the refusal.
 func (r Refusal) Error() string { return "refused: " + texts[r] }
 
-// Functions are the proved functions of a step, or others in tests.
+// Functions are the functions that make steps: the proved ones, or others in tests.
 type Functions struct {
 	Begin func(timestamp uint64) (state string, err error)
 	Needs func(state string) (names []string, err error)
-	Step  func(origin, state string, edge, batch []byte, now, most uint64) (*wagtenib.Step, error)
+	Step  func(origin, state string, edge, batch []byte, now, maxAhead uint64) (*wagtenib.Step, error)
 	Claim func(state string, index, timestamp uint64, path []wagtenib.Hash,
 		submission []byte) (signed []byte, err error)
 	Resume func(origin, state string, bundle []byte) (*wagtenib.Published, error)
@@ -83,7 +83,7 @@ func New(origin string) *Stepper { return Over(origin, Proved()) }
 // Over returns a stepper over other functions than the proved ones, for tests.
 func Over(origin string, functions Functions) *Stepper { return &Stepper{origin, functions} }
 
-// Receipt has the index of an entry of a batch, and the bytes that its timestamp's signature covers (RFC 6962, section
+// Receipt holds the index and the timestamp of an entry of a batch, and the bytes that its timestamp's signature covers (RFC 6962, section
 // 3.2).
 type Receipt struct {
 	LeafIndex uint64
@@ -115,7 +115,7 @@ func refused(err error) error {
 	return fmt.Errorf("step: %w", err)
 }
 
-// headOf reads the head that is published of a state, and compares it with the state.
+// headOf returns the head that is published with a state, after it compared it with the state.
 func headOf(p wagtenib.Published, s State) (h Head, err error) {
 	h.Checkpoint, h.Sign = p.Checkpoint, p.Signed[:]
 	h.Head.Timestamp = binary.BigEndian.Uint64(h.Sign[2:])
@@ -123,7 +123,7 @@ func headOf(p wagtenib.Published, s State) (h Head, err error) {
 	h.Head.RootHash = h.Sign[18:]
 	if h.Sign[0] != 0 || h.Sign[1] != 1 || h.Head.TreeSize != s.Size || h.Head.Timestamp != s.Timestamp ||
 		!bytes.Equal(h.Head.RootHash, s.Root[:]) {
-		return Head{}, fmt.Errorf("%w: the head isn't the state's", ErrReply)
+		return Head{}, fmt.Errorf("%w: the head is not that of the state", ErrReply)
 	}
 	if h.Checkpoint == "" {
 		return Head{}, fmt.Errorf("%w: the head has no note", ErrReply)
@@ -139,7 +139,7 @@ func (s *Stepper) Begin(timestamp uint64) (string, error) {
 	}
 	if state, err := ParseState(line); err != nil || state.Size != 0 || state.Timestamp != timestamp ||
 		!state.IsBegin() {
-		return "", fmt.Errorf("%w: the state isn't that of a log without entries", ErrReply)
+		return "", fmt.Errorf("%w: the state is not that of a log without entries", ErrReply)
 	}
 	return line, nil
 }
@@ -158,22 +158,24 @@ func (s *Stepper) Needs(line string) ([]string, error) {
 	return names, nil
 }
 
-// Stepped is what a step gives.
+// Stepped is the result of a step.
 type Stepped struct {
 	Head
+	// Line is the line of the new state, and Bundle the content of the staged batch.
 	Line   string
 	Bundle []byte
-	// Receipts are one for each submission of the batch, in its order: of a repeat that of the first.
+	// Receipts has one receipt for each submission of the batch, in its order. A submission that is in the batch twice
+	// has the receipt of the first one both times.
 	Receipts []Receipt
-	// State is the line's, and Objects are what is published, out of the bundle.
+	// State is the state of the line, and Objects are the objects to publish, which are parts of the bundle.
 	State   State
 	Objects []Object
 }
 
-// Step returns the state after a batch, with the objects that it publishes. The edge are the contents of the names that
-// Needs returns, in that order. `now` is at most so many milliseconds (most) beyond the line's timestamp, or it is
-// TooFar.
-func (s *Stepper) Step(line string, edge [][]byte, batch []Submission, now, most uint64) (*Stepped, error) {
+// Step returns the state after a batch, with the objects that it publishes. The edge has the contents of the objects
+// that Needs names, in that order. Now is the step's timestamp in milliseconds. If it is later than the line's by more
+// than maxAhead, the error is TooFar.
+func (s *Stepper) Step(line string, edge [][]byte, batch []Submission, now, maxAhead uint64) (*Stepped, error) {
 	before, err := ParseState(line)
 	if err != nil {
 		return nil, err
@@ -182,14 +184,15 @@ func (s *Stepper) Step(line string, edge [][]byte, batch []Submission, now, most
 	if err != nil {
 		return nil, err
 	}
-	reply, err := s.functions.Step(s.origin, line, edgeBytes(edge), submissions, now, most)
+	reply, err := s.functions.Step(s.origin, line, edgeBytes(edge), submissions, now, maxAhead)
 	if err != nil {
 		return nil, refused(err)
 	}
 	return stepped(reply, line, before.Size, len(batch), now)
 }
 
-// stepped reads the reply to a request for a step from a line, whose log has so many entries, with so many more.
+// stepped returns the result of a step, after it compared the reply with its request: the line before, the number of
+// entries of the log, the number of submissions, and the timestamp.
 func stepped(reply *wagtenib.Step, line string, size uint64, batch int, now uint64) (*Stepped, error) {
 	state, err := ParseState(reply.State)
 	if err != nil {
@@ -204,13 +207,13 @@ func stepped(reply *wagtenib.Step, line string, size uint64, batch int, now uint
 			size++
 		}
 		if r.LeafIndex < before || r.LeafIndex >= size || r.Timestamp != now || len(r.Signed) == 0 {
-			return nil, fmt.Errorf("%w: receipt %d isn't an entry's of this batch", ErrReply, i)
+			return nil, fmt.Errorf("%w: receipt %d is not one of an entry of this batch", ErrReply, i)
 		}
 		receipts[i] = Receipt{r.LeafIndex, r.Timestamp, r.Signed}
 	}
 	if state.Size != size || state.Timestamp != now || state.Before != Digest(line) ||
 		state.Bundle != sha256.Sum256(reply.Bundle) {
-		return nil, fmt.Errorf("%w: the state isn't the one behind this batch", ErrReply)
+		return nil, fmt.Errorf("%w: the state is not that after this batch", ErrReply)
 	}
 	objects, err := objectsIn(reply.Bundle, reply.Objects)
 	if err != nil {
@@ -223,9 +226,9 @@ func stepped(reply *wagtenib.Step, line string, size uint64, batch int, now uint
 	return &Stepped{head, reply.State, reply.Bundle, receipts, state, objects}, nil
 }
 
-// Claim returns the receipt of a submission whose entry is at this index of the log of this line, if the audit path,
-// hashes from the leaf up (RFC 9162, section 2.1.3.2), leads from the entry's leaf to the line's root. Otherwise it
-// returns NoClaim.
+// Claim returns the receipt of a submission whose entry has this index in the log of this line. The audit path has the
+// hashes from the leaf up (RFC 9162, section 2.1.3.2). If it does not lead from the entry's leaf to the line's root, the
+// error is NoClaim.
 func (s *Stepper) Claim(line string, index, timestamp uint64, path [][]byte, submission Submission) (*Receipt, error) {
 	hashes := make([]wagtenib.Hash, len(path))
 	for i, hash := range path {
@@ -243,18 +246,18 @@ func (s *Stepper) Claim(line string, index, timestamp uint64, path [][]byte, sub
 		return nil, refused(err)
 	}
 	if len(signed) == 0 {
-		return nil, fmt.Errorf("%w: the receipt has nothing to be signed", ErrReply)
+		return nil, fmt.Errorf("%w: the receipt has no bytes to sign", ErrReply)
 	}
 	return &Receipt{index, timestamp, signed}, nil
 }
 
-// Resumed is what is published of a step that was decided.
+// Resumed is what must be published of a step that was decided.
 type Resumed struct {
 	Head
 	Objects []Object
 }
 
-// Resume reads the bundle that belongs to a state's line.
+// Resume returns what must be published of a state, out of the bundle of the step that made it.
 func (s *Stepper) Resume(line string, bundle []byte) (*Resumed, error) {
 	state, err := ParseState(line)
 	if err != nil {

@@ -124,7 +124,7 @@ func TestWrongStates(t *testing.T) {
 	}
 	must(t, asked(right.State))
 	// The offsets of the numbers and hashes in the line, in bytes.
-	for what, at := range map[string]int{"the size": 7, "the moment": 15, "the root": 16, "the bundle's digest": 48,
+	for what, at := range map[string]int{"the size": 7, "the timestamp": 15, "the root": 16, "the bundle's digest": 48,
 		"the digest of the line before": 112} {
 		digits := []byte(right.State)
 		digit := &digits[len(growth)+2*at]
@@ -171,7 +171,7 @@ func TestReceipts(t *testing.T) {
 		"one farther behind":     func(r []wagtenib.Receipt) []wagtenib.Receipt { r[4].LeafIndex = 5; return r },
 		"one out of turn":        func(r []wagtenib.Receipt) []wagtenib.Receipt { r[1], r[3] = r[3], r[1]; return r },
 		"an entry without one":   func(r []wagtenib.Receipt) []wagtenib.Receipt { r[3] = r[4]; return r },
-		"of another moment":      func(r []wagtenib.Receipt) []wagtenib.Receipt { r[0].Timestamp++; return r },
+		"of another timestamp":   func(r []wagtenib.Receipt) []wagtenib.Receipt { r[0].Timestamp++; return r },
 		"nothing to be signed":   func(r []wagtenib.Receipt) []wagtenib.Receipt { r[4].Signed = nil; return r },
 	} {
 		bent := *reply
