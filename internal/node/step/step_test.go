@@ -163,16 +163,16 @@ func TestReceipts(t *testing.T) {
 	reply, err := wagtenib.MakeStep(origin, before.Line, edgeBytes(edge), bytesOf(t, batch), 7, MaxAhead)
 	must(t, err)
 	for what, wrong := range map[string]func([]wagtenib.Receipt) []wagtenib.Receipt{
-		"none":                   func(r []wagtenib.Receipt) []wagtenib.Receipt { return nil },
-		"one too few":            func(r []wagtenib.Receipt) []wagtenib.Receipt { return r[:4] },
-		"one too many":           func(r []wagtenib.Receipt) []wagtenib.Receipt { return append(r, r[4]) },
-		"one of the log before":  func(r []wagtenib.Receipt) []wagtenib.Receipt { r[2].LeafIndex = 0; return r },
-		"one behind the entries": func(r []wagtenib.Receipt) []wagtenib.Receipt { r[4].LeafIndex = 4; return r },
-		"one farther behind":     func(r []wagtenib.Receipt) []wagtenib.Receipt { r[4].LeafIndex = 5; return r },
-		"one out of turn":        func(r []wagtenib.Receipt) []wagtenib.Receipt { r[1], r[3] = r[3], r[1]; return r },
-		"an entry without one":   func(r []wagtenib.Receipt) []wagtenib.Receipt { r[3] = r[4]; return r },
-		"of another timestamp":   func(r []wagtenib.Receipt) []wagtenib.Receipt { r[0].Timestamp++; return r },
-		"nothing to be signed":   func(r []wagtenib.Receipt) []wagtenib.Receipt { r[4].Signed = nil; return r },
+		"none":                  func(r []wagtenib.Receipt) []wagtenib.Receipt { return nil },
+		"one too few":           func(r []wagtenib.Receipt) []wagtenib.Receipt { return r[:4] },
+		"one too many":          func(r []wagtenib.Receipt) []wagtenib.Receipt { return append(r, r[4]) },
+		"one of the log before": func(r []wagtenib.Receipt) []wagtenib.Receipt { r[2].LeafIndex = 0; return r },
+		"one after the entries": func(r []wagtenib.Receipt) []wagtenib.Receipt { r[4].LeafIndex = 4; return r },
+		"one farther after":     func(r []wagtenib.Receipt) []wagtenib.Receipt { r[4].LeafIndex = 5; return r },
+		"one out of turn":       func(r []wagtenib.Receipt) []wagtenib.Receipt { r[1], r[3] = r[3], r[1]; return r },
+		"an entry without one":  func(r []wagtenib.Receipt) []wagtenib.Receipt { r[3] = r[4]; return r },
+		"of another timestamp":  func(r []wagtenib.Receipt) []wagtenib.Receipt { r[0].Timestamp++; return r },
+		"nothing to be signed":  func(r []wagtenib.Receipt) []wagtenib.Receipt { r[4].Signed = nil; return r },
 	} {
 		bent := *reply
 		bent.Receipts = wrong(append([]wagtenib.Receipt{}, reply.Receipts...))
@@ -214,10 +214,10 @@ func TestReferences(t *testing.T) {
 	bundle := string(one.Bundle)
 	for what, wrong := range map[string]wagtenib.Object{
 		"none that is published": {Name: "heads/1", Start: 3, Length: 4, Digest: sha256.Sum256([]byte(bundle[3:7]))},
-		"behind the end": {Name: "tile/0/000.p/1", Start: uint64(len(bundle)), Length: 1,
+		"after the end": {Name: "tile/0/000.p/1", Start: uint64(len(bundle)), Length: 1,
 			Digest: sha256.Sum256(nil)},
 		"farther than a number":   {Name: "tile/0/000.p/1", Start: 1, Length: 1<<64 - 1, Digest: sha256.Sum256(nil)},
-		"begins behind the end":   {Name: "tile/0/000.p/1", Start: 1<<64 - 1, Length: 1, Digest: sha256.Sum256(nil)},
+		"begins after the end":    {Name: "tile/0/000.p/1", Start: 1<<64 - 1, Length: 1, Digest: sha256.Sum256(nil)},
 		"one byte further":        {Name: right.Name, Start: right.Start + 1, Length: 32, Digest: right.Digest},
 		"one byte less":           {Name: right.Name, Start: right.Start, Length: 31, Digest: right.Digest},
 		"another object's digest": {Name: right.Name, Start: right.Start, Length: 32, Digest: one.Objects[1].Digest},
