@@ -3,7 +3,8 @@
 
     monitor.py [--calls 50000] [--seed 1]
 
-The model is written from RFC 6962 and include/wagtenib.h. It keeps all leaves. Each call is made over the state that the call before it wrote, or over a damaged one.
+The model is written from RFC 6962 and include/wagtenib.h. It keeps all leaves, and all heads of the accepted and of the waiting tree. Each call is made over the state
+that the call before it wrote, in either version, or over a damaged one.
 The verdict with what it names, the report on entries and the next state must be the model's. Each verdict, each fault of an entry and each code that a call can
 return must come at least once. After that, wagtenib_monitor_entry judges no bytes and each leaf that the logs handed out, beside head timestamps around the
 leaf's. Without gcc for this processor it says so.
@@ -46,18 +47,36 @@ def fault_of_leaf(leaf):
     return (None, fault.upper().replace("-", "_")) if fault else (struct.unpack(">Q", leaf[2:10])[0], None)
 
 
+def contradict(one, two):
+    """Whether two heads of one log contradict each other (RFC 6962, section 3.5): one size and two roots, or the one with more leaves is not later."""
+    if one[0] == two[0]:
+        return one[2] != two[2]
+    smaller, larger = sorted((one, two))
+    return larger[1] <= smaller[1]
+
+
+def earliest(heads):
+    return min(heads, key=lambda head: head[1])
+
+
+def newest(heads):
+    return max(heads, key=lambda head: head[1])
+
+
 class Model:
-    """The heads and leaves that a log handed out: the accepted head with its leaves, the waiting head, and the leaves that were read after the accepted ones.
-    A head is its size, its timestamp and its root."""
+    """The heads and leaves that a log handed out: every head of the accepted tree with its leaves, every head of the waiting tree, and the leaves that were read after
+    the accepted ones. A head is its size, its timestamp and its root."""
 
     def __init__(self):
-        self.accepted, self.sure, self.waiting, self.ahead = None, [], None, []
+        self.accepted, self.sure, self.waiting, self.ahead = [], [], [], []
 
-    def state(self):
-        """The bytes of the state."""
-        text = b"\x01"
-        for head in self.accepted, self.waiting:
-            text += b"\x00" if head is None else b"\x01" + number(head[0]) + number(head[1]) + head[2]
+    def state(self, version=2):
+        """The bytes of the state. The version 1 has the earliest timestamps alone."""
+        text, both = bytes((version,)), (self.accepted, self.waiting)
+        for heads in both:
+            text += b"\x01" + number(heads[0][0]) + number(earliest(heads)[1]) + heads[0][2] if heads else b"\x00"
+        if version == 2:
+            text += b"".join(number(newest(heads)[1] if heads else 0) for heads in both)
         for leaves in self.sure, self.sure + self.ahead:
             roots = b"".join(perfect(leaves))
             text += number(len(leaves)) + number(len(roots)) + roots
@@ -65,43 +84,50 @@ class Model:
 
     def numbers(self):
         read = len(self.sure) + len(self.ahead)
-        return len(self.sure), read, self.waiting[0] if self.waiting else read
+        return len(self.sure), read, self.waiting[0][0] if self.waiting else read
 
     def beside(self, known, head):
-        """The verdict on a head beside a known one, unless it has more leaves and a later timestamp."""
-        if known is None:
+        """The verdict on a head beside all heads of a known tree, unless it has more leaves and is later than each of them."""
+        if not known:
             return None
-        if head[0] > known[0]:
-            return None if head[1] > known[1] else ("HEAD_NOT_LATER", known, None, None)
-        if head[0] < known[0]:
-            return ("STALE" if head[1] < known[1] else "SHRUNK", None, None, None)
-        return ("AGAIN", None, None, None) if head[2] == known[2] else ("FORKED", known, None, None)
+        size = known[0][0]
+        if any(contradict(one, head) for one in known):
+            name = "FORKED" if head[0] == size else "SHRUNK" if head[0] < size else "HEAD_NOT_LATER"
+            return name, (newest if head[0] > size else earliest)(known), None, None
+        if head[0] == size:
+            return "AGAIN", None, None, None
+        return ("OLDER", earliest(known), None, None) if head[0] < size else None
 
     def settle(self):
         """The verdict on the waiting head, beside the leaves that were read."""
         read = self.sure + self.ahead
-        if self.waiting[0] != len(read):
+        if self.waiting[0][0] != len(read):
             return "PENDING", None, None, None
         computed = root(read)
-        if computed == self.waiting[2]:
-            self.accepted, self.sure, self.waiting, self.ahead = self.waiting, read, None, []
+        if computed == self.waiting[0][2]:
+            self.accepted, self.sure, self.waiting, self.ahead = self.waiting, read, [], []
             return "ACCEPTED", None, None, None
-        self.waiting, self.ahead = None, []
+        self.waiting, self.ahead = [], []
         return "OTHER_ROOT", None, computed, None
 
     def head(self, head):
-        said = self.beside(self.accepted, head) or self.beside(self.waiting, head)
+        said = [verdict for verdict in (self.beside(self.accepted, head), self.beside(self.waiting, head)) if verdict]
         if said:
-            return said
-        self.waiting = self.waiting or head
+            first = next((verdict for verdict in said if Verdict[verdict[0]].accuses), said[0])
+            if first[0] == "AGAIN":
+                self.accepted = [*self.accepted, head] if self.accepted and self.accepted[0][0] == head[0] else self.accepted
+                self.waiting = [*self.waiting, head] if self.waiting and self.waiting[0][0] == head[0] else self.waiting
+            return first
+        self.waiting = self.waiting or [head]
         return self.settle()
 
     def entries(self, start, leaves):
         """The verdict, and the report."""
         read = len(self.sure) + len(self.ahead)
-        if self.waiting is None or start != read:
-            return ("GAP", None, None, None), EntryReport((self.waiting or NO_HEAD)[1], None, None)
-        moment, taken = self.waiting[1], leaves[: self.waiting[0] - read]
+        moment = earliest(self.waiting)[1] if self.waiting else 0
+        if not self.waiting or start != read:
+            return ("GAP", None, None, None), EntryReport(moment, None, None)
+        taken = leaves[: self.waiting[0][0] - read]
         judged = [fault_of_leaf(leaf) for leaf in taken]
         later = next(((read + i, time) for i, (time, _) in enumerate(judged) if time is not None and time > moment), None)
         faulty = next(((read + i, Code[fault]) for i, (_, fault) in enumerate(judged) if fault), None)
@@ -109,10 +135,22 @@ class Model:
         return self.settle(), EntryReport(moment, later, faulty)
 
     def proof(self, hashes):
-        if self.accepted is None or self.waiting is None:
+        if not self.accepted or not self.waiting:
             return "GAP", None, None, None
-        fault = fault_of_proof(self.accepted[0], self.waiting[0], self.accepted[2], self.waiting[2], hashes)
+        return self.leads(self.accepted[0], self.waiting[0], hashes)
+
+    def leads(self, first, second, hashes):
+        fault = fault_of_proof(first[0], second[0], first[2], second[2], hashes)
         return ("INCONSISTENT", None, None, Code[fault.upper().replace("-", "_")]) if fault else ("CONSISTENT", None, None, None)
+
+    def older(self, head, hashes):
+        """The verdict on a proof from an older head to the accepted one, or else to the waiting one."""
+        known = next((heads[0] for heads in (self.accepted, self.waiting) if heads and head[0] < heads[0][0]), None)
+        if known is None:
+            return "GAP", None, None, None
+        if head[0] == 0:
+            return ("CONSISTENT", None, None, None) if head[2] == root([]) else ("INCONSISTENT", None, None, Code.FIRST_MISMATCH)
+        return self.leads(head, known, hashes)
 
     def judgement(self, verdict):
         """A verdict with what it names, the numbers after it, and the next state."""
@@ -170,11 +208,17 @@ class History:
             leaves = log[min(start, SIZES) : min(start, SIZES) + chance.choice((0, 1, 2, 9, 99))]
             self.given.update(dict.fromkeys(leaves))
             return "entries", start, leaves
-        first, second = (model.accepted or NO_HEAD)[0], (model.waiting or NO_HEAD)[0]
+        first, second = ((heads or [NO_HEAD])[0][0] for heads in (model.accepted, model.waiting))
+        older = None
+        if how == 9:
+            # A proof from an older head, of this log or of the other one.
+            size = chance.randrange(SIZES + 1)
+            older = size, chance.randrange(200), self.roots[chance.choice((which, which, 1 - which))][size]
+            first, second = size, next((heads[0][0] for heads in (model.accepted, model.waiting) if heads and size < heads[0][0]), 0)
         hashes = proof(first, log[:second]) if 0 < first < second <= SIZES else []
         if hashes and chance.random() < 0.4:
             hashes = chance.choice((hashes[:-1], hashes + [bytes(32)], [chance.randbytes(32)] + hashes[1:], hashes[:-1] + [chance.randbytes(32)], []))
-        return "proof", hashes
+        return ("proof", hashes) if older is None else ("older", older, hashes)
 
     def start(self):
         """A head to trust with its leaves, the roots of perfect subtrees, and the fault that must come, or None. Some subtrees are not the head's."""
@@ -208,20 +252,20 @@ class History:
         text = bytearray(self.bytes[:-32])
         how = chance.randrange(6)
         if how == 0:
-            text[0] = chance.choice((0, 2))
+            text[0] = chance.choice((0, 3))
         elif how == 1:
             text += b"\x00"
         elif how == 2:
             # A head of other leaves is accepted.
-            made.accepted = (len(made.sure), 1, chance.randbytes(32)) if made.sure else (1, 1, chance.randbytes(32))
+            made.accepted = [(len(made.sure) or 1, 1, chance.randbytes(32))]
             text = bytearray(made.state()[:-32])
         elif how == 3:
             # No head waits, and leaves were read.
-            made.waiting, made.ahead = None, [*made.ahead, b"a leaf"]
+            made.waiting, made.ahead = [], [*made.ahead, b"a leaf"]
             text = bytearray(made.state()[:-32])
         elif how == 4:
             # The waiting head is no larger than what was read.
-            made.waiting = (len(made.sure) + len(made.ahead), MOST, bytes(32))
+            made.waiting = [(len(made.sure) + len(made.ahead), MOST, bytes(32))]
             text = bytearray(made.state()[:-32])
         else:
             # The last subtree is missing, or there is one too many.
@@ -239,7 +283,7 @@ class History:
         else:
             head, leaves, subtrees, fault = self.start()
             after = Model()
-            after.accepted, after.sure = head, leaves
+            after.accepted, after.sure = [head], leaves
             self.comparison.call(f"a start at {head}", fault or after.state(), lambda: wagtenib.monitor_start(TreeHead(*head), subtrees))
             if fault:
                 return
@@ -253,13 +297,18 @@ class History:
         after, (kind, *words) = self.model.copy(), self.handed()
         is_damaged = self.chance.random() < 0.1
         state = self.damaged() if is_damaged else self.bytes
+        if not is_damaged and self.chance.random() < 0.1 and all(earliest(heads)[1] == newest(heads)[1] for heads in (after.accepted, after.waiting) if heads):
+            state = after.state(version=1)
         if kind == "head":
             due, call = after.judgement(after.head(words[0])), lambda: wagtenib.monitor_head(state, TreeHead(*words[0]))
         elif kind == "entries":
             verdict, report = after.entries(*words)
             due, call = (after.judgement(verdict), report), lambda: wagtenib.monitor_entries(state, *words)
-        else:
+        elif kind == "proof":
             due, call = after.judgement(after.proof(*words)), lambda: wagtenib.monitor_proof(state, *words)
+        else:
+            due, call = after.judgement(after.older(*words)), lambda: wagtenib.monitor_older(state, TreeHead(*words[0]), words[1])
+            self.compare_heads(words[0])
         self.comparison.call(f"{kind} {words} over {state.hex()}", Fault("BAD_STATE") if is_damaged else due, call)
         if not is_damaged:
             self.compare_memory(kind, *(due if kind == "entries" else (due, None)))
@@ -270,9 +319,16 @@ class History:
             self.comparison.came.update([judgement.verdict.name, *([f"{report.faulty[1].name} of an entry"] if report and report.faulty else [])])
             self.model, self.bytes = after, judgement.state
             known = after.waiting or after.accepted
-            if len(after.sure) == SIZES and self.chance.random() < 0.2 or known and known[1] == MOST and self.chance.random() < 0.5:
+            if len(after.sure) == SIZES and self.chance.random() < 0.2 or known and newest(known)[1] == MOST and self.chance.random() < 0.5:
                 self.began = False
         return None
+
+    def compare_heads(self, head):
+        """Compares a head with each known head alone, in both directions."""
+        for known in self.model.accepted + self.model.waiting:
+            for first, second in ((known, head), (head, known)):
+                said = self.model.beside([first], second)
+                self.comparison.call(f"{second} beside {first}", said and Verdict[said[0]], lambda first=first, second=second: wagtenib.compare_heads(TreeHead(*first), TreeHead(*second)))
 
     def compare_memory(self, kind, judgement, report):
         """Compares the structs that a call wrote: a number that is not named is 0."""
@@ -290,7 +346,7 @@ class History:
         at = chance.randrange(len(right) + 1)
         for lengths in ([*right, 1], [*right[:at], MOST, *right[at + 1 :]], right[:-1], [*right[:at], *(length ^ 1 for length in right[at : at + 1]), *right[at + 1 :]]):
             if sum(lengths) != len(flat):
-                out = ctypes.create_string_buffer(4259), 4259, ctypes.byref(ctypes.c_uint64())
+                out = ctypes.create_string_buffer(4275), 4275, ctypes.byref(ctypes.c_uint64())
                 verdict, report, listed = ctypes.create_string_buffer(112), ctypes.create_string_buffer(40), (ctypes.c_uint64 * max(len(lengths), 1))(*lengths)
                 code = library.load().wagtenib_monitor_entries(state, len(state), start, flat, len(flat), listed, len(lengths), verdict, report, *out)
                 self.comparison.same(f"entries with the lengths {lengths}", code, Code.OTHER_LENGTHS)

@@ -25,9 +25,9 @@ import (
 	"unsafe"
 )
 
-// maxMonitorState is the maximum number of bytes of a monitor's state: the version, two heads, two times 64 hashes, and
-// the hash of all of these.
-const maxMonitorState = 1 + 2*49 + 2*(16+64*HashSize) + HashSize
+// maxMonitorState is the maximum number of bytes of a monitor's state: the version, two heads, two timestamps, two times
+// 64 hashes, and the hash of all of these.
+const maxMonitorState = 1 + 2*49 + 2*8 + 2*(16+64*HashSize) + HashSize
 
 // Verdict is a verdict of a monitor on an answer of a log.
 type Verdict uint32
@@ -40,8 +40,8 @@ const (
 	VerdictPending Verdict = C.WAGTENIB_PENDING
 	// VerdictAgain means that the head has the size and the root of a known head.
 	VerdictAgain Verdict = C.WAGTENIB_AGAIN
-	// VerdictStale means that the head has fewer leaves than a known head, and an earlier timestamp.
-	VerdictStale Verdict = C.WAGTENIB_STALE
+	// VerdictOlder means that the head has fewer leaves than a known head, and an earlier timestamp. MonitorOlder decides.
+	VerdictOlder Verdict = C.WAGTENIB_OLDER
 	// VerdictShrunk means that the head has fewer leaves than a known head, and no earlier timestamp.
 	VerdictShrunk Verdict = C.WAGTENIB_SHRUNK
 	// VerdictForked means that the head has the size of a known head, and another root.
@@ -52,9 +52,10 @@ const (
 	VerdictOtherRoot Verdict = C.WAGTENIB_OTHER_ROOT
 	// VerdictGap means that the entries begin at another index, or no head waits, or there are no two heads for a proof.
 	VerdictGap Verdict = C.WAGTENIB_GAP
-	// VerdictConsistent means that the proof leads from the accepted head to the waiting one.
+	// VerdictConsistent means that the proof leads from the accepted head to the waiting one, or from an older head to a
+	// known one.
 	VerdictConsistent Verdict = C.WAGTENIB_CONSISTENT
-	// VerdictInconsistent means that the proof does not lead from the accepted head to the waiting one.
+	// VerdictInconsistent means that the proof does not lead there. It accuses nobody: the log did not sign the proof.
 	VerdictInconsistent Verdict = C.WAGTENIB_INCONSISTENT
 )
 
@@ -62,7 +63,7 @@ var verdictNames = map[Verdict]string{
 	VerdictAccepted:     "accepted",
 	VerdictPending:      "pending",
 	VerdictAgain:        "again",
-	VerdictStale:        "stale",
+	VerdictOlder:        "older",
 	VerdictShrunk:       "shrunk",
 	VerdictForked:       "fork",
 	VerdictNotLater:     "time-not-later",
@@ -83,7 +84,7 @@ func (v Verdict) String() string {
 // Accuses reports whether a verdict says that the log did wrong.
 func (v Verdict) Accuses() bool {
 	switch v {
-	case VerdictShrunk, VerdictForked, VerdictNotLater, VerdictOtherRoot, VerdictInconsistent:
+	case VerdictShrunk, VerdictForked, VerdictNotLater, VerdictOtherRoot:
 		return true
 	}
 	return false
@@ -93,7 +94,7 @@ func (v Verdict) Accuses() bool {
 type Judgement struct {
 	Verdict  Verdict
 	Fault    error    // the fault of an inconsistent proof, otherwise nil
-	Known    TreeHead // the known head that VerdictForked and VerdictNotLater name
+	Known    TreeHead // the known head that VerdictOlder, VerdictShrunk, VerdictForked and VerdictNotLater name
 	Root     Hash     // the root of the leaves that were read, for VerdictOtherRoot
 	Accepted uint64   // leaves of the accepted head
 	Read     uint64   // leaves that were read: the index of the next one that is wanted
@@ -185,8 +186,9 @@ func LastSubtrees(leafHash Hash, size uint64, path []Hash) ([]Hash, error) {
 }
 
 // MonitorHead judges a tree head over a state. It compares the head with the accepted head and with the one that waits
-// for its entries. If the head is larger and later than both, it waits from then on (unless another one already waits),
-// and is compared with the leaves that were read.
+// for its entries, each with the earliest and the newest timestamp that it was handed out with. If the head is larger
+// and later than both, it waits from then on (unless another one already waits), and is compared with the leaves that
+// were read. After VerdictAgain the next state has the timestamp of this head.
 //
 // It returns the verdict and the next state. The error is nil, ErrState or ErrMemory. The caller must store the next
 // state before it acts on the verdict.
@@ -228,6 +230,28 @@ func MonitorProof(state []byte, proof []Hash) (found Judgement, next []byte, err
 		return C.wagtenib_monitor_proof(ofBytes(state), C.size_t(len(state)), ofHashes(proof), C.size_t(len(proof)), verdict,
 			out, room, length)
 	})
+}
+
+// MonitorOlder judges a consistency proof (RFC 6962, section 2.1.2) from a head with VerdictOlder to the accepted head if
+// that has more leaves, otherwise to the waiting one. The verdict is VerdictConsistent or VerdictInconsistent, or
+// VerdictGap if neither has more leaves. A head of no leaves needs no proof. The state does not change. The results are
+// those of MonitorHead.
+func MonitorOlder(state []byte, head TreeHead, proof []Hash) (found Judgement, next []byte, err error) {
+	judgedHead := head.inC()
+	return judged(func(verdict *C.struct_wagtenib_monitor_verdict, out *C.uint8_t, room C.size_t,
+		length *C.uint64_t) C.uint32_t {
+		return C.wagtenib_monitor_older(ofBytes(state), C.size_t(len(state)), &judgedHead, ofHashes(proof),
+			C.size_t(len(proof)), verdict, out, room, length)
+	})
+}
+
+// CompareHeads compares two tree heads of one log by their numbers. It returns 0 if the head has more leaves than the
+// known one and is later. Otherwise it returns VerdictAgain or VerdictOlder, or one of the verdicts that accuse:
+// VerdictShrunk, VerdictForked or VerdictNotLater (RFC 6962, section 3.5). After 0 and VerdictOlder a consistency proof
+// decides whether the heads are of one list.
+func CompareHeads(known, head TreeHead) Verdict {
+	knownInC, headInC := known.inC(), head.inC()
+	return Verdict(C.wagtenib_compare_heads(&knownInC, &headInC))
 }
 
 // MonitorEntry judges one leaf (MerkleTreeLeaf, RFC 6962, section 3.4) by the timestamp of a tree head. It returns the

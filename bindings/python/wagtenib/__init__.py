@@ -8,7 +8,7 @@ from ._data_tiles import TileEntry, compare_data_tile, data_tile_leaves
 from ._errors import CertificateError, Code, Error, Field, TileError
 from ._guard import TreeHead, guard_first_head, guard_head, guard_receipt, guard_receipts, guard_state
 from ._library import Unavailable
-from ._monitor import EntryReport, Judgement, Verdict, monitor_begin, monitor_entries, monitor_entry, monitor_head, monitor_proof, monitor_start
+from ._monitor import EntryReport, Judgement, Verdict, compare_heads, monitor_begin, monitor_entries, monitor_entry, monitor_head, monitor_older, monitor_proof, monitor_start
 from ._names import Name, NameKind, Place, certificate_names, names_in_bytes, watch_list, watched_names
 from ._node import NodeCommand, NodeDoes, NodeFound, NodeOutcome, NodeState, NodeTold, batch_name, batch_state, lock_state, lock_text, node_accept, node_next, node_start
 from ._step import Object, Published, Receipt, Step, Submission, step, step_begin, step_claim, step_needs, step_resume
@@ -66,10 +66,12 @@ __all__ = [
     "lock_state",
     "lock_text",
     "log_id",
+    "compare_heads",
     "monitor_begin",
     "monitor_entries",
     "monitor_head",
     "monitor_entry",
+    "monitor_older",
     "monitor_proof",
     "monitor_start",
     "names_in_bytes",

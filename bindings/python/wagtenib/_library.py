@@ -73,6 +73,8 @@ FUNCTIONS = {
     "wagtenib_monitor_head": (_CODE, (*_LIST, _OUT, _OUT, *_OUTPUT)),
     "wagtenib_monitor_entries": (_CODE, (*_LIST, _NUMBER, *_LIST, _NUMBERS, _SIZE, _OUT, _OUT, *_OUTPUT)),
     "wagtenib_monitor_proof": (_CODE, (*_LIST, *_LIST, _OUT, *_OUTPUT)),
+    "wagtenib_monitor_older": (_CODE, (*_LIST, _OUT, *_LIST, _OUT, *_OUTPUT)),
+    "wagtenib_compare_heads": (_CODE, (_OUT, _OUT)),
     "wagtenib_version": (_CODE, ()),
 }
 

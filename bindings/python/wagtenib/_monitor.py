@@ -14,7 +14,7 @@ from ._library import load
 from ._memory import hashes, number, output, pieces, text
 
 # Every state has room in so many bytes.
-_ROOM = 4259
+_ROOM = 4275
 
 
 class Verdict(enum.IntEnum):
@@ -23,7 +23,7 @@ class Verdict(enum.IntEnum):
     ACCEPTED = 128
     PENDING = 129
     AGAIN = 130
-    STALE = 131
+    OLDER = 131
     SHRUNK = 132
     FORKED = 133
     HEAD_NOT_LATER = 134
@@ -35,7 +35,10 @@ class Verdict(enum.IntEnum):
     @property
     def accuses(self) -> bool:
         """Whether the verdict speaks against the log."""
-        return self in (Verdict.SHRUNK, Verdict.FORKED, Verdict.HEAD_NOT_LATER, Verdict.OTHER_ROOT, Verdict.INCONSISTENT)
+        return self in (Verdict.SHRUNK, Verdict.FORKED, Verdict.HEAD_NOT_LATER, Verdict.OTHER_ROOT)
+
+
+_NAMING = (Verdict.OLDER, Verdict.SHRUNK, Verdict.FORKED, Verdict.HEAD_NOT_LATER)
 
 
 class _Verdict(ctypes.Structure):
@@ -62,7 +65,7 @@ class _Report(ctypes.Structure):
 
 @dataclasses.dataclass(frozen=True)
 class Judgement:
-    """A verdict of a monitor, what it names, the numbers of the state after it, and that state. `known` is of FORKED and HEAD_NOT_LATER, `root` of OTHER_ROOT and
+    """A verdict of a monitor, what it names, the numbers of the state after it, and that state. `known` is of OLDER, SHRUNK, FORKED and HEAD_NOT_LATER, `root` of OTHER_ROOT and
     `fault` of INCONSISTENT."""
 
     verdict: Verdict
@@ -90,7 +93,7 @@ def _judged(call: Callable[..., int]) -> Judgement:
     code, state = output(_ROOM, 1, lambda *out: call(ctypes.byref(reported), *out))
     check(code)
     verdict = Verdict(reported.verdict)
-    known = TreeHead(reported.known.tree_size, reported.known.timestamp, bytes(reported.known.root)) if verdict in (Verdict.FORKED, Verdict.HEAD_NOT_LATER) else None
+    known = TreeHead(reported.known.tree_size, reported.known.timestamp, bytes(reported.known.root)) if verdict in _NAMING else None
     root = bytes(reported.root) if verdict == Verdict.OTHER_ROOT else None
     fault = Code(reported.fault) if verdict == Verdict.INCONSISTENT else None
     return Judgement(verdict, known, root, fault, reported.leaves_accepted, reported.leaves_read, reported.leaves_wanted, state)
@@ -133,6 +136,19 @@ def monitor_entries(state: bytes, start: int, leaves: Sequence[bytes]) -> tuple[
 def monitor_proof(state: bytes, proof: Sequence[bytes]) -> Judgement:
     """Judges a consistency proof from the accepted head to the waiting one. The state stays the same."""
     return _judged(lambda *out: load().wagtenib_monitor_proof(*text(state), *hashes(proof), *out))
+
+
+def monitor_older(state: bytes, head: TreeHead, proof: Sequence[bytes]) -> Judgement:
+    """Judges a consistency proof from an older head to the accepted one if that has more leaves, otherwise to the waiting one. The state stays the same."""
+    judged = head.in_c()
+    return _judged(lambda *out: load().wagtenib_monitor_older(*text(state), ctypes.byref(judged), *hashes(proof), *out))
+
+
+def compare_heads(known: TreeHead, head: TreeHead) -> Verdict | None:
+    """Compares two tree heads of one log by their numbers. Returns None if the head has more leaves than the known one, and is later."""
+    first, second = known.in_c(), head.in_c()
+    code = load().wagtenib_compare_heads(ctypes.byref(first), ctypes.byref(second))
+    return Verdict(code) if code else None
 
 
 def monitor_entry(head_timestamp: int, leaf: bytes) -> tuple[int, bool]:

@@ -1,5 +1,5 @@
 -- No bytes are two states, and no text of a part is a prefix of another.
-use Rattle.std.proofs.Common.{◌≡◌, ◌∙◌, ◌*◌, ℕ, zero, suc, List, [], ◌∷◌, ◌++◌, length, take, drop, Option, Some, None, sym, refl, ap, subst, arith, length-append, length-drop, append_assoc, append-nil}
+use Rattle.std.proofs.Common.{◌≡◌, ◌∙◌, ◌*◌, ℕ, zero, suc, List, [], ◌∷◌, ◌++◌, length, take, drop, Option, Some, None, sym, refl, ap, subst, inl, inr, arith, length-append, length-drop, append_assoc, append-nil}
 use Rattle.std.specs.Simd.{first_chunks}
 use Rattle.std.proofs.lemmas.List.{take-append-drop, take_at, drop_at, nil_from_length}
 use Rattle.std.proofs.lemmas.List.Elements.{All-head, All-tail}
@@ -9,7 +9,9 @@ use Rattle.ct_codec.proofs.Apart.{split_equal, num_split, vec_split}
 use Rattle.ct_tree.specs.declared.head.Head.{Head}
 use Rattle.ct_monitor.specs.WatcherState.{WatcherState}
 use Rattle.ct_verify.specs.Laws.{AreHashes}
-use Rattle.ct_monitor.specs.StateText.{AreSubtreesInBytes, IsHeadInBytes, IsInBytes, IsMonitorState, IsNoneOrInBytes, fields_text, head_text, parts_text, subtrees_text}
+use Rattle.ct_monitor.specs.declared.newest.Newest.{Newest}
+use Rattle.ct_monitor.specs.StateText.{AreNewestInBytes, AreSubtreesInBytes, IsHeadInBytes, IsHeadsText, IsInBytes, IsMonitorState, IsNoneOrInBytes, IsPartsText}
+use Rattle.ct_monitor.specs.StateText.{fields_text, first_heads_text, head_text, heads_text, monitor_state_text, parts_text, seen_once, subtrees_text}
 use Rattle.ct_monitor.specs.Fitting.{FitsTogether}
 use Rattle.ct_monitor.specs.CallLaws.{MonitorStatesDiffer, UnfitStatesAreRefused}
 
@@ -91,25 +93,97 @@ subtrees_split p q r s a b e =
 
 -- ---- all parts
 
-abbrev state_from : Option Head → Option Head → ℕ × List (List ℕ) → ℕ × List (List ℕ) → WatcherState
-state_from accepted waiting sure all = record { accepted = accepted; waiting = waiting; sure = sure; all = all }
+abbrev newest_from : ℕ → ℕ → Newest
+newest_from accepted waiting = record { accepted = accepted; waiting = waiting }
 
-same_state : (a b c d : Option Head) (p q r s : ℕ × List (List ℕ)) → a ≡ b → c ≡ d → p ≡ q → r ≡ s → state_from a c p r ≡ state_from b d q s
-same_state a b c d p q r s e f g h =
-    ap (λ (x : Option Head). state_from x c p r) e ∙ ap (λ (x : Option Head). state_from b x p r) f
-    ∙ ap (λ (x : ℕ × List (List ℕ)). state_from b d x r) g ∙ ap (λ (x : ℕ × List (List ℕ)). state_from b d q x) h
+same_newest : (a b c d : ℕ) → a ≡ b → c ≡ d → newest_from a c ≡ newest_from b d
+same_newest a b c d e f = ap (λ (n : ℕ). newest_from n c) e ∙ ap (λ (n : ℕ). newest_from b n) f
+
+newest_split : (n m : Newest) (r q : List ℕ) → AreNewestInBytes n → AreNewestInBytes m
+    → num 8 n.accepted ++ (num 8 n.waiting ++ r) ≡ num 8 m.accepted ++ (num 8 m.waiting ++ q) → (n ≡ m) × (r ≡ q)
+newest_split n m r q a b e =
+    let first = num_split 8 n.accepted m.accepted (num 8 n.waiting ++ r) (num 8 m.waiting ++ q) a.accepted b.accepted e in
+    let second = num_split 8 n.waiting m.waiting r q a.waiting b.waiting first.1 in
+    (same_newest n.accepted m.accepted n.waiting m.waiting first.0 second.0, second.1)
+
+-- the bytes after the version: of the version 1, and of the version 2
+abbrev pub first_body : Option Head → Option Head → List ℕ → List ℕ
+first_body accepted waiting r = head_text accepted ++ (head_text waiting ++ r)
+
+abbrev pub second_body : Option Head → Option Head → Newest → List ℕ → List ℕ
+second_body accepted waiting newest r = head_text accepted ++ (head_text waiting ++ (num 8 newest.accepted ++ (num 8 newest.waiting ++ r)))
+
+pub first_text : (a w : Option Head) (r : List ℕ) → first_heads_text a w ++ r ≡ 1 ∷ first_body a w r
+first_text a w r = ap (λ (x : List ℕ). 1 ∷ x) (append_assoc (head_text a) (head_text w) r)
+
+pub second_text : (a w : Option Head) (n : Newest) (r : List ℕ) → heads_text a w n ++ r ≡ 2 ∷ second_body a w n r
+second_text a w n r =
+    let times : List ℕ = num 8 n.accepted ++ num 8 n.waiting in
+    ap (λ (x : List ℕ). 2 ∷ x)
+    (append_assoc (head_text a) (head_text w ++ times) r
+    ∙ ap (λ (x : List ℕ). head_text a ++ x) (append_assoc (head_text w) times r)
+    ∙ ap (λ (x : List ℕ). head_text a ++ (head_text w ++ x)) (append_assoc (num 8 n.accepted) (num 8 n.waiting) r))
+
+-- two texts of heads, and what follows them
+abbrev AreSameHeads : Option Head → Option Head → Newest → List ℕ → Option Head → Option Head → Newest → List ℕ → Type 0
+AreSameHeads a w n r b x m q = (a ≡ b) × (w ≡ x) × (n ≡ m) × (r ≡ q)
+
+seconds_split : (a w : Option Head) (n : Newest) (r : List ℕ) (b x : Option Head) (m : Newest) (q : List ℕ) → IsNoneOrInBytes a → IsNoneOrInBytes w → AreNewestInBytes n
+    → IsNoneOrInBytes b → IsNoneOrInBytes x → AreNewestInBytes m → second_body a w n r ≡ second_body b x m q → AreSameHeads a w n r b x m q
+seconds_split a w n r b x m q i j k p s t e =
+    let accepted = head_split a b (head_text w ++ (num 8 n.accepted ++ (num 8 n.waiting ++ r))) (head_text x ++ (num 8 m.accepted ++ (num 8 m.waiting ++ q))) i p e in
+    let waiting = head_split w x (num 8 n.accepted ++ (num 8 n.waiting ++ r)) (num 8 m.accepted ++ (num 8 m.waiting ++ q)) j s accepted.1 in
+    let newest = newest_split n m r q k t waiting.1 in
+    (accepted.0, waiting.0, newest.0, newest.1)
+
+firsts_split : (a w : Option Head) (n : Newest) (r : List ℕ) (b x : Option Head) (m : Newest) (q : List ℕ) → IsNoneOrInBytes a → IsNoneOrInBytes w
+    → IsNoneOrInBytes b → IsNoneOrInBytes x → n ≡ seen_once a w → m ≡ seen_once b x → first_body a w r ≡ first_body b x q → AreSameHeads a w n r b x m q
+firsts_split a w n r b x m q i j p s once again e =
+    let accepted = head_split a b (head_text w ++ r) (head_text x ++ q) i p e in
+    let waiting = head_split w x r q j s accepted.1 in
+    let same : seen_once a w ≡ seen_once b x = ap (λ (o : Option Head). seen_once o w) accepted.0 ∙ ap (λ (o : Option Head). seen_once b o) waiting.0 in
+    (accepted.0, waiting.0, once ∙ same ∙ sym again, waiting.1)
+
+pub heads_split : (a w : Option Head) (n : Newest) (text r : List ℕ) (b x : Option Head) (m : Newest) (other q : List ℕ) → IsNoneOrInBytes a → IsNoneOrInBytes w
+    → AreNewestInBytes n → IsNoneOrInBytes b → IsNoneOrInBytes x → AreNewestInBytes m → IsHeadsText a w n text → IsHeadsText b x m other → text ++ r ≡ other ++ q
+    → AreSameHeads a w n r b x m q
+heads_split a w n text r b x m other q i j k p s t (inl f) (inl g) e =
+    let whole = sym (second_text a w n r) ∙ ap (λ (y : List ℕ). y ++ r) (sym f) ∙ e ∙ ap (λ (y : List ℕ). y ++ q) g ∙ second_text b x m q in
+    seconds_split a w n r b x m q i j k p s t (rest_of 2 2 (second_body a w n r) (second_body b x m q) whole)
+heads_split a w n text r b x m other q i j k p s t (inl f) (inr g) e =
+    let whole = sym (second_text a w n r) ∙ ap (λ (y : List ℕ). y ++ r) (sym f) ∙ e ∙ ap (λ (y : List ℕ). y ++ q) g.0 ∙ first_text b x q in
+    absurd (omega (arith, first_of 2 1 (second_body a w n r) (first_body b x q) whole))
+heads_split a w n text r b x m other q i j k p s t (inr f) (inl g) e =
+    let whole = sym (first_text a w r) ∙ ap (λ (y : List ℕ). y ++ r) (sym f.0) ∙ e ∙ ap (λ (y : List ℕ). y ++ q) g ∙ second_text b x m q in
+    absurd (omega (arith, first_of 1 2 (first_body a w r) (second_body b x m q) whole))
+heads_split a w n text r b x m other q i j k p s t (inr f) (inr g) e =
+    let whole = sym (first_text a w r) ∙ ap (λ (y : List ℕ). y ++ r) (sym f.0) ∙ e ∙ ap (λ (y : List ℕ). y ++ q) g.0 ∙ first_text b x q in
+    firsts_split a w n r b x m q i j p s f.1 g.1 (rest_of 1 1 (first_body a w r) (first_body b x q) whole)
+
+abbrev state_from : Option Head → Option Head → Newest → ℕ × List (List ℕ) → ℕ × List (List ℕ) → WatcherState
+state_from accepted waiting newest sure all = record { accepted = accepted; waiting = waiting; newest = newest; sure = sure; all = all }
+
+same_state : (a b c d : Option Head) (n m : Newest) (p q r s : ℕ × List (List ℕ)) → a ≡ b → c ≡ d → n ≡ m → p ≡ q → r ≡ s
+    → state_from a c n p r ≡ state_from b d m q s
+same_state a b c d n m p q r s e f i g h =
+    ap (λ (x : Option Head). state_from x c n p r) e ∙ ap (λ (x : Option Head). state_from b x n p r) f ∙ ap (λ (x : Newest). state_from b d x p r) i
+    ∙ ap (λ (x : ℕ × List (List ℕ)). state_from b d m x r) g ∙ ap (λ (x : ℕ × List (List ℕ)). state_from b d m q x) h
 
 abbrev subtrees_of : WatcherState → List ℕ
 subtrees_of s = subtrees_text s.sure ++ subtrees_text s.all
 
-pub parts_differ : (s t : WatcherState) → IsInBytes s → IsInBytes t → parts_text s ≡ parts_text t → s ≡ t
-parts_differ s t a b e =
-    let heads = rest_of 1 1 (head_text s.accepted ++ (head_text s.waiting ++ subtrees_of s)) (head_text t.accepted ++ (head_text t.waiting ++ subtrees_of t)) e in
-    let accepted = head_split s.accepted t.accepted (head_text s.waiting ++ subtrees_of s) (head_text t.waiting ++ subtrees_of t) a.accepted b.accepted heads in
-    let waiting = head_split s.waiting t.waiting (subtrees_of s) (subtrees_of t) a.waiting b.waiting accepted.1 in
-    let sure = subtrees_split s.sure t.sure (subtrees_text s.all) (subtrees_text t.all) a.sure b.sure waiting.1 in
+-- the same bytes are the parts of one state
+pub parts_differ : (s t : WatcherState) (parts : List ℕ) → IsInBytes s → IsInBytes t → IsPartsText s parts → IsPartsText t parts → s ≡ t
+parts_differ s t parts a b e f =
+    let heads = heads_split s.accepted s.waiting s.newest e.0 (subtrees_of s) t.accepted t.waiting t.newest f.0 (subtrees_of t) a.accepted a.waiting a.newest
+    b.accepted b.waiting b.newest e.1 f.1 (sym e.2 ∙ f.2) in
+    let sure = subtrees_split s.sure t.sure (subtrees_text s.all) (subtrees_text t.all) a.sure b.sure heads.3 in
     let all = subtrees_split s.all t.all [] [] a.all b.all (append-nil (subtrees_text s.all) ∙ sure.1 ∙ sym (append-nil (subtrees_text t.all))) in
-    same_state s.accepted t.accepted s.waiting t.waiting s.sure t.sure s.all t.all accepted.0 waiting.0 sure.0 all.0
+    same_state s.accepted t.accepted s.waiting t.waiting s.newest t.newest s.sure t.sure s.all t.all heads.0 heads.1 heads.2 sure.0 all.0
+
+-- the parts of a state as they are written
+pub written : (s : WatcherState) → IsPartsText s (parts_text s)
+written s = (heads_text s.accepted s.waiting s.newest, inl refl, refl)
 
 -- texts that end in their hashes are the same, if they have the same bytes
 pub hash_split : (H : List ℕ → List ℕ) → ((x : List ℕ) → length (H x) ≡ 32) → (a b x y : List ℕ) → length x ≡ 32 → length y ≡ 32 → a ++ x ≡ b ++ y → (a ≡ b) × (x ≡ y)
@@ -119,13 +193,24 @@ hash_split H h a b x y n m e =
 pub states_differ : MonitorStatesDiffer
 states_differ H h s t a b e =
     let parts = hash_split H h (parts_text s) (parts_text t) (H (parts_text s)) (H (parts_text t)) (h (parts_text s)) (h (parts_text t)) e in
-    parts_differ s t a b parts.0
+    parts_differ s t (parts_text s) a b (written s) (subst (IsPartsText t) (sym parts.0) (written t))
+
+-- the bytes that a state is written as are a state
+pub written_state : (H : List ℕ → List ℕ) (s : WatcherState) (bytes : List ℕ) → IsInBytes s → FitsTogether H s → bytes ≡ monitor_state_text H s
+    → IsMonitorState H s bytes
+written_state H s bytes numbers fits text = record { numbers = numbers; fits = fits; text = (parts_text s, written s, text) }
 
 -- bytes that are two states
 pub one_state : (H : List ℕ → List ℕ) → ((x : List ℕ) → length (H x) ≡ 32) → (s t : WatcherState) (bytes : List ℕ) → IsMonitorState H s bytes → IsMonitorState H t bytes
     → s ≡ t
-one_state H h s t bytes a b = states_differ H h s t a.numbers b.numbers (sym a.text ∙ b.text)
+one_state H h s t bytes a b =
+    let p = a.text.0 in
+    let q = b.text.0 in
+    let parts = hash_split H h p q (H p) (H q) (h p) (h q) (sym a.text.2 ∙ b.text.2) in
+    parts_differ s t p a.numbers b.numbers a.text.1 (subst (IsPartsText t) (sym parts.0) b.text.1)
 
 pub unfit_states_are_refused : UnfitStatesAreRefused
 unfit_states_are_refused H h s numbers unfit = λ t is.
-    unfit (subst (FitsTogether H) (states_differ H h t s is.numbers numbers (sym is.text)) is.fits)
+    let p = is.text.0 in
+    let parts = hash_split H h p (parts_text s) (H p) (H (parts_text s)) (h p) (h (parts_text s)) (sym is.text.2) in
+    unfit (subst (FitsTogether H) (parts_differ t s p is.numbers numbers is.text.1 (subst (IsPartsText s) (sym parts.0) (written s))) is.fits)

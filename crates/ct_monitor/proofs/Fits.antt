@@ -13,7 +13,8 @@ use Rattle.ct_tree.proofs.Peaks.{peaks-nil, peaks-step, length_pairs, root_of_pe
 use Rattle.ct_monitor.specs.Followed.{IsFollowing}
 use Rattle.ct_monitor.specs.Watched.{Watched, leaves_read}
 use Rattle.ct_monitor.specs.WatcherState.{WatcherState, Keeps}
-use Rattle.ct_monitor.specs.Fitting.{AcceptedFits, AreAcceptedOf, HasSubtrees, WaitingFits}
+use Rattle.ct_monitor.specs.Fitting.{AcceptedFits, AreAcceptedOf, HasSubtrees, NewestFits, WaitingFits}
+use Rattle.ct_monitor.specs.declared.newest.Newest.{Newest}
 use Rattle.ct_monitor.specs.CallLaws.{IsWaiting, MonitorStatesFit}
 
 ones_small : (r : ℕ) → r < 2 → count_ones r ≡ r
@@ -81,7 +82,7 @@ accepted_of H s w k =
     (cases_lt s.sure.0 s.all.0)
 
 waiting_fits : (H : List ℕ → List ℕ) (s : WatcherState) (w : Watched) (waiting : Option Head) → IsWaiting w waiting → Keeps H s w
-    → WaitingFits w.accepted waiting s.sure s.all
+    → WaitingFits w.accepted w.newest.accepted waiting s.sure s.all
 waiting_fits H s w None e k = same_subtrees H s.sure s.all w.sure (leaves_read w) k.sure k.all (none_ahead w e)
 waiting_fits H s w (Some head) e k = (e.0, omega (arith, e.1, size_of H s.all (leaves_read w) k.all), accepted_of H s w k)
 
@@ -90,6 +91,10 @@ states_fit H s w i k = record {
   sure = has_subtrees H s.sure (map (hash_leaf H) w.sure) k.sure;
   all = has_subtrees H s.all (map (hash_leaf H) (leaves_read w)) k.all;
   accepted = subst (λ (a : Option Head). AcceptedFits H a s.sure) (sym k.accepted) (accepted_fits H w.accepted s.sure w.sure i.0 k.sure);
-  waiting = subst (λ (a : Option Head). WaitingFits a s.waiting s.sure s.all) (sym k.accepted)
-      (subst (λ (o : Option Head). WaitingFits w.accepted o s.sure s.all) (sym k.waiting) (waiting_fits H s w w.waiting i.1 k));
+  waiting = subst (λ (n : Newest). WaitingFits s.accepted n.accepted s.waiting s.sure s.all) (sym k.newest)
+      (subst (λ (a : Option Head). WaitingFits a w.newest.accepted s.waiting s.sure s.all) (sym k.accepted)
+      (subst (λ (o : Option Head). WaitingFits w.accepted w.newest.accepted o s.sure s.all) (sym k.waiting) (waiting_fits H s w w.waiting i.1 k)));
+  newest = subst (λ (n : Newest). NewestFits s.accepted n.accepted × NewestFits s.waiting n.waiting) (sym k.newest)
+      (subst (λ (a : Option Head). NewestFits a w.newest.accepted × NewestFits s.waiting w.newest.waiting) (sym k.accepted)
+      (subst (λ (o : Option Head). NewestFits w.accepted w.newest.accepted × NewestFits o w.newest.waiting) (sym k.waiting) (i.2, i.3)));
 }

@@ -1,16 +1,16 @@
 -- Accepted heads over many steps.
-use Rattle.std.proofs.Common.{◌≡◌, ◌∙◌, ℕ, List, [], ◌∷◌, ◌++◌, length, take, Option, Some, None, All, sym, refl, ap, subst, arith, inl, inr}
+use Rattle.std.proofs.Common.{◌≡◌, ◌∙◌, ℕ, List, [], ◌∷◌, ◌++◌, length, take, Option, Some, None, All, true, false, ⊎_elim, sym, refl, ap, subst, arith, inl, inr}
 use Rattle.std.proofs.lemmas.List.{append-nil, append_assoc}
 use Rattle.std.proofs.lemmas.List.Elements.{All-cons}
 use Rattle.std.proofs.Math.Seq.{take-append_seam}
 use Rattle.ct_tree.specs.declared.head.Head.{Head}
 use Rattle.ct_monitor.specs.Heads.{IsHeadOfAll}
-use Rattle.ct_monitor.specs.Watched.{Watched, waiting_or, read_on, after_verdict, nothing_seen}
-use Rattle.ct_monitor.specs.Verdicts.{IsSaid, WaitingSays, HeadSays, EntriesSay, after_entries}
+use Rattle.ct_monitor.specs.Watched.{Watched, waiting_or, newest_or, read_on, after_head, after_verdict, nothing_seen}
+use Rattle.ct_monitor.specs.Verdicts.{IsSaid, KnownSay, WaitingSays, HeadSays, EntriesSay, after_entries, is_again}
 use Rattle.ct_monitor.specs.History.{SaysAccepted, IsStep, AreSteps, after_steps, IsOfBeginning, AcceptedHeadsAgree}
 use Rattle.ct_monitor.specs.declared.verdict.Verdict.{Verdict}
-use Rattle.ct_monitor.specs.declared.verdict.Verdict.TheVariants.{Accepted, Pending, Again, Stale, Shrunk, Fork, TimeNotLater, RootMismatch, Gap, Consistent, Inconsistent}
-use Rattle.ct_monitor.proofs.Steps.{said_changes_nothing}
+use Rattle.ct_monitor.specs.declared.verdict.Verdict.TheVariants.{Accepted, Pending, Again, Older, Shrunk, Fork, TimeNotLater, RootMismatch, Gap, Consistent, Inconsistent}
+use Rattle.ct_monitor.proofs.Steps.{bool_cases, is_again_Again, known_changes_nothing, settled_after}
 
 -- a step keeps the accepted leaves, and any head that it accepts is the head of the new accepted leaves
 abbrev Grows : (List ℕ → List ℕ) → Watched → Verdict → Watched → Type 0
@@ -21,52 +21,63 @@ Grows H w v next = ((Y : List (List ℕ)) × (next.sure ≡ w.sure ++ Y))
 unchanged_grows : (H : List ℕ → List ℕ) (w : Watched) (v : Verdict) → (SaysAccepted v → ⊥) → Grows H w v w
 unchanged_grows H w v n = (([], sym (append-nil w.sure)), λ a. absurd (n a))
 
-said_accepts_nothing : (known : Option Head) (head : Head) (v : Verdict) → IsSaid known head v → SaysAccepted v → ⊥
-said_accepts_nothing None head v s a = s
-said_accepts_nothing (Some known) head Accepted s a = s
-said_accepts_nothing (Some known) head Pending s a = a
-said_accepts_nothing (Some known) head Again s a = a
-said_accepts_nothing (Some known) head Stale s a = a
-said_accepts_nothing (Some known) head Shrunk s a = a
-said_accepts_nothing (Some known) head (Fork other) s a = a
-said_accepts_nothing (Some known) head (TimeNotLater other) s a = a
-said_accepts_nothing (Some known) head (RootMismatch root) s a = a
-said_accepts_nothing (Some known) head Gap s a = a
-said_accepts_nothing (Some known) head Consistent s a = a
-said_accepts_nothing (Some known) head (Inconsistent fault) s a = a
+said_accepts_nothing : (known : Option Head) (newest : ℕ) (head : Head) (v : Verdict) → IsSaid known newest head v → SaysAccepted v → ⊥
+said_accepts_nothing None newest head v s a = s
+said_accepts_nothing (Some known) newest head Accepted s a = s
+said_accepts_nothing (Some known) newest head Pending s a = a
+said_accepts_nothing (Some known) newest head Again s a = a
+said_accepts_nothing (Some known) newest head (Older other) s a = a
+said_accepts_nothing (Some known) newest head (Shrunk other) s a = a
+said_accepts_nothing (Some known) newest head (Fork other) s a = a
+said_accepts_nothing (Some known) newest head (TimeNotLater other) s a = a
+said_accepts_nothing (Some known) newest head (RootMismatch root) s a = a
+said_accepts_nothing (Some known) newest head Gap s a = a
+said_accepts_nothing (Some known) newest head Consistent s a = a
+said_accepts_nothing (Some known) newest head (Inconsistent fault) s a = a
 
-said_grows : (H : List ℕ → List ℕ) (w : Watched) (waiting : Head) (known : Option Head) (head : Head) (v : Verdict) → IsSaid known head v
-    → Grows H w v (after_verdict w waiting v)
-said_grows H w waiting known head v s =
-    subst (Grows H w v) (sym (said_changes_nothing w waiting known head v s)) (unchanged_grows H w v (said_accepts_nothing known head v s))
+known_accepts_nothing : (w : Watched) (head : Head) (v : Verdict) → KnownSay w.accepted w.waiting w.newest head v → SaysAccepted v → ⊥
+known_accepts_nothing w head v (inl s) = said_accepts_nothing w.accepted w.newest.accepted head v s.0
+known_accepts_nothing w head v (inr s) = said_accepts_nothing w.waiting w.newest.waiting head v s.1
+
+-- the leaves stay after a verdict by known heads
+known_sure : (w : Watched) (head : Head) (v : Verdict) → KnownSay w.accepted w.waiting w.newest head v → (after_head w head v).sure ≡ w.sure
+known_sure w head v s =
+    ⊎_elim
+    (λ (again : is_again v ≡ true). ap (λ (x : Verdict). (after_head w head x).sure) (is_again_Again v again))
+    (λ (other : is_again v ≡ false). ap (λ (x : Watched). x.sure) (known_changes_nothing w head v s other))
+    (bool_cases (is_again v))
+
+known_grows : (H : List ℕ → List ℕ) (w : Watched) (head : Head) (v : Verdict) → KnownSay w.accepted w.waiting w.newest head v → Grows H w v (after_head w head v)
+known_grows H w head v s = (([], known_sure w head v s ∙ sym (append-nil w.sure)), λ a. absurd (known_accepts_nothing w head v s a))
 
 -- the leaves `ahead` are those of w, or those and more
-settled_grows : (H : List ℕ → List ℕ) (w : Watched) (head : Head) (v : Verdict) → WaitingSays H w head v → Grows H w v (after_verdict w head v)
-settled_grows H w head Accepted s = ((w.ahead, refl), λ a. (head, refl, s))
-settled_grows H w head (RootMismatch root) s = (([], sym (append-nil w.sure)), λ a. absurd a)
-settled_grows H w head Pending s = (([], sym (append-nil w.sure)), λ a. absurd a)
-settled_grows H w head Again s = absurd s
-settled_grows H w head Stale s = absurd s
-settled_grows H w head Shrunk s = absurd s
-settled_grows H w head (Fork known) s = absurd s
-settled_grows H w head (TimeNotLater known) s = absurd s
-settled_grows H w head Gap s = absurd s
-settled_grows H w head Consistent s = absurd s
-settled_grows H w head (Inconsistent fault) s = absurd s
+settled_grows : (H : List ℕ → List ℕ) (w : Watched) (head : Head) (newest : ℕ) (v : Verdict) → WaitingSays H w head v → Grows H w v (after_verdict w head newest v)
+settled_grows H w head newest Accepted s = ((w.ahead, refl), λ a. (head, refl, s))
+settled_grows H w head newest (RootMismatch root) s = (([], sym (append-nil w.sure)), λ a. absurd a)
+settled_grows H w head newest Pending s = (([], sym (append-nil w.sure)), λ a. absurd a)
+settled_grows H w head newest Again s = absurd s
+settled_grows H w head newest (Older known) s = absurd s
+settled_grows H w head newest (Shrunk known) s = absurd s
+settled_grows H w head newest (Fork known) s = absurd s
+settled_grows H w head newest (TimeNotLater known) s = absurd s
+settled_grows H w head newest Gap s = absurd s
+settled_grows H w head newest Consistent s = absurd s
+settled_grows H w head newest (Inconsistent fault) s = absurd s
 
-head_grows : (H : List ℕ → List ℕ) (w : Watched) (head : Head) (v : Verdict) → HeadSays H w head v → Grows H w v (after_verdict w (waiting_or w.waiting head) v)
-head_grows H w head v (inl s) = said_grows H w (waiting_or w.waiting head) w.accepted head v s
-head_grows H w head v (inr (larger, inl s)) = said_grows H w (waiting_or w.waiting head) w.waiting head v s
-head_grows H w head v (inr (larger, inr s)) = settled_grows H w (waiting_or w.waiting head) v s.1
+head_grows : (H : List ℕ → List ℕ) (w : Watched) (head : Head) (v : Verdict) → HeadSays H w head v → Grows H w v (after_head w head v)
+head_grows H w head v (inl s) = known_grows H w head v s
+head_grows H w head v (inr s) =
+    subst (Grows H w v) (settled_after H w head (waiting_or w.waiting head) v s.1)
+    (settled_grows H w (waiting_or w.waiting head) (newest_or w.waiting w.newest.waiting head) v s.1)
 
 read_grows : (H : List ℕ → List ℕ) (w : Watched) (head : Head) (E : List (List ℕ)) (v : Verdict) → WaitingSays H (read_on w head E) head v
     → Grows H w v (after_entries w (Some head) E v)
-read_grows H w head E Accepted s = settled_grows H (read_on w head E) head Accepted s
-read_grows H w head E (RootMismatch root) s = settled_grows H (read_on w head E) head (RootMismatch root) s
-read_grows H w head E Pending s = settled_grows H (read_on w head E) head Pending s
+read_grows H w head E Accepted s = settled_grows H (read_on w head E) head w.newest.waiting Accepted s
+read_grows H w head E (RootMismatch root) s = settled_grows H (read_on w head E) head w.newest.waiting (RootMismatch root) s
+read_grows H w head E Pending s = settled_grows H (read_on w head E) head w.newest.waiting Pending s
 read_grows H w head E Again s = absurd s
-read_grows H w head E Stale s = absurd s
-read_grows H w head E Shrunk s = absurd s
+read_grows H w head E (Older known) s = absurd s
+read_grows H w head E (Shrunk known) s = absurd s
 read_grows H w head E (Fork known) s = absurd s
 read_grows H w head E (TimeNotLater known) s = absurd s
 read_grows H w head E Gap s = absurd s

@@ -1,6 +1,7 @@
 -- Bytes that are not a text of a part.
-use Rattle.std.proofs.Common.{◌≡◌, ◌∙◌, ◌-◌, ◌/◌, ◌%◌, ◌<◌, ◌≤◌, ◌^◌, ◌==◌, Bool, true, false, ℕ, List, [], ◌∷◌, ◌++◌, length, take, drop, Option, Some, None, sym, refl, ap, subst, arith, length-append, append_assoc, append-nil, true≢false}
+use Rattle.std.proofs.Common.{◌≡◌, ◌⊎◌, inl, inr, ◌∙◌, ◌-◌, ◌/◌, ◌%◌, ◌<◌, ◌≤◌, ◌^◌, ◌==◌, Bool, true, false, ℕ, List, [], ◌∷◌, ◌++◌, length, take, drop, Option, Some, None, sym, refl, ap, subst, arith, length-append, append_assoc, append-nil, true≢false}
 use Rattle.std.specs.Bool.{Decides, MatchBool}
+use Rattle.std.specs.Prelude.{MatchOption}
 use Rattle.std.specs.Simd.{first_chunks}
 use Rattle.std.proofs.lemmas.Bool.{eq-eqb}
 use Rattle.std.proofs.Math.Seq.{take-append_seam, drop-append_seam}
@@ -12,8 +13,11 @@ use Rattle.ct_tree.specs.declared.head.Head.{Head}
 use Rattle.ct_monitor.specs.WatcherState.{WatcherState}
 use Rattle.ct_verify.specs.Laws.{AreHashes}
 use Rattle.ct_monitor.specs.Fitting.{FitsTogether}
-use Rattle.ct_monitor.specs.StateText.{AreSubtreesInBytes, IsHeadInBytes, IsInBytes, IsNoState, IsNoneOrInBytes, fields_text, head_text, parts_text, subtrees_text}
-use Rattle.ct_monitor.proofs.Apart.{first_of, rest_of, head_split, subtrees_split, hash_split, joined-chunks, length-joined, parts_differ}
+use Rattle.ct_monitor.specs.declared.newest.Newest.{Newest}
+use Rattle.ct_monitor.specs.declared.reading.Heads.{Heads}
+use Rattle.ct_monitor.specs.StateText.{AreNewestInBytes, AreSubtreesInBytes, IsHeadInBytes, IsHeadsText, IsInBytes, IsNoState, IsNoneOrInBytes, IsPartsText}
+use Rattle.ct_monitor.specs.StateText.{fields_text, first_heads_text, head_text, heads_text, seen_once, subtrees_text}
+use Rattle.ct_monitor.proofs.Apart.{first_of, rest_of, head_split, heads_split, first_body, second_body, first_text, second_text, subtrees_split, hash_split, joined-chunks, length-joined, parts_differ}
 
 -- a test that decides
 pub decided : (r : Bool) (P : Type 0) → Decides r P → MatchBool r P (P → ⊥)
@@ -66,12 +70,104 @@ no_fields old rest mark e one short (Some head) r b f =
     let same = rest_of mark 1 rest (fields_text head ++ r) (sym e ∙ f) in
     absurd (omega (arith, short, ap length same, length-fields head r b))
 
-pub no_heads : (old rest left : List ℕ) (version : ℕ) (accepted : Option Head) → old ≡ version ∷ rest → IsNoneOrInBytes accepted → rest ≡ head_text accepted ++ left
+-- ---- the heads
+
+-- the accepted head is there, and the waiting one is not
+pub no_waiting : (old left : List ℕ) (accepted : Option Head) → IsNoneOrInBytes accepted → old ≡ head_text accepted ++ left
     → ((h : Option Head) (r : List ℕ) → IsNoneOrInBytes h → left ≡ head_text h ++ r → ⊥)
-    → (a w : Option Head) (r : List ℕ) → IsNoneOrInBytes a → IsNoneOrInBytes w → old ≡ 1 ∷ (head_text a ++ (head_text w ++ r)) → ⊥
-no_heads old rest left version accepted e b f none a w r c d g =
-    let tail = rest_of version 1 rest (head_text a ++ (head_text w ++ r)) (sym e ∙ g) in
-    none w r d ((head_split accepted a left (head_text w ++ r) b c (sym f ∙ tail)).1)
+    → (a w : Option Head) (r : List ℕ) → IsNoneOrInBytes a → IsNoneOrInBytes w → old ≡ first_body a w r → ⊥
+no_waiting old left accepted b f none a w r c d g = none w r d ((head_split accepted a left (head_text w ++ r) b c (sym f ∙ g)).1)
+
+-- two timestamps end within the second one
+pub short_second : (a b : List ℕ) (n : ℕ) → a ≡ num 8 n ++ b → length b < 8 → length a < 16
+short_second a b n e h = omega (arith, h, ap length e, length-append (num 8 n) b, length-num 8 n)
+
+length-times : (n : Newest) (r : List ℕ) → 16 ≤ length (num 8 n.accepted ++ (num 8 n.waiting ++ r))
+length-times n r =
+    omega (
+      arith,
+      length-append (num 8 n.accepted) (num 8 n.waiting ++ r),
+      length-append (num 8 n.waiting) r,
+      length-num 8 n.accepted,
+      length-num 8 n.waiting,
+    )
+
+-- the heads are there, and the newest timestamps are not
+pub no_newest : (old left : List ℕ) (accepted waiting : Option Head) → IsNoneOrInBytes accepted → IsNoneOrInBytes waiting → old ≡ first_body accepted waiting left
+    → length left < 16
+    → (a w : Option Head) (n : Newest) (r : List ℕ) → IsNoneOrInBytes a → IsNoneOrInBytes w → old ≡ second_body a w n r → ⊥
+no_newest old left accepted waiting i j f short a w n r b c g =
+    let times : List ℕ = num 8 n.accepted ++ (num 8 n.waiting ++ r) in
+    let first = head_split accepted a (head_text waiting ++ left) (head_text w ++ times) i b (sym f ∙ g) in
+    let second = head_split waiting w left times j c first.1 in
+    absurd (omega (arith, short, ap length second.1, length-times n r))
+
+-- no heads of a state have these bytes
+abbrev pub AreNoHeads : List ℕ → Type 0
+AreNoHeads old =
+    (a w : Option Head) (n : Newest) (text r : List ℕ) → IsNoneOrInBytes a → IsNoneOrInBytes w → IsHeadsText a w n text → old ≡ text ++ r → ⊥
+
+-- these heads have these bytes, but for those left
+abbrev pub AreHeads : List ℕ → List ℕ → Heads → Type 0
+AreHeads old left h = IsNoneOrInBytes h.accepted × IsNoneOrInBytes h.waiting × AreNewestInBytes h.newest
+    × ((text : List ℕ) × IsHeadsText h.accepted h.waiting h.newest text × (old ≡ text ++ left))
+
+pub no_version : (old : List ℕ) → length old < 1 → AreNoHeads old
+no_version old short a w n text r b c (inl f) g =
+    absurd (omega (arith, short, ap length (g ∙ ap (λ (x : List ℕ). x ++ r) f ∙ second_text a w n r)))
+no_version old short a w n text r b c (inr f) g =
+    absurd (omega (arith, short, ap length (g ∙ ap (λ (x : List ℕ). x ++ r) f.0 ∙ first_text a w r)))
+
+pub other_version : (old rest : List ℕ) (version : ℕ) → old ≡ version ∷ rest → (version ≡ 2 → ⊥) → (version ≡ 1 → ⊥) → AreNoHeads old
+other_version old rest version e two one a w n text r b c (inl f) g =
+    two (first_of version 2 rest (second_body a w n r) (sym e ∙ g ∙ ap (λ (x : List ℕ). x ++ r) f ∙ second_text a w n r))
+other_version old rest version e two one a w n text r b c (inr f) g =
+    one (first_of version 1 rest (first_body a w r) (sym e ∙ g ∙ ap (λ (x : List ℕ). x ++ r) f.0 ∙ first_text a w r))
+
+pub second_version : (old rest left : List ℕ) (version : ℕ) (o : Option Heads) → old ≡ version ∷ rest → version ≡ 2
+    → MatchOption o ((a w : Option Head) (n : Newest) (r : List ℕ) → IsNoneOrInBytes a → IsNoneOrInBytes w → rest ≡ second_body a w n r → ⊥)
+    (λ h. IsNoneOrInBytes h.accepted × IsNoneOrInBytes h.waiting × AreNewestInBytes h.newest × (rest ≡ second_body h.accepted h.waiting h.newest left))
+    → MatchOption o (AreNoHeads old) (AreHeads old left)
+second_version old rest left version None e v m = λ a w n text r b c f g. no a w n text r b c f g
+  where
+    no : AreNoHeads old
+    no a w n text r b c (inl f) g =
+        m a w n r b c (rest_of version 2 rest (second_body a w n r) (sym e ∙ g ∙ ap (λ (x : List ℕ). x ++ r) f ∙ second_text a w n r))
+    no a w n text r b c (inr f) g =
+        absurd (omega (arith, v, first_of version 1 rest (first_body a w r) (sym e ∙ g ∙ ap (λ (x : List ℕ). x ++ r) f.0 ∙ first_text a w r)))
+second_version old rest left version (Some h) e v m = (
+  m.0,
+  m.1,
+  m.2,
+  (
+    heads_text h.accepted h.waiting h.newest,
+    inl refl,
+    e ∙ ap (λ (x : ℕ). x ∷ rest) v ∙ ap (λ (x : List ℕ). 2 ∷ x) m.3 ∙ sym (second_text h.accepted h.waiting h.newest left),
+  ),
+)
+
+pub first_version : (old rest left : List ℕ) (version : ℕ) (o : Option Heads) → old ≡ version ∷ rest → version ≡ 1
+    → MatchOption o ((a w : Option Head) (r : List ℕ) → IsNoneOrInBytes a → IsNoneOrInBytes w → rest ≡ first_body a w r → ⊥)
+    (λ h. IsNoneOrInBytes h.accepted × IsNoneOrInBytes h.waiting × AreNewestInBytes h.newest × (h.newest ≡ seen_once h.accepted h.waiting)
+    × (rest ≡ first_body h.accepted h.waiting left))
+    → MatchOption o (AreNoHeads old) (AreHeads old left)
+first_version old rest left version None e v m = λ a w n text r b c f g. no a w n text r b c f g
+  where
+    no : AreNoHeads old
+    no a w n text r b c (inl f) g =
+        absurd (omega (arith, v, first_of version 2 rest (second_body a w n r) (sym e ∙ g ∙ ap (λ (x : List ℕ). x ++ r) f ∙ second_text a w n r)))
+    no a w n text r b c (inr f) g =
+        m a w r b c (rest_of version 1 rest (first_body a w r) (sym e ∙ g ∙ ap (λ (x : List ℕ). x ++ r) f.0 ∙ first_text a w r))
+first_version old rest left version (Some h) e v m = (
+  m.0,
+  m.1,
+  m.2,
+  (
+    first_heads_text h.accepted h.waiting,
+    inr (refl, m.3),
+    e ∙ ap (λ (x : ℕ). x ∷ rest) v ∙ ap (λ (x : List ℕ). 1 ∷ x) m.4 ∙ sym (first_text h.accepted h.waiting left),
+  ),
+)
 
 -- ---- hashes
 
@@ -122,14 +218,19 @@ left_over old left behind sure all a e b f some p q c d g =
 abbrev both : WatcherState → List ℕ
 both s = subtrees_text s.sure ++ subtrees_text s.all
 
-pub no_both : (old left : List ℕ) (accepted waiting : Option Head) → IsNoneOrInBytes accepted → IsNoneOrInBytes waiting
-    → old ≡ 1 ∷ (head_text accepted ++ (head_text waiting ++ left))
+pub no_both : (old left : List ℕ) (h : Heads) → AreHeads old left h
     → ((p q : ℕ × List (List ℕ)) → AreSubtreesInBytes p → AreSubtreesInBytes q → left ≡ subtrees_text p ++ subtrees_text q → ⊥)
-    → (s : WatcherState) → IsInBytes s → old ≡ parts_text s → ⊥
-no_both old left accepted waiting a b e none s i f =
-    let heads = rest_of 1 1 (head_text accepted ++ (head_text waiting ++ left)) (head_text s.accepted ++ (head_text s.waiting ++ both s)) (sym e ∙ f) in
-    let second = (head_split accepted s.accepted (head_text waiting ++ left) (head_text s.waiting ++ both s) a i.accepted heads).1 in
-    none s.sure s.all i.sure i.all ((head_split waiting s.waiting left (both s) b i.waiting second).1)
+    → (s : WatcherState) → IsInBytes s → IsPartsText s old → ⊥
+no_both old left h (i, j, k, (text, is, e)) none s b (other, was, f) =
+    let split = heads_split h.accepted h.waiting h.newest text left s.accepted s.waiting s.newest other (both s) i j k b.accepted b.waiting b.newest is was (sym e ∙ f) in
+    none s.sure s.all b.sure b.all split.3
+
+pub no_heads : (old : List ℕ) → AreNoHeads old → (s : WatcherState) → IsInBytes s → IsPartsText s old → ⊥
+no_heads old none s b (text, is, e) = none s.accepted s.waiting s.newest text (both s) b.accepted b.waiting is e
+
+pub all_parts : (old left : List ℕ) (h : Heads) (sure all : ℕ × List (List ℕ)) → AreHeads old left h → left ≡ subtrees_text sure ++ subtrees_text all
+    → IsPartsText (record { accepted = h.accepted; waiting = h.waiting; newest = h.newest; sure = sure; all = all }) old
+all_parts old left h sure all (i, j, k, (text, is, e)) f = (text, is, e ∙ ap (λ (x : List ℕ). text ++ x) f)
 
 -- ---- the hash after the parts
 
@@ -147,12 +248,14 @@ other_hash H h b parts check e f other p g =
 -- ---- a state
 
 pub no_parts : (H : List ℕ → List ℕ) → ((x : List ℕ) → length (H x) ≡ 32) → (bytes parts : List ℕ) → bytes ≡ parts ++ H parts
-    → ((s : WatcherState) → IsInBytes s → parts ≡ parts_text s → ⊥) → IsNoState H bytes
+    → ((s : WatcherState) → IsInBytes s → IsPartsText s parts → ⊥) → IsNoState H bytes
 no_parts H h bytes parts e none = λ s is.
-    none s is.numbers ((hash_split H h parts (parts_text s) (H parts) (H (parts_text s)) (h parts) (h (parts_text s)) (sym e ∙ is.text)).0)
+    let p = is.text.0 in
+    none s is.numbers (subst (IsPartsText s) (sym ((hash_split H h parts p (H parts) (H p) (h parts) (h p) (sym e ∙ is.text.2)).0)) is.text.1)
 
 pub not_fitting : (H : List ℕ → List ℕ) → ((x : List ℕ) → length (H x) ≡ 32) → (bytes parts : List ℕ) (w : WatcherState) → bytes ≡ parts ++ H parts → IsInBytes w
-    → parts ≡ parts_text w → (FitsTogether H w → ⊥) → IsNoState H bytes
+    → IsPartsText w parts → (FitsTogether H w → ⊥) → IsNoState H bytes
 not_fitting H h bytes parts w e i f other = λ s is.
-    let same = (hash_split H h parts (parts_text s) (H parts) (H (parts_text s)) (h parts) (h (parts_text s)) (sym e ∙ is.text)).0 in
-    other (subst (FitsTogether H) (parts_differ s w is.numbers i (sym same ∙ f)) is.fits)
+    let p = is.text.0 in
+    let same = (hash_split H h parts p (H parts) (H p) (h parts) (h p) (sym e ∙ is.text.2)).0 in
+    other (subst (FitsTogether H) (parts_differ s w parts is.numbers i (subst (IsPartsText s) (sym same) is.text.1) f) is.fits)

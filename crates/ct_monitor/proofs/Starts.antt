@@ -16,15 +16,14 @@ use Rattle.ct_monitor.specs.Heads.{IsHeadOfAll}
 use Rattle.ct_monitor.specs.WatcherState.{Keeps}
 use Rattle.ct_monitor.specs.CallLaws.{KeepsInBytes}
 use Rattle.ct_monitor.specs.Starts.{IsMonitorStart, StartsAreRead, CallsAgreeFromStart, IsHashedForStart, joining_strings, start_state, known_at_start}
+use Rattle.ct_monitor.proofs.Apart.{written_state}
 use Rattle.ct_monitor.proofs.Fits.{count_at}
 use Rattle.ct_monitor.proofs.CallHistory.{show}
 
 pub starts_are_read : StartsAreRead
-starts_are_read H head subtrees bytes start = record {
-  numbers = start.numbers;
-  fits = record { sure = start.count; all = start.count; accepted = (refl, start.root); waiting = (refl, refl) };
-  text = start.text;
-}
+starts_are_read H head subtrees bytes start =
+    written_state H (start_state head subtrees) bytes start.numbers
+    (record { sure = start.count; all = start.count; accepted = (refl, start.root); waiting = (refl, refl); newest = (omega arith, tt) }) start.text
 
 abbrev Has32 : List ℕ → Type 0
 Has32 x = length x ≡ 32
@@ -96,6 +95,7 @@ module _ (H : List ℕ → List ℕ) (long : (x : List ℕ) → length (H x) ≡
       let keeps : Keeps H (start_state head subtrees) (known_at_start head D) = record {
         accepted = refl;
         waiting = refl;
+        newest = refl;
         sure = stands;
         all = subst (λ (l : List (List ℕ)). Stands H (head.tree_size, subtrees) (map (hash_leaf H) l)) (sym (append-nil D)) stands;
       } in
@@ -109,7 +109,7 @@ pub calls_agree_from_start : CallsAgreeFromStart
 calls_agree_from_start H long head subtrees first calls start are D is =
     ⊎_elim
     (λ (kept : KeepsInBytes H first (known_at_start head D)).
-    let shown = show H long first calls (known_at_start head D) (is, refl) kept are in
-    inl (shown.last, shown.grows.0, shown.grows.1, (shown.hands, shown.stands, shown.all, shown.read)))
+    let shown = show H long first calls (known_at_start head D) (is, refl, omega arith, tt) kept are in
+    inl (shown.last, shown.grows.0, shown.grows.1, (shown.hands, shown.stands, shown.all, shown.read, shown.older)))
     (λ (found : CollideAmong H (IsHashedForStart H subtrees D)). inr found)
     (start_keeps H long head subtrees first D start is)

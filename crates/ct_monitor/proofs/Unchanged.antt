@@ -12,7 +12,8 @@ use Rattle.ct_monitor.specs.Watched.{Watched, leaves_read}
 use Rattle.ct_monitor.specs.WatcherState.{WatcherState, Keeps}
 use Rattle.ct_monitor.specs.declared.verdict.Verdict.{Verdict}
 use Rattle.ct_monitor.specs.Calls.{Handed, HasState, IsComparedOver, IsMonitorAnswer, LeavesState, StateJudges}
-use Rattle.ct_monitor.specs.Fitting.{AcceptedFits, FitsTogether, WaitingFits}
+use Rattle.ct_monitor.specs.Fitting.{AcceptedFits, FitsTogether, NewestFits, WaitingFits}
+use Rattle.ct_monitor.specs.declared.newest.Newest.{Newest}
 use Rattle.ct_monitor.specs.CallLaws.{IsHandedOut, IsWaiting}
 use Rattle.ct_monitor.specs.StateText.{IsMonitorState, IsNoState}
 use Rattle.ct_monitor.specs.declared.answer.Answer.{Answer}
@@ -27,7 +28,7 @@ following H (Some head) sure D f s = (
   f.1 ∙ ap (root_of_peaks H) s.subtrees ∙ root_of_peaks-peaks H (map (hash_leaf H) D),
 )
 
-waiting : (H : List ℕ → List ℕ) (s : WatcherState) (w : Watched) (o : Option Head) → WaitingFits w.accepted o s.sure s.all → Keeps H s w → IsWaiting w o
+waiting : (H : List ℕ → List ℕ) (s : WatcherState) (w : Watched) (o : Option Head) → WaitingFits w.accepted w.newest.accepted o s.sure s.all → Keeps H s w → IsWaiting w o
 waiting H s w None f k =
     nil_from_length w.ahead
     (omega (arith, f.0, size_of H s.sure w.sure k.sure, size_of H s.all (leaves_read w) k.all, length-append w.sure w.ahead))
@@ -38,9 +39,12 @@ handed_out : (H : List ℕ → List ℕ) (s : WatcherState) (w : Watched) → Fi
 handed_out H s w f k = (
   following H w.accepted s.sure w.sure (subst (λ (a : Option Head). AcceptedFits H a s.sure) k.accepted f.accepted) k.sure,
   waiting H s w w.waiting
-      (subst (λ (o : Option Head). WaitingFits w.accepted o s.sure s.all) k.waiting
-      (subst (λ (a : Option Head). WaitingFits a s.waiting s.sure s.all) k.accepted f.waiting))
+      (subst (λ (n : Newest). WaitingFits w.accepted n.accepted w.waiting s.sure s.all) k.newest
+      (subst (λ (o : Option Head). WaitingFits w.accepted s.newest.accepted o s.sure s.all) k.waiting
+      (subst (λ (a : Option Head). WaitingFits a s.newest.accepted s.waiting s.sure s.all) k.accepted f.waiting)))
       k,
+  subst (λ (n : Newest). NewestFits w.accepted n.accepted) k.newest (subst (λ (a : Option Head). NewestFits a s.newest.accepted) k.accepted f.newest.0),
+  subst (λ (n : Newest). NewestFits w.waiting n.waiting) k.newest (subst (λ (o : Option Head). NewestFits o s.newest.waiting) k.waiting f.newest.1),
 )
 
 keeps_none : (H : List ℕ → List ℕ) (s t : WatcherState) (handed : Handed) (v : Verdict) → FitsTogether H s → StateJudges H s handed v t → (FitsTogether H t → ⊥)

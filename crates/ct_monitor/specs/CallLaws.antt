@@ -1,6 +1,8 @@
 -- The laws of many calls of the monitor, each over the state that the previous call returned. H is any hash function on byte lists with
 -- hashes of 32 bytes. The library's is SHA-256.
-use Rattle.std.specs.Prelude.{◌≡◌, ◌<◌, ⊤, All, ℕ, List, [], ◌∷◌, length, take, Some, None}
+use Rattle.std.specs.Prelude.{◌≡◌, ◌⊎◌, ◌<◌, ⊤, All, Contains, true, ℕ, List, [], ◌∷◌, length, take, Some, None}
+use Rattle.ct_verify.specs.Hashed.{CollideAmong, IsHashedIn, proof_strings}
+use Rattle.ct_verify.specs.Laws.{AreHashes}
 use Rattle.ct_tree.specs.declared.head.Head.{Head}
 use Rattle.ct_monitor.specs.Followed.{IsFollowing}
 use Rattle.ct_monitor.specs.Heads.{IsHeadOfAll}
@@ -9,9 +11,9 @@ use Rattle.ct_monitor.specs.Watched.{Watched, leaves_read, nothing_seen}
 use Rattle.ct_monitor.specs.Verdicts.{IsGrownLater}
 use Rattle.ct_monitor.specs.WatcherState.{WatcherState, Keeps}
 use Rattle.ct_monitor.specs.declared.verdict.Verdict.{Verdict}
-use Rattle.ct_monitor.specs.declared.verdict.Verdict.TheVariants.{Accepted}
-use Rattle.ct_monitor.specs.Calls.{Handed, HandedSays, StateJudges, IsMonitorBegin}
-use Rattle.ct_monitor.specs.Fitting.{FitsTogether}
+use Rattle.ct_monitor.specs.declared.verdict.Verdict.TheVariants.{Accepted, Consistent}
+use Rattle.ct_monitor.specs.Calls.{Handed, an_older, HandedSays, StateJudges, IsMonitorBegin}
+use Rattle.ct_monitor.specs.Fitting.{FitsTogether, NewestFits}
 use Rattle.ct_monitor.specs.StateText.{IsInBytes, IsMonitorState, IsNoState, monitor_state_text}
 
 -- A call that returned an answer: the log's answer that was given to it, its verdict, and the state that it returned.
@@ -46,6 +48,17 @@ abbrev pub IsOfFirstLeaves : (List ℕ → List ℕ) → List (List ℕ) → Mon
 IsOfFirstLeaves H D c = c.verdict ≡ Accepted
     → (head : Head) × (n : ℕ) × (t : WatcherState) × IsMonitorState H t c.after × (t.accepted ≡ Some head) × IsHeadOfAll H (take n D) head
 
+-- the strings that are hashed when the consistency proof p of an older head to the head of n leaves is checked, and in the tree of the leaves D
+abbrev pub IsHashedForOlder : (List ℕ → List ℕ) → List (List ℕ) → Head → ℕ → List (List ℕ) → List ℕ → Type 0
+IsHashedForOlder H D head n p s = Contains (proof_strings H head.tree_size n true head.root p) s ⊎ IsHashedIn H D s
+
+-- If a call found an older head consistent with the accepted head, which has more leaves, it is the head of the first leaves of D; or two
+-- strings collide that are hashed when its proof is checked, or in the tree of the accepted leaves.
+abbrev pub IsOlderOfFirstLeaves : (List ℕ → List ℕ) → List (List ℕ) → MonitorCall → Type 0
+IsOlderOfFirstLeaves H D c = (head known : Head) (p : List (List ℕ)) (t : WatcherState) → c.handed ≡ an_older head p → c.verdict ≡ Consistent → AreHashes p
+    → IsMonitorState H t c.after → t.accepted ≡ Some known → head.tree_size < known.tree_size
+    → IsHeadOfAll H (take head.tree_size D) head ⊎ CollideAmong H (IsHashedForOlder H (take known.tree_size D) head known.tree_size p)
+
 -- the bytes encode a state that keeps w
 abbrev pub KeepsInBytes : (List ℕ → List ℕ) → List ℕ → Watched → Type 0
 KeepsInBytes H bytes w = (t : WatcherState) × IsMonitorState H t bytes × Keeps H t w
@@ -55,10 +68,12 @@ abbrev pub IsNeverRefused : (List ℕ → List ℕ) → List ℕ → Type 0
 IsNeverRefused H bytes = IsNoState H bytes → ⊥
 
 -- The log has handed out w after these calls, if it had handed out `first` before. The last state keeps w, and is never refused. Each head
--- that a call accepted is the head of a prefix of the accepted leaves of w.
+-- that a call accepted, and each older head that a call found consistent with the accepted one, is the head of a prefix of the accepted
+-- leaves of w; for an older head, or two strings collide.
 abbrev pub CallsHandOut : (List ℕ → List ℕ) → List ℕ → List MonitorCall → Watched → Watched → Type 0
 CallsHandOut H before calls first w =
     HandOut H first calls w × KeepsInBytes H (last_state before calls) w × All (IsOfFirstLeaves H w.sure) calls × IsNeverRefused H (last_state before calls)
+    × All (IsOlderOfFirstLeaves H w.sure) calls
 
 -- Take any calls, each over the state that the previous one returned, the first over the state of `begin`. Each accepted head is the head
 -- of a prefix of one list: the leaves that were handed out and are accepted after the last call.
@@ -71,11 +86,13 @@ CallsAgree =
 -- read are accepted
 abbrev pub IsWaiting : Watched → Option Head → Type 0
 IsWaiting w None = w.ahead ≡ []
-IsWaiting w (Some head) = IsGrownLater w.accepted head × (length (leaves_read w) < head.tree_size)
+IsWaiting w (Some head) = IsGrownLater w.accepted w.newest.accepted head × (length (leaves_read w) < head.tree_size)
 
--- a log can have handed out w to a monitor: the accepted head is the head of the accepted leaves, and the waiting one is larger
+-- a log can have handed out w to a monitor: the accepted head is the head of the accepted leaves, the waiting one is larger and later, and
+-- of each the newest timestamp is not before the earliest
 abbrev pub IsHandedOut : (List ℕ → List ℕ) → Watched → Type 0
-IsHandedOut H w = IsFollowing H w.sure w.accepted × IsWaiting w w.waiting
+IsHandedOut H w =
+    IsFollowing H w.sure w.accepted × IsWaiting w w.waiting × NewestFits w.accepted w.newest.accepted × NewestFits w.waiting w.newest.waiting
 
 -- The same from any state on that keeps `first`, if a log can have handed out `first`.
 abbrev pub CallsAgreeFrom : Type 0

@@ -4,8 +4,8 @@ use Rattle.ct_tree.specs.Stack.{Stands}
 use Rattle.ct_tree.specs.Tree.{hash_leaf}
 use Rattle.ct_tree.specs.declared.head.Head.{Head}
 use Rattle.ct_monitor.specs.Heads.{IsHeadOfAll}
-use Rattle.ct_monitor.specs.Watched.{Watched, waiting_or, with_more, after_verdict}
-use Rattle.ct_monitor.specs.Verdicts.{HeadSays, EntriesSay, ProofSays, after_entries}
+use Rattle.ct_monitor.specs.Watched.{Watched, waiting_or, with_more, after_head}
+use Rattle.ct_monitor.specs.Verdicts.{HeadSays, EntriesSay, OlderSays, ProofSays, after_entries}
 use Rattle.ct_monitor.specs.WatcherState.{WatcherState, Keeps}
 use Rattle.ct_monitor.specs.declared.verdict.Verdict.{Verdict}
 use Rattle.ct_monitor.specs.declared.verdict.Verdict.TheVariants.{Accepted, Gap}
@@ -17,17 +17,20 @@ use Rattle.ct_monitor.specs.declared.answer.EntriesAnswer.{EntriesAnswer}
 use Rattle.ct_monitor.specs.declared.entries.LaterEntry.{LaterEntry}
 use Rattle.ct_monitor.specs.declared.entries.FaultyEntry.{FaultyEntry}
 
--- One answer of a log: a tree head, entries from an index on, or a consistency proof from the accepted head to the waiting one.
+-- One answer of a log: a tree head, entries from an index on, a consistency proof from the accepted head to the waiting one, or one from an
+-- older head to a known one.
 pub data Handed : Type 0 where
   a_head : Head → Handed
   entries_from : ℕ → List (List ℕ) → Handed
   a_proof : List (List ℕ) → Handed
+  an_older : Head → List (List ℕ) → Handed
 
 -- the verdict on the answer if the log has handed out w before, and `next` with this answer
 abbrev pub HandedSays : (List ℕ → List ℕ) → Watched → Handed → Verdict → Watched → Type 0
-HandedSays H w (a_head head) v next = HeadSays H w head v × (next ≡ after_verdict w (waiting_or w.waiting head) v)
+HandedSays H w (a_head head) v next = HeadSays H w head v × (next ≡ after_head w head v)
 HandedSays H w (entries_from start E) v next = EntriesSay H w w.waiting start E v × (next ≡ after_entries w w.waiting E v)
 HandedSays H w (a_proof path) v next = ProofSays H w.accepted w.waiting path v × (next ≡ w)
+HandedSays H w (an_older head path) v next = OlderSays H w.accepted w.waiting head path v × (next ≡ w)
 
 -- These facts hold for any state, also for a state to which no log led. An accepted head is the head of every list of leaves that has the
 -- subtrees of the state before, followed by the leaves that were read then. A proof is judged between the heads of the state, and the state
@@ -37,6 +40,7 @@ IsComparedOver H s (a_head head) v t = v ≡ Accepted → (D : List (List ℕ)) 
 IsComparedOver H s (entries_from start E) v t = v ≡ Accepted → (head : Head) → s.waiting ≡ Some head → (D : List (List ℕ))
     → Stands H s.all (map (hash_leaf H) D) → IsHeadOfAll H (with_more D head E) head
 IsComparedOver H s (a_proof path) v t = ProofSays H s.accepted s.waiting path v × (t ≡ s)
+IsComparedOver H s (an_older head path) v t = OlderSays H s.accepted s.waiting head path v × (t ≡ s)
 
 -- A state s gives this verdict on an answer, and t is the state after it. If s keeps w, the verdict is right for w, and t keeps w with this
 -- answer. That holds for every such w.
@@ -79,7 +83,7 @@ IsEntriesAnswer H bytes start E a =
 
 -- the state of a monitor that was given nothing
 abbrev pub nothing_state : WatcherState
-nothing_state = record { accepted = None; waiting = None; sure = (0, []); all = (0, []) }
+nothing_state = record { accepted = None; waiting = None; newest = record { accepted = 0; waiting = 0 }; sure = (0, []); all = (0, []) }
 
 -- the bytes encode this state
 abbrev pub IsMonitorBegin : (List ℕ → List ℕ) → List ℕ → Type 0

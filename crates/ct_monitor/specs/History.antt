@@ -2,7 +2,7 @@
 use Rattle.std.specs.Prelude.{◌≡◌, ◌⊎◌, ⊤, ℕ, List, [], ◌∷◌, take, Some, All}
 use Rattle.ct_tree.specs.declared.head.Head.{Head}
 use Rattle.ct_monitor.specs.Heads.{IsHeadOfAll}
-use Rattle.ct_monitor.specs.Watched.{Watched, waiting_or, after_verdict, nothing_seen}
+use Rattle.ct_monitor.specs.Watched.{Watched, after_head, nothing_seen}
 use Rattle.ct_monitor.specs.Verdicts.{HeadSays, EntriesSay, after_entries}
 use Rattle.ct_monitor.specs.declared.verdict.Verdict.{Verdict}
 use Rattle.ct_monitor.specs.declared.verdict.Verdict.TheVariants.{Accepted}
@@ -14,7 +14,7 @@ SaysAccepted v = ⊥
 
 -- a head or entries, their verdict v, and the data that was handed out up to then (a proof changes nothing)
 abbrev pub IsStep : (List ℕ → List ℕ) → Watched → Verdict → Watched → Type 0
-IsStep H w v next = ((head : Head) × HeadSays H w head v × (next ≡ after_verdict w (waiting_or w.waiting head) v))
+IsStep H w v next = ((head : Head) × HeadSays H w head v × (next ≡ after_head w head v))
     ⊎ ((start : ℕ) × (E : List (List ℕ)) × EntriesSay H w w.waiting start E v × (next ≡ after_entries w w.waiting E v))
 
 -- steps, one after the other

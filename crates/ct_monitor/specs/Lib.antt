@@ -2,6 +2,7 @@ pub mod Heads
 pub mod Followed
 pub mod FollowerState
 pub mod Observed
+pub mod Accusations
 pub mod Audited
 pub mod Extended
 pub mod Watched

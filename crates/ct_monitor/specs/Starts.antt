@@ -14,7 +14,13 @@ use Rattle.ct_monitor.specs.declared.starting.StartFault.TheVariants.{OtherCount
 
 -- the state that has accepted this head, whose leaves have these perfect subtrees, and has read no more leaves
 abbrev pub start_state : Head → List (List ℕ) → WatcherState
-start_state head subtrees = record { accepted = Some head; waiting = None; sure = (head.tree_size, subtrees); all = (head.tree_size, subtrees) }
+start_state head subtrees = record {
+  accepted = Some head;
+  waiting = None;
+  newest = record { accepted = head.timestamp; waiting = 0 };
+  sure = (head.tree_size, subtrees);
+  all = (head.tree_size, subtrees);
+}
 
 -- the bytes encode this state; there are as many subtrees as a tree of the head's size has, and they lead to the head's root
 pub record IsMonitorStart (H : List ℕ → List ℕ) (head : Head) (subtrees : List (List ℕ)) (bytes : List ℕ) : Type 0 where
@@ -32,7 +38,8 @@ RefusesStart H Memory head subtrees = ⊤
 
 -- a log has handed out this head and its leaves D, and nothing else
 abbrev pub known_at_start : Head → List (List ℕ) → Watched
-known_at_start head D = record { accepted = Some head; sure = D; waiting = None; ahead = [] }
+known_at_start head D =
+    record { accepted = Some head; sure = D; waiting = None; ahead = []; newest = record { accepted = head.timestamp; waiting = 0 } }
 
 -- the bytes of a start are a state, so they can be read again
 abbrev pub StartsAreRead : Type 0

@@ -2,6 +2,7 @@
 //!
 //! The laws hold for every hash function with hashes of 32 bytes. The calls use SHA-256.
 
+ghost use Rattle.ct_monitor.specs.Accusations.{HeadsAreAccusedExactly};
 ghost use Rattle.ct_monitor.specs.CallLaws.{CallsAgree, CallsAgreeFrom, MonitorStatesDiffer, MonitorStatesFit, UnfitStatesAreRefused};
 ghost use Rattle.ct_monitor.specs.Starts.{CallsAgreeFromStart, StartsAreRead};
 
@@ -48,4 +49,10 @@ pub fn starts_are_read()
 #[tactic(auto, using(crate::proofs::Starts::calls_agree_from_start))]
 pub fn calls_agree_from_start()
     ensures { CallsAgreeFromStart }
+{}
+
+/// A head is accused if and only if it contradicts a known head, or the waiting head is not the head of the leaves that were read. Known are
+/// the heads of the accepted and of the waiting tree, with the earliest and the newest timestamp that was handed out.
+pub fn heads_are_accused_exactly()
+    ensures { HeadsAreAccusedExactly }
 {}

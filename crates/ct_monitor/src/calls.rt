@@ -1,21 +1,23 @@
 //! The calls.
 
-ghost use Rattle.std.specs.Prelude.{◌≡◌, ◌⊎◌, ◌+◌, ◌-◌, ◌<◌, ◌≤◌, ◌^◌, IfOk, MatchOption, None, map};
+ghost use Rattle.std.specs.Prelude.{◌≡◌, ◌⊎◌, ◌+◌, ◌-◌, ◌<◌, ◌≤◌, ◌^◌, IfOk, MatchOption, None, Some, map};
 ghost use Rattle.ct_monitor.specs.WatcherState.{WatcherState};
 ghost use Rattle.ct_monitor.specs.StateText.{IsMonitorState, IsNoState};
 ghost use Rattle.sha2.specs.Sha256.{sha256};
 ghost use Rattle.ct_monitor.specs.declared.verdict.Verdict.TheVariants.{Gap};
-ghost use Rattle.ct_monitor.specs.Calls.{FindsEntries, HasState, IsMonitorAnswer, IsEntriesAnswer, IsMonitorBegin, LeavesState, StateJudges, a_head, a_proof, entries_from};
+ghost use Rattle.ct_monitor.specs.Calls.{FindsEntries, HasState, IsMonitorAnswer, IsEntriesAnswer, IsMonitorBegin, LeavesState, StateJudges, a_head, a_proof, an_older, entries_from};
 ghost use Rattle.ct_monitor.specs.Entries.{moment_awaited, size_awaited};
 ghost use Rattle.ct_monitor.specs.Fitting.{FitsTogether};
+ghost use Rattle.ct_monitor.specs.Verdicts.{IsBeside, IsGrownLater};
 
 use crate::answer::{Answer, EntriesAnswer};
 use crate::entries::{FaultyEntry, LaterEntry, first_faulty, first_later};
 use crate::facts::is_in_bytes;
 use crate::fitting::fits_together;
 use crate::reading::read_state;
+use crate::watcher::beside;
 use crate::writing::write_state;
-use crate::{Peaks, Verdict, Watcher};
+use crate::{Newest, Peaks, Verdict, Watcher};
 use ct_tree::{Head, Sha256Hash};
 use std::alloc::{AllocError, Global};
 
@@ -82,6 +84,10 @@ pub fn begin(alloc: Global) -> Result<Vec<u8>, AllocError>
         Sha256Hash,
         None,
         None,
+        Newest {
+            accepted: 0,
+            waiting: 0,
+        },
         Peaks::from_parts(0, Vec::new(alloc)),
         Peaks::from_parts(0, Vec::new(alloc)),
     );
@@ -111,6 +117,13 @@ fn judge_proof(watcher: &Watcher<Sha256Hash>, path: &[[u8; 32]]) -> Verdict
     ensures { StateJudges sha256 watcher.now (a_proof path.now) result watcher.now }
 {
     watcher.take_proof(path)
+}
+
+// The verdict on a consistency proof from an older head.
+fn judge_older(watcher: &Watcher<Sha256Hash>, head: Head, path: &[[u8; 32]]) -> Verdict
+    ensures { StateJudges sha256 watcher.now (an_older head path.now) result watcher.now }
+{
+    watcher.take_older(head, path)
 }
 
 // The answer that has this verdict and leaves the state as it is.
@@ -254,4 +267,34 @@ pub fn take_proof(
     let verdict = judge_proof(&watcher, path);
     let answer = answer_of(alloc, verdict, &watcher)?;
     Ok(Some(answer))
+}
+
+/// The verdict on a consistency proof from an older head to the accepted one, if that has more leaves, otherwise to the waiting one, over a
+/// state. `None` means that the bytes are not a state.
+///
+/// # Errors
+///
+/// Returns an error if memory runs out.
+pub fn take_older(
+    alloc: Global,
+    state: &[u8],
+    head: Head,
+    path: &[[u8; 32]],
+) -> Result<Option<Answer>, AllocError>
+    ensures { IfOk result (λ o. MatchOption o (IsNoState sha256 state.now) (λ a. IsMonitorAnswer sha256 state.now (an_older head path.now) a)) }
+{
+    let Some(watcher) = read_state(alloc, state)? else {
+        return Ok(None);
+    };
+    let verdict = judge_older(&watcher, head, path);
+    let answer = answer_of(alloc, verdict, &watcher)?;
+    Ok(Some(answer))
+}
+
+/// The verdict on a head compared with a known one: `Again`, `Older`, `Shrunk`, `Fork` or `TimeNotLater`. There is none if the head has more
+/// leaves and is later.
+pub fn compare_heads(known: Head, head: &Head) -> Option<Verdict>
+    ensures { MatchOption result (IsGrownLater (Some known) known.timestamp head.now) (λ v. IsBeside known known.timestamp head.now v) }
+{
+    beside(Some(known), known.timestamp, head)
 }

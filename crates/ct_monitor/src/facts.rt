@@ -3,9 +3,9 @@
 ghost use Rattle.std.specs.Prelude.{◌≡◌, ◌<◌, ◌^◌, length};
 ghost use Rattle.ct_verify.specs.Laws.{AreHashes};
 ghost use Rattle.ct_codec.specs.Parts.{joined};
-ghost use Rattle.ct_monitor.specs.StateText.{AreSubtreesInBytes, IsInBytes, IsNoneOrInBytes};
+ghost use Rattle.ct_monitor.specs.StateText.{AreNewestInBytes, AreSubtreesInBytes, IsInBytes, IsNoneOrInBytes};
 
-use crate::{Peaks, Watcher};
+use crate::{Newest, Peaks, Watcher};
 use ct_tree::{Head, Sha256Hash};
 
 // The numbers of a head fit in 64 bits, and its root has 32 bytes.
@@ -29,6 +29,14 @@ fn is_maybe_head(head: Option<Head>)
 fn is_number(number: u64)
     ensures { number < 2 ^ 64 }
 {}
+
+// The numbers of timestamps fit in 64 bits.
+pub(crate) fn are_newest(newest: Newest)
+    ensures { AreNewestInBytes newest }
+{
+    is_number(newest.accepted);
+    is_number(newest.waiting);
+}
 
 // A hash has 32 bytes.
 pub(crate) fn are_hashes(hashes: &[[u8; 32]])
@@ -58,6 +66,7 @@ pub(crate) fn is_in_bytes(watcher: &Watcher<Sha256Hash>)
 {
     is_maybe_head(watcher.accepted());
     is_maybe_head(watcher.waiting());
+    are_newest(watcher.newest());
     are_subtrees(watcher.sure());
     are_subtrees(watcher.all());
 }

@@ -5,7 +5,7 @@ ghost use Rattle.std.specs.Bool.{MatchBool};
 ghost use Rattle.sha2.specs.Sha256.{sha256};
 ghost use Rattle.ct_monitor.specs.Verdicts.{IsGrownLater};
 ghost use Rattle.ct_tree.specs.Peaks.{root_of_peaks};
-ghost use Rattle.ct_monitor.specs.Fitting.{AcceptedFits, AreAcceptedOf, FitsTogether, HasSubtrees, WaitingFits};
+ghost use Rattle.ct_monitor.specs.Fitting.{AcceptedFits, AreAcceptedOf, FitsTogether, HasSubtrees, NewestFits, WaitingFits};
 
 use crate::{Peaks, Watcher};
 use ct_tree::{Head, NodeHash, Sha256Hash, is_same_digest, node_hash};
@@ -79,32 +79,48 @@ fn are_accepted_of(sure: &Peaks, all: &Peaks) -> bool
 
 // Reports whether all leaves that were read are accepted.
 fn are_all(sure: &Peaks, all: &Peaks) -> bool
-    ensures { MatchBool result (WaitingFits None None sure.now all.now) (WaitingFits None None sure.now all.now → ⊥) }
+    ensures { MatchBool result (WaitingFits None 0 None sure.now all.now) (WaitingFits None 0 None sure.now all.now → ⊥) }
 {
     sure.size() == all.size() && are_same(sure.subtrees(), all.subtrees())
 }
 
 // Reports whether a head is larger and later than the accepted one.
-fn is_grown_later(accepted: Option<Head>, head: &Head) -> bool
-    ensures { MatchBool result (IsGrownLater accepted head.now) (IsGrownLater accepted head.now → ⊥) }
+fn is_grown_later(accepted: Option<Head>, newest: u64, head: &Head) -> bool
+    ensures { MatchBool result (IsGrownLater accepted newest head.now) (IsGrownLater accepted newest head.now → ⊥) }
 {
     match accepted {
         None => true,
-        Some(known) => known.tree_size < head.tree_size && known.timestamp < head.timestamp,
+        Some(known) => known.tree_size < head.tree_size && newest < head.timestamp,
     }
 }
 
 // Reports whether the waiting head and the leaves that were read fit.
-fn waiting_fits(accepted: Option<Head>, waiting: Option<Head>, sure: &Peaks, all: &Peaks) -> bool
-    ensures { MatchBool result (WaitingFits accepted waiting sure.now all.now) (WaitingFits accepted waiting sure.now all.now → ⊥) }
+fn waiting_fits(
+    accepted: Option<Head>,
+    newest: u64,
+    waiting: Option<Head>,
+    sure: &Peaks,
+    all: &Peaks,
+) -> bool
+    ensures { MatchBool result (WaitingFits accepted newest waiting sure.now all.now) (WaitingFits accepted newest waiting sure.now all.now → ⊥) }
 {
     match waiting {
         None => are_all(sure, all),
         Some(head) => {
-            is_grown_later(accepted, &head)
+            is_grown_later(accepted, newest, &head)
                 && all.size() < head.tree_size
                 && are_accepted_of(sure, all)
         }
+    }
+}
+
+// Reports whether the newest timestamp of a known head is not before its earliest one.
+fn newest_fits(known: Option<Head>, newest: u64) -> bool
+    ensures { MatchBool result (NewestFits known newest) (NewestFits known newest → ⊥) }
+{
+    match known {
+        None => true,
+        Some(head) => head.timestamp <= newest,
     }
 }
 
@@ -114,8 +130,13 @@ pub(crate) fn fits_together(watcher: &Watcher<Sha256Hash>) -> bool
 {
     let sure = watcher.sure();
     let all = watcher.all();
+    let accepted = watcher.accepted();
+    let waiting = watcher.waiting();
+    let newest = watcher.newest();
     has_subtrees(sure)
         && has_subtrees(all)
-        && accepted_fits(watcher.accepted(), sure)
-        && waiting_fits(watcher.accepted(), watcher.waiting(), sure, all)
+        && accepted_fits(accepted, sure)
+        && waiting_fits(accepted, newest.accepted, waiting, sure, all)
+        && newest_fits(accepted, newest.accepted)
+        && newest_fits(waiting, newest.waiting)
 }

@@ -11,7 +11,7 @@
 //! - An [`Auditor`] checks audit paths and consistency proofs against tree heads. If it is given the leaves, it explains an audit path: the
 //!   leaf is present, or it returns two different strings with the same hash.
 //!
-//! The four calls [`begin`], [`take_head`], [`take_entries`] and [`take_proof`] are a [`Watcher`] as calls over values. The state is bytes,
+//! The five calls [`begin`], [`take_head`], [`take_entries`], [`take_proof`] and [`take_older`] are a [`Watcher`] as calls over values. The state is bytes,
 //! which belong to the caller: a call receives a state, and returns a verdict and the next state. Nothing is kept between calls.
 //!
 //! - `writing` writes the bytes of a state, and `reading` reads them. Bytes whose parts do not fit one another (`fitting`) are not a state.
@@ -37,6 +37,7 @@ mod fault;
 mod fitting;
 mod keeping;
 pub mod laws;
+mod newest;
 mod order;
 mod peaks;
 mod reading;
@@ -47,10 +48,11 @@ mod writing;
 
 pub use answer::{Answer, EntriesAnswer};
 pub use auditor::Auditor;
-pub use calls::{begin, take_entries, take_head, take_proof};
+pub use calls::{begin, compare_heads, take_entries, take_head, take_older, take_proof};
 pub use entries::{FaultyEntry, LaterEntry};
 pub use fault::MonitorFault;
 pub use keeping::{Follower, Monitor};
+pub use newest::Newest;
 pub use peaks::Peaks;
 pub use starting::{StartFault, start};
 pub use verdict::Verdict;

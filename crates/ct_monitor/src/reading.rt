@@ -8,12 +8,15 @@ ghost use Rattle.ct_codec.specs.Parts.{joined};
 ghost use Rattle.ct_tree.specs.declared.head.Head.{Head as HeadOf};
 ghost use Rattle.ct_monitor.specs.WatcherState.{WatcherState};
 ghost use Rattle.ct_verify.specs.Laws.{AreHashes};
-ghost use Rattle.ct_monitor.specs.StateText.{AreSubtreesInBytes, IsHeadInBytes, IsInBytes, IsNoState, IsNoneOrInBytes, IsMonitorState, fields_text, head_text, parts_text, subtrees_text};
+ghost use Rattle.ct_monitor.specs.StateText.{AreSubtreesInBytes, IsHeadInBytes, IsInBytes, IsNoState, IsNoneOrInBytes, IsMonitorState, IsPartsText, fields_text, head_text, subtrees_text};
+ghost use Rattle.ct_monitor.specs.StateText.{AreNewestInBytes, IsHeadsText, seen_once, timestamp_or_0};
+ghost use Rattle.ct_codec.specs.Bytes.{num};
+ghost use Rattle.ct_monitor.specs.declared.newest.Newest.{Newest as NewestOf};
 
-use crate::facts::are_hashes;
+use crate::facts::{are_hashes, are_newest};
 use crate::fitting::fits_together;
 use crate::writing::digest;
-use crate::{Peaks, Watcher};
+use crate::{Newest, Peaks, Watcher};
 use ct_codec::Reader;
 use ct_tree::{Head, Sha256Hash, is_same_digest};
 use std::alloc::{AllocError, Global};
@@ -109,29 +112,115 @@ fn subtrees_at(alloc: Global, reader: &mut Reader<'_>) -> Result<Option<Peaks>, 
 
 // The accepted and the waiting head of a state.
 #[derive(Clone, Copy)]
-struct Heads {
+struct Pair {
     accepted: Option<Head>,
     waiting: Option<Head>,
 }
 
-// The version 1, and the heads of a state.
-fn heads_at(reader: &mut Reader<'_>) -> Option<Heads>
-    ensures { MatchOption result ((a w : Option HeadOf) (r : List ℕ) → IsNoneOrInBytes a → IsNoneOrInBytes w → reader.old ≡ 1 ∷ (head_text a ++ (head_text w ++ r)) → ⊥)
-        (λ h. IsNoneOrInBytes h.accepted × IsNoneOrInBytes h.waiting × (reader.old ≡ 1 ∷ (head_text h.accepted ++ (head_text h.waiting ++ reader.new)))) }
+// The heads of a state.
+fn pair_at(reader: &mut Reader<'_>) -> Option<Pair>
+    ensures { MatchOption result ((a w : Option HeadOf) (r : List ℕ) → IsNoneOrInBytes a → IsNoneOrInBytes w → reader.old ≡ head_text a ++ (head_text w ++ r) → ⊥)
+        (λ p. IsNoneOrInBytes p.accepted × IsNoneOrInBytes p.waiting × (reader.old ≡ head_text p.accepted ++ (head_text p.waiting ++ reader.new))) }
 {
-    let Some(version) = reader.number_1() else {
-        return None;
-    };
-    if version != 1 {
-        return None;
-    }
     let Some(accepted) = head_at(reader) else {
         return None;
     };
     let Some(waiting) = head_at(reader) else {
         return None;
     };
-    Some(Heads { accepted, waiting })
+    Some(Pair { accepted, waiting })
+}
+
+// The newest timestamps of a state.
+#[tactic(auto, using(crate::proofs::NoTexts::short_second))]
+fn newest_at(reader: &mut Reader<'_>) -> Option<Newest>
+    ensures { MatchOption result (length reader.old < 16) (λ n. AreNewestInBytes n × (reader.old ≡ num 8 n.accepted ++ (num 8 n.waiting ++ reader.new))) }
+{
+    let Some(accepted) = reader.number_8() else {
+        return None;
+    };
+    let Some(waiting) = reader.number_8() else {
+        return None;
+    };
+    Some(Newest { accepted, waiting })
+}
+
+// The accepted and the waiting head of a state, and their newest timestamps.
+#[derive(Clone, Copy)]
+struct Heads {
+    accepted: Option<Head>,
+    waiting: Option<Head>,
+    newest: Newest,
+}
+
+// The heads of a state after the version 2.
+fn second_heads_at(reader: &mut Reader<'_>) -> Option<Heads>
+    ensures { MatchOption result ((a w : Option HeadOf) (n : NewestOf) (r : List ℕ) → IsNoneOrInBytes a → IsNoneOrInBytes w
+        → reader.old ≡ head_text a ++ (head_text w ++ (num 8 n.accepted ++ (num 8 n.waiting ++ r))) → ⊥)
+        (λ h. IsNoneOrInBytes h.accepted × IsNoneOrInBytes h.waiting × AreNewestInBytes h.newest
+        × (reader.old ≡ head_text h.accepted ++ (head_text h.waiting ++ (num 8 h.newest.accepted ++ (num 8 h.newest.waiting ++ reader.new))))) }
+{
+    let Some(pair) = pair_at(reader) else {
+        return None;
+    };
+    let Some(newest) = newest_at(reader) else {
+        return None;
+    };
+    Some(Heads {
+        accepted: pair.accepted,
+        waiting: pair.waiting,
+        newest,
+    })
+}
+
+// The timestamp of a head, or 0 if there is none.
+fn timestamp_or_0(head: Option<Head>) -> u64
+    ensures { result ≡ timestamp_or_0 head }
+{
+    match head {
+        Some(head) => head.timestamp,
+        None => 0,
+    }
+}
+
+// The heads of a state after the version 1, which were handed out once.
+fn first_heads_at(reader: &mut Reader<'_>) -> Option<Heads>
+    ensures { MatchOption result ((a w : Option HeadOf) (r : List ℕ) → IsNoneOrInBytes a → IsNoneOrInBytes w → reader.old ≡ head_text a ++ (head_text w ++ r) → ⊥)
+        (λ h. IsNoneOrInBytes h.accepted × IsNoneOrInBytes h.waiting × AreNewestInBytes h.newest × (h.newest ≡ seen_once h.accepted h.waiting)
+        × (reader.old ≡ head_text h.accepted ++ (head_text h.waiting ++ reader.new))) }
+{
+    let Some(pair) = pair_at(reader) else {
+        return None;
+    };
+    let newest = Newest {
+        accepted: timestamp_or_0(pair.accepted),
+        waiting: timestamp_or_0(pair.waiting),
+    };
+    are_newest(newest);
+    Some(Heads {
+        accepted: pair.accepted,
+        waiting: pair.waiting,
+        newest,
+    })
+}
+
+// The version of a state, and its heads.
+fn heads_at(reader: &mut Reader<'_>) -> Option<Heads>
+    ensures { MatchOption result ((a w : Option HeadOf) (n : NewestOf) (text r : List ℕ) → IsNoneOrInBytes a → IsNoneOrInBytes w → IsHeadsText a w n text
+        → reader.old ≡ text ++ r → ⊥)
+        (λ h. IsNoneOrInBytes h.accepted × IsNoneOrInBytes h.waiting × AreNewestInBytes h.newest
+        × ((text : List ℕ) × IsHeadsText h.accepted h.waiting h.newest text × (reader.old ≡ text ++ reader.new))) }
+{
+    let Some(version) = reader.number_1() else {
+        return None;
+    };
+    if version == 2 {
+        return second_heads_at(reader);
+    }
+    if version == 1 {
+        return first_heads_at(reader);
+    }
+    None
 }
 
 // The subtrees of the accepted leaves, and those of all leaves that were read.
@@ -162,8 +251,8 @@ fn both_at(alloc: Global, reader: &mut Reader<'_>) -> Result<Option<Both>, Alloc
 
 // The state whose parts the bytes encode, whether these parts fit or not.
 fn parts_in(alloc: Global, bytes: &[u8]) -> Result<Option<Watcher<Sha256Hash>>, AllocError>
-    ensures { IfOk result (λ o. MatchOption o ((s : WatcherState) → IsInBytes s → bytes.now ≡ parts_text s → ⊥)
-        (λ w. IsInBytes w × (bytes.now ≡ parts_text w))) }
+    ensures { IfOk result (λ o. MatchOption o ((s : WatcherState) → IsInBytes s → IsPartsText s bytes.now → ⊥)
+        (λ w. IsInBytes w × IsPartsText w bytes.now)) }
 {
     let mut reader = Reader::new(bytes);
     let Some(heads) = heads_at(&mut reader) else {
@@ -175,6 +264,7 @@ fn parts_in(alloc: Global, bytes: &[u8]) -> Result<Option<Watcher<Sha256Hash>>, 
             Sha256Hash,
             heads.accepted,
             heads.waiting,
+            heads.newest,
             both.sure,
             both.all,
         ))),

@@ -10,7 +10,7 @@ ghost use Rattle.ct_monitor.specs.declared.starting.StartFault.TheVariants.{Memo
 use crate::facts::is_in_bytes;
 use crate::fitting::root_of;
 use crate::writing::write_state;
-use crate::{Peaks, Watcher};
+use crate::{Newest, Peaks, Watcher};
 use ct_tree::{Head, Sha256Hash, is_same_digest};
 use std::alloc::{AllocError, Global};
 
@@ -70,6 +70,10 @@ pub fn start(alloc: Global, head: Head, subtrees: &[[u8; 32]]) -> Result<Vec<u8>
         Sha256Hash,
         Some(head),
         None,
+        Newest {
+            accepted: head.timestamp,
+            waiting: 0,
+        },
         Peaks::from_parts(head.tree_size, accepted),
         Peaks::from_parts(head.tree_size, read),
     );

@@ -1,47 +1,201 @@
 //! An observer of one log.
-ghost use Rattle.std.specs.Prelude.{◌≡◌, ◌⊎◌, ◌+◌, ◌-◌, ◌^◌, ◌<◌, ◌≤◌, ℕ, List, map, IfOk, MatchOption, OnErr, Some};
+ghost use Rattle.std.specs.Prelude.{◌≡◌, ◌⊎◌, ◌+◌, ◌-◌, ◌^◌, ◌<◌, ◌≤◌, ℕ, List, [], map, IfOk, MatchOption, OnErr, Some};
 ghost use Rattle.ct_tree.specs.Stack.{Stands};
 ghost use Rattle.ct_tree.specs.Tree.{hash_leaf};
 ghost use Rattle.ct_tree.specs.declared.head.Head.{Head};
 ghost use Rattle.ct_monitor.specs.Heads.{IsHeadOfAll};
 ghost use Rattle.ct_monitor.specs.declared.verdict.Verdict.TheVariants.{Accepted};
-ghost use Rattle.ct_monitor.specs.Watched.{Watched, after_verdict, nothing_seen, read_on, waiting_or, with_more};
-ghost use Rattle.ct_monitor.specs.Verdicts.{EntriesSay, HeadSays, IsGrownLater, IsSaid, LeavesSay, ProofSays, WaitingSays, after_entries};
+ghost use Rattle.ct_monitor.specs.Watched.{Watched, after_head, after_verdict, earliest, latest, newest_or, nothing_seen, read_on, waiting_or, with_more};
+ghost use Rattle.ct_monitor.specs.Verdicts.{EntriesSay, HeadSays, IsGrownLater, IsGrownLaterThanBoth, IsLarger, IsNoLarger, IsSaid, KnownSay, LeadsTo, LeavesSay, OlderSays, ProofSays, WaitingSays, after_entries};
 ghost use Rattle.ct_monitor.specs.WatcherState.{Keeps, WatcherState};
 
+use crate::newest::Newest;
 use crate::peaks::Peaks;
 use crate::verdict::Verdict;
 use ct_tree::{Head, NodeHash, is_same_digest};
-use ct_verify::verify_consistency;
+use ct_verify::{ProofFault, verify_consistency};
 use std::alloc::{AllocError, Global};
 use std::marker::Model;
 
-// The immediate verdict on a head compared with a known one. There is none if there is no known head, or if the head has more leaves and a
-// later timestamp.
-fn beside(known: Option<Head>, head: &Head) -> Option<Verdict>
-    ensures { MatchOption result (IsGrownLater known head.now) (λ v. IsSaid known head.now v) }
+// The verdict on a head that has more leaves than a known one. There is none if it is later than the newest timestamp of the known one.
+fn beside_smaller(known: Head, newest: u64, head: &Head) -> Option<Verdict>
+    requires { known.tree_size < head.now.tree_size }
+    ensures { MatchOption result (IsGrownLater (Some known) newest head.now) (λ v. IsSaid (Some known) newest head.now v) }
+{
+    if head.timestamp > newest {
+        return None;
+    }
+    let root = known.root;
+    Some(Verdict::TimeNotLater(Head {
+        tree_size: known.tree_size,
+        timestamp: newest,
+        root,
+    }))
+}
+
+// The immediate verdict on a head compared with a known one, of which heads were handed out with timestamps up to `newest`. There is none
+// if there is no known head, or if the head has more leaves and is later than all of them.
+pub(crate) fn beside(known: Option<Head>, newest: u64, head: &Head) -> Option<Verdict>
+    ensures { MatchOption result (IsGrownLater known newest head.now) (λ v. IsSaid known newest head.now v) }
 {
     let Some(known) = known else {
         return None;
     };
     if head.tree_size > known.tree_size {
-        return if head.timestamp > known.timestamp {
-            None
-        } else {
-            Some(Verdict::TimeNotLater(known))
-        };
+        return beside_smaller(known, newest, head);
     }
     if head.tree_size < known.tree_size {
         return if head.timestamp < known.timestamp {
-            Some(Verdict::Stale)
+            Some(Verdict::Older(known))
         } else {
-            Some(Verdict::Shrunk)
+            Some(Verdict::Shrunk(known))
         };
     }
     if is_same_digest(&head.root, &known.root) {
         Some(Verdict::Again)
     } else {
         Some(Verdict::Fork(known))
+    }
+}
+
+// The verdict on a head compared with the accepted and the waiting one. An accusation comes first.
+fn by_known(
+    accepted: Option<Head>,
+    waiting: Option<Head>,
+    newest: Newest,
+    head: &Head,
+) -> Option<Verdict>
+    ensures { MatchOption result (IsGrownLaterThanBoth accepted waiting newest head.now) (λ v. KnownSay accepted waiting newest head.now v) }
+{
+    let first = beside(accepted, newest.accepted, head);
+    let second = beside(waiting, newest.waiting, head);
+    let Some(one) = first else {
+        return second;
+    };
+    let Some(two) = second else {
+        return Some(one);
+    };
+    let is_first = one.accuses();
+    if is_first {
+        return Some(one);
+    }
+    let is_second = two.accuses();
+    if is_second { Some(two) } else { Some(one) }
+}
+
+// A known head after this one: if this one has its size, the earlier of the two timestamps counts.
+fn earliest(known: Option<Head>, head: &Head) -> Option<Head>
+    ensures { result ≡ earliest known head.now }
+{
+    match known {
+        None => None,
+        Some(known) => {
+            if known.tree_size == head.tree_size {
+                let root = known.root;
+                Some(Head {
+                    tree_size: known.tree_size,
+                    timestamp: known.timestamp.min(head.timestamp),
+                    root,
+                })
+            } else {
+                Some(known)
+            }
+        }
+    }
+}
+
+// The newest timestamp of a known head after this one: if this one has its size, the later of the two counts.
+fn latest(known: Option<Head>, newest: u64, head: &Head) -> u64
+    ensures { result ≡ latest known newest head.now }
+{
+    match known {
+        None => newest,
+        Some(known) => {
+            if known.tree_size == head.tree_size {
+                newest.max(head.timestamp)
+            } else {
+                newest
+            }
+        }
+    }
+}
+
+// The head that waits, or this one.
+fn waiting_or(waiting: Option<Head>, head: Head) -> Head
+    ensures { result ≡ waiting_or waiting head }
+{
+    match waiting {
+        None => head,
+        Some(waiting) => waiting,
+    }
+}
+
+// The newest timestamp of the head that waits, or of this one.
+fn newest_or(waiting: Option<Head>, newest: u64, head: &Head) -> u64
+    ensures { result ≡ newest_or waiting newest head.now }
+{
+    match waiting {
+        None => head.timestamp,
+        Some(_) => newest,
+    }
+}
+
+// The known head that has more leaves than this one: the accepted one, or otherwise the waiting one.
+fn larger(accepted: Option<Head>, waiting: Option<Head>, head: &Head) -> Option<Head>
+    ensures { MatchOption result (IsNoLarger accepted head.now × IsNoLarger waiting head.now)
+        (λ known. IsLarger accepted head.now known ⊎ (IsNoLarger accepted head.now × IsLarger waiting head.now known)) }
+{
+    if let Some(known) = accepted {
+        if head.tree_size < known.tree_size {
+            return Some(known);
+        }
+    }
+    if let Some(known) = waiting {
+        if head.tree_size < known.tree_size {
+            return Some(known);
+        }
+    }
+    None
+}
+
+// The root of no leaves: the hash of no bytes.
+fn no_leaves<H: NodeHash>(h: &H) -> [u8; 32]
+    ensures { result ≡ H.digest [] }
+{
+    h.hash(&[])
+}
+
+// The verdict on the head of no leaves, which every tree has grown from.
+fn of_no_leaves<H: NodeHash>(h: &H, head: &Head, known: &Head, path: &[[u8; 32]]) -> Verdict
+    requires { head.now.tree_size ≡ 0 }
+    ensures { LeadsTo H.digest head.now known.now path.now result }
+{
+    let root = no_leaves(h);
+    let same = is_same_digest(&head.root, &root);
+    if same {
+        Verdict::Consistent
+    } else {
+        Verdict::Inconsistent(ProofFault::FirstMismatch)
+    }
+}
+
+// The verdict on a consistency proof from an older head to a known one.
+fn leads_to<H: NodeHash>(h: &H, head: &Head, known: &Head, path: &[[u8; 32]]) -> Verdict
+    ensures { LeadsTo H.digest head.now known.now path.now result }
+{
+    if head.tree_size == 0 {
+        return of_no_leaves(h, head, known, path);
+    }
+    match verify_consistency(
+        h,
+        head.tree_size,
+        known.tree_size,
+        &head.root,
+        &known.root,
+        path,
+    ) {
+        Ok(()) => Verdict::Consistent,
+        Err(fault) => Verdict::Inconsistent(fault),
     }
 }
 
@@ -65,6 +219,7 @@ pub struct Watcher<H: NodeHash + Drop> {
     h: H,
     accepted: Option<Head>,
     waiting: Option<Head>,
+    newest: Newest,
     sure: Peaks,
     all: Peaks,
 }
@@ -72,7 +227,7 @@ pub struct Watcher<H: NodeHash + Drop> {
 impl<H: NodeHash + Drop> Model for Watcher<H> {
     ghost Value = { WatcherState };
 
-    ghost view = { λ w. record { accepted = w.accepted; waiting = w.waiting; sure = w.sure; all = w.all } };
+    ghost view = { λ w. record { accepted = w.accepted; waiting = w.waiting; newest = w.newest; sure = w.sure; all = w.all } };
 }
 
 impl<H: NodeHash + Drop> Watcher<H> {
@@ -84,39 +239,52 @@ impl<H: NodeHash + Drop> Watcher<H> {
             h,
             accepted: None,
             waiting: None,
+            newest: Newest {
+                accepted: 0,
+                waiting: 0,
+            },
             sure: Peaks::from_parts(0, Vec::new(alloc)),
             all: Peaks::from_parts(0, Vec::new(alloc)),
         }
     }
 
-    /// A watcher in the state that is passed in, whatever that is: the accepted and the waiting head, and the perfect subtrees of the
-    /// accepted leaves and of all that were read.
+    /// A watcher in the state that is passed in, whatever that is: the accepted and the waiting head with their earliest timestamps, their
+    /// newest timestamps, and the perfect subtrees of the accepted leaves and of all that were read.
     pub fn from_parts(
         h: H,
         accepted: Option<Head>,
         waiting: Option<Head>,
+        newest: Newest,
         sure: Peaks,
         all: Peaks,
     ) -> Watcher<H>
-        ensures { result ≡ record { accepted = accepted; waiting = waiting; sure = sure; all = all } }
+        ensures { result ≡ record { accepted = accepted; waiting = waiting; newest = newest; sure = sure; all = all } }
     {
         Watcher {
             h,
             accepted,
             waiting,
+            newest,
             sure,
             all,
         }
     }
 
-    /// The last head that was accepted.
+    /// The last head that was accepted, with its earliest timestamp.
     pub fn accepted(&self) -> Option<Head>
         ensures { result ≡ self.now.accepted }
     {
         self.accepted
     }
 
-    /// The head that waits for its entries.
+    /// The newest timestamps of the accepted and of the waiting head.
+    pub fn newest(&self) -> Newest
+        ensures { result ≡ self.now.newest }
+    {
+        self.newest
+    }
+
+    /// The head that waits for its entries, with its earliest timestamp.
     pub fn waiting(&self) -> Option<Head>
         ensures { result ≡ self.now.waiting }
     {
@@ -152,17 +320,18 @@ impl<H: NodeHash + Drop> Watcher<H> {
         Ok(longer)
     }
 
-    // Compares the waiting head with the leaves that were read so far.
-    fn settle(&mut self, head: Head, all: Peaks) -> Result<Verdict, AllocError>
+    // Compares the waiting head, whose newest timestamp is `newest`, with the leaves that were read so far.
+    fn settle(&mut self, head: Head, newest: u64, all: Peaks) -> Result<Verdict, AllocError>
         ensures says { IfOk result (λ v. (w : Watched) → Keeps H.digest (record self.old { all = all }) w → WaitingSays H.digest w head v) }
         ensures stands { IfOk result (λ v. (w : Watched) → Keeps H.digest (record self.old { all = all }) w
-            → Keeps H.digest self.new (after_verdict w head v)) }
+            → Keeps H.digest self.new (after_verdict w head newest v)) }
         ensures compared { IfOk result (λ v. (D : List (List ℕ)) → Stands H.digest all (map (hash_leaf H.digest) D) → LeavesSay H.digest D head v) }
         ensures unchanged { OnErr result (self.new ≡ self.old) }
     {
         if all.size() != head.tree_size {
             self.all = all;
             self.waiting = Some(head);
+            self.newest.waiting = newest;
             return Ok(Verdict::Pending);
         }
         let computed = all.root(&self.h);
@@ -171,16 +340,47 @@ impl<H: NodeHash + Drop> Watcher<H> {
             self.all = all;
             self.accepted = Some(head);
             self.waiting = None;
+            self.newest.accepted = newest;
+            self.newest.waiting = 0;
             Ok(Verdict::Accepted)
         } else {
             self.all = self.sure.copied()?;
             self.waiting = None;
+            self.newest.waiting = 0;
             Ok(Verdict::RootMismatch(computed))
         }
     }
 
-    /// Takes a tree head. If it is larger and later than the accepted and the waiting head, and no head waited, it becomes the waiting
-    /// head. The verdict is then about the waiting head, which may be an earlier one.
+    // Remembers the timestamp of a head that was handed out again.
+    fn remember(&mut self, head: &Head)
+        ensures { self.new ≡ record self.old {
+          accepted = earliest self.old.accepted head.now;
+          waiting = earliest self.old.waiting head.now;
+          newest = record { accepted = latest self.old.accepted self.old.newest.accepted head.now; waiting = latest self.old.waiting self.old.newest.waiting head.now };
+        } }
+    {
+        self.newest = Newest {
+            accepted: latest(self.accepted, self.newest.accepted, head),
+            waiting: latest(self.waiting, self.newest.waiting, head),
+        };
+        self.accepted = earliest(self.accepted, head);
+        self.waiting = earliest(self.waiting, head);
+    }
+
+    // Keeps what a known head says of this one: its timestamp, if it was handed out again.
+    fn keep(&mut self, head: &Head, verdict: &Verdict)
+        ensures { (w : Watched) → Keeps H.digest self.old w → KnownSay w.accepted w.waiting w.newest head.now verdict.now
+            → Keeps H.digest self.new (after_head w head.now verdict.now) }
+    {
+        let again = verdict.is_again();
+        if again {
+            self.remember(head);
+        }
+    }
+
+    /// Takes a tree head. It is compared with the accepted and the waiting head. If it is larger and later than both, and no head waited, it
+    /// becomes the waiting head. The verdict is then about the waiting head, which may be an earlier one. If it has the size and the root of
+    /// a known head, its timestamp is kept.
     ///
     /// # Errors
     ///
@@ -188,23 +388,19 @@ impl<H: NodeHash + Drop> Watcher<H> {
     pub fn take_head(&mut self, head: Head) -> Result<Verdict, AllocError>
         ensures says { IfOk result (λ v. (w : Watched) → Keeps H.digest self.old w → HeadSays H.digest w head v) }
         ensures stands { IfOk result (λ v. (w : Watched) → Keeps H.digest self.old w
-            → Keeps H.digest self.new (after_verdict w (waiting_or w.waiting head) v)) }
+            → Keeps H.digest self.new (after_head w head v)) }
         ensures compared { IfOk result (λ v. v ≡ Accepted → (D : List (List ℕ)) → Stands H.digest self.old.all (map (hash_leaf H.digest) D)
             → IsHeadOfAll H.digest D (waiting_or self.old.waiting head)) }
         ensures unchanged { OnErr result (self.new ≡ self.old) }
     {
-        if let Some(verdict) = beside(self.accepted, &head) {
+        if let Some(verdict) = by_known(self.accepted, self.waiting, self.newest, &head) {
+            self.keep(&head, &verdict);
             return Ok(verdict);
         }
-        if let Some(verdict) = beside(self.waiting, &head) {
-            return Ok(verdict);
-        }
-        let waiting = match self.waiting {
-            None => head,
-            Some(waiting) => waiting,
-        };
+        let waiting = waiting_or(self.waiting, head);
+        let newest = newest_or(self.waiting, self.newest.waiting, &head);
         let all = self.all.copied()?;
-        self.settle(waiting, all)
+        self.settle(waiting, newest, all)
     }
 
     /// Takes leaves from the index `start` on, as far as the waiting head goes. It hashes each of them, and one node on average for each.
@@ -228,8 +424,9 @@ impl<H: NodeHash + Drop> Watcher<H> {
         if start != read {
             return Ok(Verdict::Gap);
         }
+        let newest = self.newest();
         let all = self.longer(head, leaves)?;
-        self.settle(head, all)
+        self.settle(head, newest.waiting, all)
     }
 
     /// Takes a consistency proof from the accepted head to the waiting one (RFC 6962, section 2.1.2). It changes nothing.
@@ -250,5 +447,16 @@ impl<H: NodeHash + Drop> Watcher<H> {
             Ok(()) => Verdict::Consistent,
             Err(fault) => Verdict::Inconsistent(fault),
         }
+    }
+
+    /// Takes a consistency proof from an older head to the accepted one, if that has more leaves, otherwise to the waiting one (RFC 6962,
+    /// section 2.1.2). It changes nothing.
+    pub fn take_older(&self, head: Head, path: &[[u8; 32]]) -> Verdict
+        ensures { OlderSays H.digest self.now.accepted self.now.waiting head path.now result }
+    {
+        let Some(known) = larger(self.accepted, self.waiting, &head) else {
+            return Verdict::Gap;
+        };
+        leads_to(&self.h, &head, &known, path)
     }
 }

@@ -3,7 +3,7 @@
 ghost use Rattle.std.specs.Prelude.{◌≡◌, ◌++◌, IfOk, OnOk};
 ghost use Rattle.sha2.specs.Sha256.{sha256};
 ghost use Rattle.ct_codec.specs.Bytes.{num, vec};
-ghost use Rattle.ct_monitor.specs.StateText.{head_text, parts_text, monitor_state_text, subtrees_text};
+ghost use Rattle.ct_monitor.specs.StateText.{head_text, heads_text, parts_text, monitor_state_text, subtrees_text};
 
 use crate::{Peaks, Watcher};
 use ct_codec::numbers::number_bytes_8;
@@ -11,7 +11,7 @@ use ct_tree::{Head, NodeHash, Sha256Hash};
 use std::alloc::{AllocError, Global};
 
 // The version of the format.
-const VERSION: u8 = 1;
+const VERSION: u8 = 2;
 
 // A number in 8 bytes.
 fn push_number(text: &mut Vec<u8>, n: u64) -> Result<(), AllocError>
@@ -57,14 +57,25 @@ fn push_subtrees(text: &mut Vec<u8>, peaks: &Peaks) -> Result<(), AllocError>
     push_vector(text, peaks.subtrees().as_flattened())
 }
 
-// The parts of a state.
-fn parts_of(alloc: Global, watcher: &Watcher<Sha256Hash>) -> Result<Vec<u8>, AllocError>
-    ensures { IfOk result (λ text. text.items ≡ parts_text watcher.now) }
+// The heads of a state with their newest timestamps.
+fn heads_of(alloc: Global, watcher: &Watcher<Sha256Hash>) -> Result<Vec<u8>, AllocError>
+    ensures { IfOk result (λ text. text.items ≡ heads_text watcher.now.accepted watcher.now.waiting watcher.now.newest) }
 {
     let mut text = Vec::new(alloc);
     text.push(VERSION)?;
     push_head(&mut text, watcher.accepted())?;
     push_head(&mut text, watcher.waiting())?;
+    let newest = watcher.newest();
+    push_number(&mut text, newest.accepted)?;
+    push_number(&mut text, newest.waiting)?;
+    Ok(text)
+}
+
+// The parts of a state.
+fn parts_of(alloc: Global, watcher: &Watcher<Sha256Hash>) -> Result<Vec<u8>, AllocError>
+    ensures { IfOk result (λ text. text.items ≡ parts_text watcher.now) }
+{
+    let mut text = heads_of(alloc, watcher)?;
     push_subtrees(&mut text, watcher.sure())?;
     push_subtrees(&mut text, watcher.all())?;
     Ok(text)

@@ -3,7 +3,7 @@ use Rattle.std.proofs.Common.{◌≡◌, ◌∙◌, ◌⊎◌, ◌++◌, ℕ, Li
 use Rattle.std.proofs.Math.Seq.{take-append_seam}
 use Rattle.sha2.specs.Sha256.{sha256}
 use Rattle.sha2.proofs.Facts256.{length-sha256}
-use Rattle.ct_monitor.specs.Calls.{Handed, a_head, entries_from, a_proof, HasState, IsMonitorBegin, StateJudges}
+use Rattle.ct_monitor.specs.Calls.{Handed, a_head, entries_from, a_proof, an_older, HasState, IsMonitorBegin, StateJudges}
 use Rattle.ct_monitor.specs.CallLaws.{MonitorCall, CallsHandOut, IsCallOver, IsNeverRefused, AreCalls, last_state}
 use Rattle.ct_monitor.specs.Starts.{IsHashedForStart, IsMonitorStart, known_at_start}
 use Rattle.ct_monitor.specs.declared.starting.StartFault.TheVariants.{OtherCount, OtherRoot, Memory}
@@ -78,6 +78,7 @@ read state start E c (inr (inr r)) = absurd (omega (arith, r.0))
 found : (state : List ℕ) (handed : Handed) (c : JudgingCall) → ReturnsOver state handed c → Found state handed c
 found state (a_head head) c r = judged state (a_head head) c r
 found state (a_proof path) c r = judged state (a_proof path) c r
+found state (an_older head path) c r = judged state (an_older head path) c r
 found state (entries_from start E) c (leaves, lengths, e, inl r) = absurd (omega (arith, r.0))
 found state (entries_from start E) c (leaves, lengths, e, inr r) =
     subst (λ (l : List (List ℕ)). Found state (entries_from start l) c) (sym e) (read state start (pieces lengths leaves) c r.1)

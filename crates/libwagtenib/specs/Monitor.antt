@@ -2,11 +2,12 @@
 use Rattle.std.specs.Prelude.{◌≡◌, ◌⊎◌, ◌≤◌, ℕ, List, length, replicate, sum, Option, Some, None}
 use Rattle.sha2.specs.Sha256.{sha256}
 use Rattle.ct_monitor.specs.declared.verdict.Verdict.{Verdict}
-use Rattle.ct_monitor.specs.declared.verdict.Verdict.TheVariants.{Accepted, Pending, Again, Stale, Shrunk, Fork, TimeNotLater, RootMismatch, Gap, Consistent, Inconsistent}
+use Rattle.ct_monitor.specs.declared.verdict.Verdict.TheVariants.{Accepted, Pending, Again, Older, Shrunk, Fork, TimeNotLater, RootMismatch, Gap, Consistent, Inconsistent}
 use Rattle.ct_codec.specs.declared.fault.DecodeFault.{DecodeFault}
 use Rattle.ct_monitor.specs.Entries.{HasTimestamp, IsFaulty, IsLaterThan}
 use Rattle.ct_monitor.specs.Calls.{Handed, entries_from, IsMonitorAnswer, IsEntriesAnswer, IsMonitorBegin}
 use Rattle.ct_monitor.specs.StateText.{IsNoState}
+use Rattle.ct_monitor.specs.Verdicts.{IsBeside, IsGrownLater}
 use Rattle.ct_monitor.specs.Starts.{IsMonitorStart, RefusesStart}
 use Rattle.ct_monitor.specs.declared.answer.Answer.{Answer}
 use Rattle.ct_monitor.specs.declared.answer.EntriesAnswer.{EntriesAnswer}
@@ -27,8 +28,8 @@ abbrev pub verdict_code : Verdict → ℕ
 verdict_code Accepted = 128
 verdict_code Pending = 129
 verdict_code Again = 130
-verdict_code Stale = 131
-verdict_code Shrunk = 132
+verdict_code (Older known) = 131
+verdict_code (Shrunk known) = 132
 verdict_code (Fork known) = 133
 verdict_code (TimeNotLater known) = 134
 verdict_code (RootMismatch root) = 135
@@ -51,6 +52,8 @@ no_head = record { tree_size = 0; timestamp = 0; root = no_root }
 
 -- the known head that a verdict names
 abbrev pub verdict_known : Verdict → Head
+verdict_known (Older known) = known
+verdict_known (Shrunk known) = known
 verdict_known (Fork known) = known
 verdict_known (TimeNotLater known) = known
 verdict_known v = no_head
@@ -82,6 +85,12 @@ Judges handed state code verdict told before after count_before count =
     ((code ≡ 36) × IsNoState sha256 state × (told ≡ verdict) × (after ≡ before) × (count ≡ count_before))
     ⊎ (((a : Answer) × IsMonitorAnswer sha256 state handed a × GivesAnswer a code verdict told before after count)
     ⊎ ((code ≡ 8) × (told ≡ verdict) × (after ≡ before) × (count ≡ count_before)))
+
+-- Two heads are compared. 0: the second one has more leaves than the known one, and is later. Otherwise the number of the verdict.
+abbrev pub ComparesHeads : Head → Head → ℕ → Type 0
+ComparesHeads known head code =
+    ((code ≡ 0) × IsGrownLater (Some known) known.timestamp head)
+    ⊎ ((v : Verdict) × (code ≡ verdict_code v) × IsBeside known known.timestamp head v)
 
 -- the first state is written, or has no room (9), or an allocation was refused (8)
 abbrev pub BeginsMonitor : ℕ → List ℕ → List ℕ → ℕ → ℕ → Type 0

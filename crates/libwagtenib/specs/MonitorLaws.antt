@@ -4,7 +4,7 @@ use Rattle.sha2.specs.Sha256.{sha256}
 use Rattle.ct_monitor.specs.Heads.{IsHeadOfAll}
 use Rattle.ct_monitor.specs.Watched.{Watched, nothing_seen}
 use Rattle.ct_monitor.specs.WatcherState.{WatcherState}
-use Rattle.ct_monitor.specs.Calls.{Handed, a_head, entries_from, a_proof}
+use Rattle.ct_monitor.specs.Calls.{Handed, a_head, entries_from, a_proof, an_older}
 use Rattle.ct_monitor.specs.CallLaws.{MonitorCall, CallsHandOut, IsNeverRefused}
 use Rattle.ct_monitor.specs.Entries.{size_awaited}
 use Rattle.ct_monitor.specs.Starts.{IsHashedForStart, known_at_start}
@@ -29,13 +29,14 @@ pub record JudgingCall : Type 0 where
   pub count_before : ℕ
   pub count : ℕ
 
--- A call over this state returned 0: of `wagtenib_monitor_head`, `wagtenib_monitor_entries` or `wagtenib_monitor_proof`.
+-- A call over this state returned 0: of `wagtenib_monitor_head`, `wagtenib_monitor_entries`, `wagtenib_monitor_proof` or `wagtenib_monitor_older`.
 abbrev pub ReturnsOver : List ℕ → Handed → JudgingCall → Type 0
 ReturnsOver state (a_head head) c = Judges (a_head head) state 0 c.verdict c.told c.before c.after c.count_before c.count
 ReturnsOver state (entries_from start E) c =
     (leaves lengths : List ℕ) × (E ≡ pieces lengths leaves)
     × JudgesPieces start leaves lengths state 0 c.verdict c.told c.report c.reported c.before c.after c.count_before c.count
 ReturnsOver state (a_proof path) c = Judges (a_proof path) state 0 c.verdict c.told c.before c.after c.count_before c.count
+ReturnsOver state (an_older head path) c = Judges (an_older head path) state 0 c.verdict c.told c.before c.after c.count_before c.count
 
 -- the state that a call wrote
 abbrev pub state_written : JudgingCall → List ℕ
@@ -75,7 +76,8 @@ AreCallsOf (c ∷ calls) (d ∷ others) = IsCallOf c d × AreCallsOf calls other
 AreCallsOf calls others = ⊥
 
 -- Take any such calls, the first over the state that a call of `wagtenib_monitor_begin` wrote. The log has handed out w by them, one after the other. Each head
--- with the verdict 128 is that of a beginning of the accepted leaves of w. The last state is never refused.
+-- with the verdict 128 is that of a beginning of the accepted leaves of w, and so is each older head with the verdict 137 beside an accepted head that has more
+-- leaves, or two named strings collide. The last state is never refused.
 abbrev pub JudgingCallsAgree : Type 0
 JudgingCallsAgree =
     (before after : List ℕ) (count_before count : ℕ) → BeginsMonitor 0 before after count_before count → (calls : List JudgingCall) → AreJudging (take count after) calls

@@ -126,8 +126,8 @@ pub const ACCEPTED: u32 = 128;
 pub const PENDING: u32 = 129;
 /// The size and the root of a known head again.
 pub const AGAIN: u32 = 130;
-/// An older head with fewer leaves.
-pub const STALE: u32 = 131;
+/// Fewer leaves than a known head has, and an earlier timestamp.
+pub const OLDER: u32 = 131;
 /// Fewer leaves than a known head has, and not an earlier timestamp.
 pub const SHRUNK: u32 = 132;
 /// The known head with this size has another root.
@@ -138,7 +138,7 @@ pub const HEAD_NOT_LATER: u32 = 134;
 pub const OTHER_ROOT: u32 = 135;
 /// The entries do not begin where those that were read end, or no head waits, or there are no two heads that a proof could join.
 pub const GAP: u32 = 136;
-/// The proof leads from the accepted head to the waiting one.
+/// The proof leads from the accepted head to the waiting one, or from an older head to a known one.
 pub const CONSISTENT: u32 = 137;
 /// The proof does not lead there.
 pub const INCONSISTENT: u32 = 138;

@@ -1,12 +1,13 @@
 //! A monitor's verdicts on the answers of a log. Its state is bytes, and belongs to the caller.
 
 ghost use Rattle.std.specs.Bool.{MatchBool};
-ghost use Rattle.std.specs.Prelude.{◌≡◌, ◌⊎◌, IfOk, MatchOption, length, sum};
+ghost use Rattle.std.specs.Prelude.{◌≡◌, ◌⊎◌, IfOk, MatchOption, Some, length, sum};
 ghost use Rattle.sha2.specs.Sha256.{sha256};
-ghost use Rattle.ct_monitor.specs.Calls.{IsMonitorAnswer, IsEntriesAnswer, a_head, a_proof, entries_from};
+ghost use Rattle.ct_monitor.specs.Calls.{IsMonitorAnswer, IsEntriesAnswer, a_head, a_proof, an_older, entries_from};
 ghost use Rattle.ct_monitor.specs.StateText.{IsNoState};
 ghost use Rattle.libwagtenib.specs.Guard.{head_of_c};
-ghost use Rattle.libwagtenib.specs.Monitor.{AddUp, BeginsMonitor, GivesAnswer, Judges, JudgesEntries, JudgesEntry, JudgesPieces, StartsMonitor, TellsFaulty};
+ghost use Rattle.ct_monitor.specs.Verdicts.{IsBeside, IsGrownLater};
+ghost use Rattle.libwagtenib.specs.Monitor.{AddUp, BeginsMonitor, ComparesHeads, GivesAnswer, Judges, JudgesEntries, JudgesEntry, JudgesPieces, StartsMonitor, TellsFaulty};
 ghost use Rattle.libwagtenib.specs.Monitor.{TellsLater, TellsReport, TellsVerdict, start_code, verdict_code, verdict_fault, verdict_known, verdict_root};
 ghost use Rattle.libwagtenib.specs.Output.{WritesOutput};
 ghost use Rattle.libwagtenib.specs.Tiles.{pieces};
@@ -53,8 +54,8 @@ fn number_of(verdict: Verdict) -> u32
         Verdict::Accepted => codes::ACCEPTED,
         Verdict::Pending => codes::PENDING,
         Verdict::Again => codes::AGAIN,
-        Verdict::Stale => codes::STALE,
-        Verdict::Shrunk => codes::SHRUNK,
+        Verdict::Older(_) => codes::OLDER,
+        Verdict::Shrunk(_) => codes::SHRUNK,
         Verdict::Fork(_) => codes::FORKED,
         Verdict::TimeNotLater(_) => codes::HEAD_NOT_LATER,
         Verdict::RootMismatch(_) => codes::OTHER_ROOT,
@@ -79,6 +80,8 @@ fn known_of(verdict: Verdict) -> Head
     ensures { result ≡ verdict_known verdict }
 {
     match verdict {
+        Verdict::Older(known) => known,
+        Verdict::Shrunk(known) => known,
         Verdict::Fork(known) => known,
         Verdict::TimeNotLater(known) => known,
         _ => Head {
@@ -230,6 +233,59 @@ pub extern "C" fn wagtenib_monitor_proof(
         Ok(Some(answer)) => give(&answer, verdict, out, length),
         Ok(None) => codes::BAD_STATE,
         Err(AllocError) => OUT_OF_MEMORY,
+    }
+}
+
+// The answer to a consistency proof from an older head.
+fn answer_to_older(
+    alloc: Global,
+    state: &[u8],
+    head: &TreeHead,
+    path: &[[u8; 32]],
+) -> Result<Option<Answer>, AllocError>
+    ensures { IfOk result (λ o. MatchOption o (IsNoState sha256 state.now)
+        (λ a. IsMonitorAnswer sha256 state.now (an_older (head_of_c head.now) path.now) a)) }
+{
+    ct_monitor::take_older(alloc, state, head_of(head), path)
+}
+
+/// The verdict on a consistency proof from an older head to the accepted one, if that has more leaves, otherwise to the waiting one, over a state, as
+/// [`wagtenib_monitor_head`].
+#[unsafe(no_mangle)]
+pub extern "C" fn wagtenib_monitor_older(
+    alloc: Global,
+    state: &[u8],
+    head: &TreeHead,
+    path: &[[u8; 32]],
+    verdict: &mut MonitorVerdict,
+    out: &mut [u8],
+    length: &mut u64,
+) -> u32
+    ensures { Judges (an_older (head_of_c head.now) path.now) state.now result verdict.old verdict.new out.old out.new length.old length.new }
+{
+    match answer_to_older(alloc, state, head, path) {
+        Ok(Some(answer)) => give(&answer, verdict, out, length),
+        Ok(None) => codes::BAD_STATE,
+        Err(AllocError) => OUT_OF_MEMORY,
+    }
+}
+
+// The verdict on a head compared with a known one.
+fn compared(known: &TreeHead, head: &TreeHead) -> Option<Verdict>
+    ensures { MatchOption result (IsGrownLater (Some (head_of_c known.now)) (head_of_c known.now).timestamp (head_of_c head.now))
+        (λ v. IsBeside (head_of_c known.now) (head_of_c known.now).timestamp (head_of_c head.now) v) }
+{
+    ct_monitor::compare_heads(head_of(known), &head_of(head))
+}
+
+/// Compares a head with a known one. 0: it has more leaves and is later. Otherwise the verdict, 130 to 134.
+#[unsafe(no_mangle)]
+pub extern "C" fn wagtenib_compare_heads(known: &TreeHead, head: &TreeHead) -> u32
+    ensures { ComparesHeads (head_of_c known.now) (head_of_c head.now) result }
+{
+    match compared(known, head) {
+        Some(verdict) => number_of(verdict),
+        None => codes::OK,
     }
 }
 

@@ -309,7 +309,8 @@ fn watched_again(watcher: &Watcher<Sha256Hash>) -> Result<Watcher<Sha256Hash>, A
     let sure = watcher.sure().copied()?;
     let all = watcher.all().copied()?;
     let (accepted, waiting) = (watcher.accepted(), watcher.waiting());
-    Ok(Watcher::from_parts(Sha256Hash, accepted, waiting, sure, all))
+    let newest = watcher.newest();
+    Ok(Watcher::from_parts(Sha256Hash, accepted, waiting, newest, sure, all))
 }
 
 // Makes a watcher again from its parts.
@@ -345,6 +346,10 @@ fn said(
         "head" => watcher.take_head(row.head()).ok()?,
         "entries" => said_of_entries(alloc, watcher, row).ok()?,
         "proof" => watcher.take_proof(&row.hashes(alloc)),
+        "older" => {
+            let head = row.head();
+            watcher.take_older(head, &row.hashes(alloc))
+        }
         _ => return None,
     };
     Some((verdict, verdict.accuses()))
@@ -378,7 +383,7 @@ fn watched(rt: &HostRuntime, rows: &str) -> u32 {
 }
 
 // Groups of rows, each for a watcher of its own, with the number of rows.
-const WATCHED: [(u32, &str); 3] = [
+const WATCHED: [(u32, &str); 5] = [
     // A watcher takes answers.
     (
         9,
@@ -395,17 +400,45 @@ accepted 3 7 ABC (true, true)",
     ),
     // A watcher reports evidence against a log. Python's hashlib computed the reported root of the leaves 41 to 44.
     (
-        9,
+        10,
         "\
 head 3 7 ABC (Pending, false)
 entries 0 ABC (Accepted, false)
-head 2 6 AB (Stale, false)
-head 2 7 AB (Shrunk, true)
+head 2 6 AB (Older(Head { tree_size: 3, timestamp: 7, root: [150, 29, 46, 43, 226, 15, 83, 143, 253, 245, 105, 98, 168, 109, 27, 209, 101, 73, 143, 34, 38, 132, 238, 76, 94, 2, 193, 233, 248, 82, 173, 197] }), false)
+head 2 7 AB (Shrunk(Head { tree_size: 3, timestamp: 7, root: [150, 29, 46, 43, 226, 15, 83, 143, 253, 245, 105, 98, 168, 109, 27, 209, 101, 73, 143, 34, 38, 132, 238, 76, 94, 2, 193, 233, 248, 82, 173, 197] }), true)
 head 3 9 ABC (Again, false)
 head 3 9 A (Fork(Head { tree_size: 3, timestamp: 7, root: [150, 29, 46, 43, 226, 15, 83, 143, 253, 245, 105, 98, 168, 109, 27, 209, 101, 73, 143, 34, 38, 132, 238, 76, 94, 2, 193, 233, 248, 82, 173, 197] }), true)
-head 4 9 ABC (Pending, false)
+head 4 9 ABC (TimeNotLater(Head { tree_size: 3, timestamp: 9, root: [150, 29, 46, 43, 226, 15, 83, 143, 253, 245, 105, 98, 168, 109, 27, 209, 101, 73, 143, 34, 38, 132, 238, 76, 94, 2, 193, 233, 248, 82, 173, 197] }), true)
+head 4 10 ABC (Pending, false)
 entries 3 D (RootMismatch([92, 141, 198, 23, 210, 135, 164, 41, 126, 178, 188, 184, 27, 55, 100, 75, 81, 56, 229, 122, 212, 97, 198, 87, 219, 21, 33, 9, 227, 252, 159, 202]), true)
 all (3, true)",
+    ),
+    // A head is compared with the accepted and with the waiting head, and with each timestamp of both.
+    (
+        8,
+        "\
+head 3 7 ABC (Pending, false)
+entries 0 ABC (Accepted, false)
+head 4 9 ABCD (Pending, false)
+head 3 9 ABC (Shrunk(Head { tree_size: 4, timestamp: 9, root: [92, 141, 198, 23, 210, 135, 164, 41, 126, 178, 188, 184, 27, 55, 100, 75, 81, 56, 229, 122, 212, 97, 198, 87, 219, 21, 33, 9, 227, 252, 159, 202] }), true)
+head 3 8 ABC (Again, false)
+head 4 8 ABCD (TimeNotLater(Head { tree_size: 3, timestamp: 8, root: [150, 29, 46, 43, 226, 15, 83, 143, 253, 245, 105, 98, 168, 109, 27, 209, 101, 73, 143, 34, 38, 132, 238, 76, 94, 2, 193, 233, 248, 82, 173, 197] }), true)
+head 4 20 ABCD (Again, false)
+head 5 20 ABCDE (TimeNotLater(Head { tree_size: 4, timestamp: 20, root: [92, 141, 198, 23, 210, 135, 164, 41, 126, 178, 188, 184, 27, 55, 100, 75, 81, 56, 229, 122, 212, 97, 198, 87, 219, 21, 33, 9, 227, 252, 159, 202] }), true)",
+    ),
+    // A proof leads from an older head to the accepted one, or to the waiting one.
+    (
+        9,
+        "\
+head 3 7 ABC (Pending, false)
+older 2 6 AB C (Consistent, false)
+entries 0 ABC (Accepted, false)
+older 2 6 AB C (Consistent, false)
+older 2 6 A C (Inconsistent(RootMismatch), false)
+older 2 6 AB - (Inconsistent(EmptyPath), false)
+older 0 1 SEVENS - (Inconsistent(FirstMismatch), false)
+older 3 7 ABC - (Gap, false)
+older 9 1 ABC C (Gap, false)",
     ),
     // A larger head is later than the known heads, the accepted and the waiting one. The roots are those of the rows before.
     (

@@ -90,7 +90,7 @@ pub mod code {
     pub const ACCEPTED: u32 = 128;
     pub const PENDING: u32 = 129;
     pub const AGAIN: u32 = 130;
-    pub const STALE: u32 = 131;
+    pub const OLDER: u32 = 131;
     pub const SHRUNK: u32 = 132;
     pub const FORKED: u32 = 133;
     pub const HEAD_NOT_LATER: u32 = 134;
@@ -244,6 +244,8 @@ extern "C" {
     pub fn wagtenib_monitor_head(state: *const u8, state_length: usize, head: *const wagtenib_head, verdict: *mut wagtenib_monitor_verdict, out: *mut u8, room: usize, length: *mut u64) -> u32;
     pub fn wagtenib_monitor_entries(state: *const u8, state_length: usize, start: u64, leaves: *const u8, leaves_length: usize, lengths: *const u64, count: usize, verdict: *mut wagtenib_monitor_verdict, report: *mut wagtenib_entry_report, out: *mut u8, room: usize, length: *mut u64) -> u32;
     pub fn wagtenib_monitor_proof(state: *const u8, state_length: usize, path: *const u8, path_length: usize, verdict: *mut wagtenib_monitor_verdict, out: *mut u8, room: usize, length: *mut u64) -> u32;
+    pub fn wagtenib_monitor_older(state: *const u8, state_length: usize, head: *const wagtenib_head, path: *const u8, path_length: usize, verdict: *mut wagtenib_monitor_verdict, out: *mut u8, room: usize, length: *mut u64) -> u32;
+    pub fn wagtenib_compare_heads(known: *const wagtenib_head, head: *const wagtenib_head) -> u32;
     pub fn wagtenib_monitor_entry(head_timestamp: u64, leaf: *const u8, leaf_length: usize, timestamp: *mut u64) -> u32;
     /// It exists only with the feature, and returns whether the processor's SHA instructions are used in place of the proved code.
     #[cfg(feature = "sha-instructions")]

@@ -1,8 +1,9 @@
 //! A monitor's verdicts on what a log hands out. Its state is bytes, which belong to the caller. To watch a log:
 //!
 //! 1. check the signature of a tree head, and hand the head to [`head`] with the state (that of [`begin`] or of [`start`] at first);
-//! 2. while the verdict is [`Verdict::Pending`], hand the entries from the index [`Judgement::read`] on to [`entries`];
-//! 3. after each call, keep the state of the judgement, and only then act on the verdict.
+//! 2. if the verdict is [`Verdict::Older`], ask the log for a consistency proof to the head that it names, and hand it to [`older`];
+//! 3. while the verdict is [`Verdict::Pending`], hand the entries from the index [`Judgement::read`] on to [`entries`];
+//! 4. after each call, keep the state of the judgement, and only then act on the verdict.
 //!
 //! Each head with the verdict [`Verdict::Accepted`] is that of a beginning of one list of leaves. The library's header says more.
 
@@ -14,7 +15,7 @@ use crate::{Error, Hash};
 use wagtenib_sys as sys;
 
 // Every state has room in so many bytes.
-const ROOM: usize = 4259;
+const ROOM: usize = 4275;
 
 /// A verdict of a monitor.
 #[derive(Clone, Copy, Debug, PartialEq, Eq)]
@@ -25,10 +26,10 @@ pub enum Verdict {
     Pending,
     /// The size and the root of a known head again.
     Again,
-    /// Fewer leaves than a known head has, and an earlier timestamp: nothing against the log.
-    Stale,
-    /// Fewer leaves than a known head has, and not an earlier timestamp.
-    Shrunk,
+    /// Fewer leaves than this known head has, and an earlier timestamp: a consistency proof decides ([`older`]).
+    Older(TreeHead),
+    /// Fewer leaves than this known head has, and not an earlier timestamp.
+    Shrunk(TreeHead),
     /// The size of this known head, and another root.
     Forked(TreeHead),
     /// More leaves than this known head has, and not a later timestamp.
@@ -37,9 +38,9 @@ pub enum Verdict {
     OtherRoot(Hash),
     /// The entries begin elsewhere, or no head waits, or there are no two heads for a proof.
     Gap,
-    /// The proof leads from the accepted head to the waiting one.
+    /// The proof leads from the accepted head to the waiting one, or from an older head to a known one.
     Consistent,
-    /// The proof does not lead there.
+    /// The proof does not lead there, which accuses nobody: the log did not sign it.
     Inconsistent(Error),
 }
 
@@ -47,7 +48,7 @@ impl Verdict {
     /// Returns whether the verdict speaks against the log.
     #[must_use]
     pub fn accuses(&self) -> bool {
-        matches!(self, Verdict::Shrunk | Verdict::Forked(_) | Verdict::NotLater(_) | Verdict::OtherRoot(_) | Verdict::Inconsistent(_))
+        matches!(self, Verdict::Shrunk(_) | Verdict::Forked(_) | Verdict::NotLater(_) | Verdict::OtherRoot(_))
     }
 }
 
@@ -84,8 +85,8 @@ fn verdict_of(reported: &sys::wagtenib_monitor_verdict) -> Verdict {
         sys::code::ACCEPTED => Verdict::Accepted,
         sys::code::PENDING => Verdict::Pending,
         sys::code::AGAIN => Verdict::Again,
-        sys::code::STALE => Verdict::Stale,
-        sys::code::SHRUNK => Verdict::Shrunk,
+        sys::code::OLDER => Verdict::Older(known),
+        sys::code::SHRUNK => Verdict::Shrunk(known),
         sys::code::FORKED => Verdict::Forked(known),
         sys::code::HEAD_NOT_LATER => Verdict::NotLater(known),
         sys::code::OTHER_ROOT => Verdict::OtherRoot(reported.root),
@@ -167,6 +168,36 @@ pub fn proof(state: &[u8], path: &[Hash]) -> Result<Judgement, Error> {
         // SAFETY: as in begin; `path` has so many hashes.
         unsafe { sys::wagtenib_monitor_proof(state.as_ptr(), state.len(), first_of(path), path.len(), verdict, out, room, length) }
     })
+}
+
+/// Judges a consistency proof (RFC 6962, section 2.1.2) from an older head to the accepted one if that has more leaves, otherwise to the waiting one. The state
+/// stays the same.
+///
+/// # Errors
+///
+/// Those of [`head`].
+pub fn older(state: &[u8], head: &TreeHead, path: &[Hash]) -> Result<Judgement, Error> {
+    let head = head.in_c();
+    judged(|verdict, out, room, length| {
+        // SAFETY: as in begin; `path` has so many hashes.
+        unsafe { sys::wagtenib_monitor_older(state.as_ptr(), state.len(), &head, first_of(path), path.len(), verdict, out, room, length) }
+    })
+}
+
+/// Compares two tree heads of one log by their numbers. Returns `None` if `head` has more leaves than `known`, and is later.
+#[must_use]
+pub fn compare(known: &TreeHead, head: &TreeHead) -> Option<Verdict> {
+    let (first, second) = (known.in_c(), head.in_c());
+    // SAFETY: the pointers are those of variables that live through the call.
+    match unsafe { sys::wagtenib_compare_heads(&first, &second) } {
+        0 => None,
+        sys::code::AGAIN => Some(Verdict::Again),
+        sys::code::OLDER => Some(Verdict::Older(*known)),
+        sys::code::SHRUNK => Some(Verdict::Shrunk(*known)),
+        sys::code::FORKED => Some(Verdict::Forked(*known)),
+        sys::code::HEAD_NOT_LATER => Some(Verdict::NotLater(*known)),
+        other => panic!("libwagtenib gave the verdict {other}, which this version of the crate does not know"),
+    }
 }
 
 /// Judges one leaf (MerkleTreeLeaf, RFC 6962, section 3.4) beside a tree head with this timestamp. Returns the timestamp of the leaf. All timestamps are in

@@ -1,8 +1,8 @@
-use Rattle.std.proofs.Common.{◌≡◌, ◌∙◌, ◌++◌, ℕ, List, Option, sym, subst}
+use Rattle.std.proofs.Common.{◌≡◌, ◌++◌, ℕ, List, Option, sym, subst}
 use Rattle.std.specs.Prelude.{MatchOption}
 use Rattle.ct_monitor.specs.StateText.{AreSubtreesInBytes, subtrees_text}
 use Rattle.ct_monitor.specs.declared.reading.Both.{Both}
-use Rattle.ct_monitor.proofs.NoTexts.{no_both}
+use Rattle.ct_monitor.proofs.NoTexts.{AreHeads, AreNoHeads, no_both, no_heads}
 use Rattle.ct_monitor.proofs.reading.parts_in.Goals as goal
 
 abbrev AreAt : List ℕ → Option Both → Type 0
@@ -13,5 +13,8 @@ AreAt old o = MatchOption o
 pub returns-in-None : goal.returns-in-None
 returns-in-None c =
     let none = subst (AreAt c.heads_at.new.reader) c.in-None.is c.in_ok-found.ensures in
-    no_both c.args.bytes.now c.heads_at.new.reader c.in-Some.heads.accepted c.in-Some.heads.waiting c.in-Some.ensures.0 c.in-Some.ensures.1
-    (sym c.new-reader.ensures ∙ c.in-Some.ensures.2) none
+    no_both c.args.bytes.now c.heads_at.new.reader c.in-Some.heads
+    (subst (λ (b : List ℕ). AreHeads b c.heads_at.new.reader c.in-Some.heads) c.new-reader.ensures c.in-Some.ensures) none
+
+pub returns-in_default : goal.returns-in_default
+returns-in_default c = no_heads c.args.bytes.now (subst AreNoHeads c.new-reader.ensures c.in_default.ensures)

@@ -1,14 +1,14 @@
-use Rattle.std.proofs.Common.{◌≡◌, ℕ, List, Option, subst}
+use Rattle.std.proofs.Common.{ℕ, List, Option, subst}
 use Rattle.std.specs.Prelude.{MatchOption}
 use Rattle.sha2.specs.Sha256.{sha256}
 use Rattle.sha2.proofs.Facts256.{length-sha256}
 use Rattle.ct_monitor.specs.WatcherState.{WatcherState}
-use Rattle.ct_monitor.specs.StateText.{IsInBytes, parts_text}
+use Rattle.ct_monitor.specs.StateText.{IsInBytes, IsPartsText}
 use Rattle.ct_monitor.proofs.NoTexts.{no_parts, not_fitting, not_so}
 use Rattle.ct_monitor.proofs.reading.read_state.Goals as goal
 
 abbrev AreParts : List ℕ → Option WatcherState → Type 0
-AreParts parts o = MatchOption o ((s : WatcherState) → IsInBytes s → parts ≡ parts_text s → ⊥) (λ w. IsInBytes w × (parts ≡ parts_text w))
+AreParts parts o = MatchOption o ((s : WatcherState) → IsInBytes s → IsPartsText s parts → ⊥) (λ w. IsInBytes w × IsPartsText w parts)
 
 pub returns-in_default-2 : goal.returns-in_default-2
 returns-in_default-2 c =

@@ -8,6 +8,7 @@ returns g c =
     record {
       accepted = refl;
       waiting = refl;
+      newest = refl;
       sure = record { size = ap (λ p. p.0) c.from_parts.ensures; subtrees = ap (λ p. p.1) c.from_parts.ensures ∙ c.new.ensures.items ∙ sym (peaks-nil H) };
       all = record { size = ap (λ p. p.0) c.from_parts-2.ensures; subtrees = ap (λ p. p.1) c.from_parts-2.ensures ∙ c.new-2.ensures.items ∙ sym (peaks-nil H) };
     }
