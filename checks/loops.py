@@ -7,7 +7,7 @@ The script reads the sources of every crate, except those of tests. It allows
 - a range up to a sum of lengths, of literals below 2^16, and of parameters, wherever the range is (`capacity.py`): a parameter whose type has at most 16 bits, or
   that a `requires` keeps at most a length or a literal below 2^16, or one of a function that C calls,
 - any other `for`, which goes over the elements of a value, except over one that `repeat`, `successors`, `from_fn` or `cycle` of `iter` makes,
-- a `while` that takes elements from a list until it is empty,
+- a `while` that takes elements from a list until it is empty, and adds none to it,
 - a `while` whose number rises to such a sum or falls to 0, if its body changes the number only in that direction,
 - a `while` whose body doubles or halves the number that its head compares, or that halves the distance of two numbers,
 - the loops of BY_NAME, for the reasons there.
@@ -29,7 +29,7 @@ RANGE = re.compile(r"(?<=[\w)])\s*\.\.=?(?!\.)")
 ENDLESS = re.compile(r"\b(?:repeat_with|successors|iter::from_fn|iter::repeat|cycle)\s*(?:::<[^;()]*>)?\(|\bloop\s*\{|\bin\s+rt\.forever\(\)")
 WHILE = re.compile(r"\bwhile\b([^{};]*)\{")
 # Tests of a loop's head that a list answers: it has an element left.
-TAKEN = re.compile(r"let \[[^\]]*@ \.\.\] = \w+|let Some\([^=]*\) = [\w.]+\.(?:pop|pop_front|split_first)\(\)|![\w.]+\.(?:is_empty|is_at_end)\(\)")
+TAKEN = re.compile(r"let \[[^\]]*@ \.\.\] = (\w+)|let Some\([^=]*\) = ([\w.]+)\.(?:pop|pop_front|split_first)\(\)|!([\w.]+)\.(?:is_empty|is_at_end)\(\)")
 RISES = re.compile(r"([\w.]+)(?:\.len\(\))? < (.+)")
 FALLS = re.compile(r"([\w.]+) > 0|([\w.]+) % 2 == [01]")
 # Loops that turn rarely for another reason: the file, the head or the end of the range, and the reason.
@@ -55,6 +55,11 @@ def assigned(name, body):
     return re.findall(rf"(?<![\w.]){re.escape(name)}\s*([-+*/]|<<|>>)?=(?!=)\s*([^;}},]*)", body)
 
 
+def grows(name, body):
+    """Reports whether a loop's body adds elements to a list."""
+    return re.search(rf"(?<![\w.]){re.escape(name)}\.(?:push|extend|insert|append|resize)", body) is not None
+
+
 def is_small(expression, text, clauses, at, known):
     """Reports whether an expression at an offset of a source is such a sum. `clauses` is the source with its clauses."""
     signature, body = function_around(text, at)
@@ -78,8 +83,8 @@ def is_kept_small(name, signature, contract):
 
 def is_counted(test, body, is_small_here):
     """Reports whether a loop whose head has this test, with this body, turns seldom."""
-    if TAKEN.fullmatch(test):
-        return True
+    if found := TAKEN.fullmatch(test):
+        return not grows(next(name for name in found.groups() if name), body)
     if found := RISES.fullmatch(test):
         name, end = found.groups()
         if re.fullmatch(r"\w+", end) and re.search(rf"\blet \w+ = {name} \+ \({end} - {name}\) / 2;", body):
@@ -87,8 +92,8 @@ def is_counted(test, body, is_small_here):
         changes = assigned(name, body)
         if re.fullmatch(rf"\w+ - {re.escape(name)}", end):
             return [change[0] for change in changes] == ["*"]
-        ends = re.findall(r"[A-Za-z_]\w*", end)
-        return all(change[0] == "+" for change in changes) and not any(assigned(one, body) for one in ends) and is_small_here(end)
+        ends = [one.removesuffix(".len") for one in re.findall(r"[A-Za-z_][\w.]*", end)]
+        return all(change[0] == "+" for change in changes) and not any(assigned(one, body) or grows(one, body) for one in ends) and is_small_here(end)
     if found := FALLS.fullmatch(test):
         name = found.group(1) or found.group(2)
         changes = {change[0] for change in assigned(name, body)}
@@ -157,6 +162,8 @@ fn f(list: &[u8]) { let mut i = 0; let mut end = list.len(); while i < end { i +
 fn f(list: &[u8]) { let mut i = 0; while i < list.len() { i += 1; if again() { i = 0; } } }
 fn f() { let mut left = 1u64 << 40; while left > 0 { left -= 1; } }
 fn f(n: usize) { let mut left = n; while left > 0 { left = next(left); } }
+fn f(mut list: Vec<u8>) { let mut i = 0; while i < list.len() { i += 1; list.push(0); } }
+fn f(mut list: Vec<u64>) { while let Some(one) = list.pop() { if one > 0 { list.push(one - 1); } } }
 fn f(n: u64) { let mut power = 1; while power < n - power { power += 1; } }
 fn f(mut n: u64) { while n % 2 == 1 { n = next(n); } }
 fn f() { while again() { g(); } }
