@@ -161,6 +161,7 @@ wrong: ## has the prover refuse the wrong bodies of CRATE=ct_core (crates/*/wron
 # What no contract can say of the sources, what docs/CHECKING.md is made from, and what the documents name.
 sources: ## looks through the sources, the documents and the scripts of examples/ and tests/, in three to five minutes, without a proof
 	@PYTHONDONTWRITEBYTECODE=1 python3 checks/allocation_errors.py
+	@PYTHONDONTWRITEBYTECODE=1 python3 checks/loops.py
 	@PYTHONDONTWRITEBYTECODE=1 python3 checks/fault_causes.py
 	@PYTHONDONTWRITEBYTECODE=1 python3 checks/definitions.py
 	@PYTHONDONTWRITEBYTECODE=1 python3 checks/wrong_bodies.py

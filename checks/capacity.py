@@ -77,6 +77,8 @@ def is_bounded(expression, signature, body, known, given=None):
     """Reports whether an expression is such a sum, in a function with this signature and with this body before it. The parameters that it contains join
     `given`."""
     expression = expression.strip().lstrip("&*").removesuffix("?").strip()
+    if expression.startswith("(") and closing(expression, 0) == len(expression):
+        expression = expression[1:-1].strip()
     terms = parts(expression, "+")
     if len(terms) > 1:
         return all(is_bounded(term, signature, body, known, given) for term in terms)

@@ -49,7 +49,7 @@ IsNoTrue false = ⊤
 no_false : false ≡ true → ⊥
 no_false q = subst IsNoTrue q tt
 
-and_true : (a b : Bool) → (a && b) ≡ true → (a ≡ true) × (b ≡ true)
+pub and_true : (a b : Bool) → (a && b) ≡ true → (a ≡ true) × (b ≡ true)
 and_true true b q = (refl, q)
 and_true false b q = absurd (no_false q)
 
@@ -692,9 +692,12 @@ module _ (count : State → ℕ) where
       let w1 : World = happens w (Puts l n i) in
       first w (Puts l n i) l (h, omega (arith, e)) refl (put_all j (i + 1) n w1 l (omega (arith, e)) h (put_one w l n i out))
 
+pub is_kept : (count : State → ℕ) (b : State) (hs : List Happening) (w : World) → IsFirstState count b → LeadTo count (beginning b) hs w → Kept count b w
+is_kept count b hs w i m = led count b (beginning b) hs w (begin count b i) m
+
 pub can_be_published : CanBePublished
 can_be_published count b hs w i m =
-    let a = led count b (beginning b) hs w (begin count b i) m in
+    let a = is_kept count b hs w i m in
     let k = w.held in
     let w1 : World = happens w (Told Reading (Read k)) in
     let w2 : World = happens w1 (Told (Looking k) (Bundle (count k))) in
@@ -703,7 +706,7 @@ can_be_published count b hs w i m =
     (put_all count (count k) 0 (count k) w2 k (omega arith) (inl refl) (λ i c. absurd (omega (arith, c)))))
 
 pub worlds_are_sound : WorldsAreSound
-worlds_are_sound count b hs w i m = (led count b (beginning b) hs w (begin count b i) m).sound
+worlds_are_sound count b hs w i m = (is_kept count b hs w i m).sound
 
 -- each state that came no later than one with a published head has a head, too
 pub before_head : (count : State → ℕ) (w : World) (l n : State) → IsSoundWorld count w → Has l w.heads → Has n w.past → n.moment ≤ l.moment → Has n w.heads
@@ -725,12 +728,12 @@ heads_are_whole count b hs w i m l n head past order =
 
 pub steps_find_all : StepsFindAll
 steps_find_all count b hs w i m k l sent past order =
-    let a = led count b (beginning b) hs w (begin count b i) m in
+    let a = is_kept count b hs w i m in
     let h : Has l w.heads = before_head count w k l a.sound (a.sent (Stepping k) sent).1 past order in
     (a.sound.placed l h, a.sound.tiles l h)
 
 pub pasts_are_chains : PastsAreChains
-pasts_are_chains count b hs w i m = (led count b (beginning b) hs w (begin count b i) m).chain
+pasts_are_chains count b hs w i m = (is_kept count b hs w i m).chain
 
 newest_first : (h : State) (past : List State) → IsNewest h past → (rest : List State) × (past ≡ h ∷ rest)
 unfolding IsNewest
@@ -738,11 +741,11 @@ newest_first h [] n = absurd n
 newest_first h (l ∷ rest) n = (rest, ap (λ z. z ∷ rest) (sym n))
 
 pub holds_newest : HoldsNewest
-holds_newest count b hs w i m = newest_first w.held w.past (led count b (beginning b) hs w (begin count b i) m).top
+holds_newest count b hs w i m = newest_first w.held w.past (is_kept count b hs w i m).top
 
 pub staged_stand : StagedStand
 staged_stand count b hs w i m k l n sent e =
-    let r = (led count b (beginning b) hs w (begin count b i) m).sent (Swapping k l n) sent in
+    let r = (is_kept count b hs w i m).sent (Swapping k l n) sent in
     let h : w.held.moment ≡ k.moment = ap (λ (z : State). z.moment) e in
     ⊎_elim
     (λ (stands : Has l w.bundles). stands)
@@ -750,7 +753,7 @@ staged_stand count b hs w i m k l n sent e =
     r.3
 
 pub asked_are_taken : AskedAreTaken
-asked_are_taken count b hs w i m l sent = ((led count b (beginning b) hs w (begin count b i) m).sent (Heading l) sent).0
+asked_are_taken count b hs w i m l sent = ((is_kept count b hs w i m).sent (Heading l) sent).0
 
 pub names_have_one_content : NamesHaveOneContent
 names_have_one_content count b hs w i m plan agree o p ho hp same =

@@ -1,6 +1,7 @@
 //! Theorems about the definitions. Each is a clause of a function that does nothing.
 
 ghost use Rattle.ct_node.specs.LookUps.{StatesAddOthers};
+ghost use Rattle.ct_node.specs.Progress.{IsNear, StartedNodesAnswer, NodesAnswerAgain};
 ghost use Rattle.ct_node.specs.Starts.{GoesBehindNone, CreatesOverNothing, AnswersTell, ShownNeverGoesBack};
 ghost use Rattle.ct_node.specs.Sweeps.{SweepsKeep};
 ghost use Rattle.ct_node.specs.TakeUps.{StartsTakeUpNewest, StartsGoOn};
@@ -30,6 +31,17 @@ pub fn worlds()
     ensures asked { AskedAreTaken }
     ensures names { NamesHaveOneContent }
     ensures others { StatesAddOthers }
+{}
+
+/// Suppose that no store fails: a reading returns the state that the lock holds, the lock refuses a swap only if it took another one since,
+/// and each other command succeeds. Nothing is said of time, and nothing says that stores do not fail.
+/// - `near`: a node is at most 8 outcomes away from its answer. Each success brings it nearer ([`crate::Node::next`]).
+/// - `started`: whatever happened before, let n nodes start. Some node comes to its answer within 9 n outcomes, whichever nodes get them.
+/// - `again`: for n nodes with any commands that were given before, this holds within 13 n outcomes.
+pub fn progress()
+    ensures near { IsNear }
+    ensures started { StartedNodesAnswer }
+    ensures again { NodesAnswerAgain }
 {}
 
 /// Suppose that a partial tile is deleted only after its full tile was put, and a head only after a later one was put. Then, for any

@@ -1,6 +1,7 @@
 //! The commands of a node, and which command comes after which.
-ghost use Rattle.std.specs.Prelude.{◌≡◌};
+ghost use Rattle.std.specs.Prelude.{◌≡◌, ◌<◌};
 ghost use Rattle.ct_node.specs.Nodes.{after, follows, is_behind};
+ghost use Rattle.ct_node.specs.Progress.{distance, IsSuccess};
 
 use crate::state::State;
 
@@ -68,6 +69,7 @@ impl Node {
     /// Returns the command that follows this one after `outcome`. An outcome that belongs to another command changes nothing.
     pub fn next(self, outcome: Outcome) -> Node
         ensures next { result ≡ after self outcome }
+        ensures nearer { IsSuccess self outcome → distance result < distance self }
     {
         match (self, outcome) {
             (Node::Reading, Outcome::Read(held)) => Node::Looking(held),
