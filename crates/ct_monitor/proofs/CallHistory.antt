@@ -17,7 +17,7 @@ use Rattle.ct_verify.proofs.OlderTree.{proof_goes_back}
 use Rattle.std.proofs.lemmas.Option.{same_Some}
 use Rattle.ct_monitor.specs.Followed.{IsFollowing}
 use Rattle.ct_monitor.specs.Heads.{IsHeadOfAll, at_timestamp}
-use Rattle.ct_monitor.specs.Watched.{Watched, leaves_read, waiting_or, newest_or, read_on, after_again, after_head, after_verdict, earliest, latest, nothing_seen}
+use Rattle.ct_monitor.specs.Watched.{Watched, leaves_read, waiting_or, newest_or, read_on, after_again, after_head, after_verdict, earliest_with, newest_with, nothing_seen}
 use Rattle.ct_monitor.specs.Verdicts.{IsSaid, IsGrownLater, IsNotAccused, KnownSay, LeadsTo, OlderSays, WaitingSays, HeadSays, EntriesSay, ProofSays, after_entries, is_again}
 use Rattle.ct_monitor.specs.WatcherState.{WatcherState, Keeps}
 use Rattle.ct_monitor.specs.declared.verdict.Verdict.{Verdict}
@@ -117,12 +117,12 @@ again_cases : (P : Head → ℕ → Type 0) (known : Head) (newest : ℕ) (head 
 again_cases P known newest head true same other = same refl
 again_cases P known newest head false same other = other refl
 
-again_following : (H : List ℕ → List ℕ) (D : List (List ℕ)) (known : Option Head) (head : Head) → IsFollowing H D known → IsFollowing H D (earliest known head)
+again_following : (H : List ℕ → List ℕ) (D : List (List ℕ)) (known : Option Head) (head : Head) → IsFollowing H D known → IsFollowing H D (earliest_with known head)
 again_following H D None head f = f
 again_following H D (Some known) head f =
     again_cases (λ k n. IsHeadOfAll H D k) known 0 head (known.tree_size == head.tree_size) (λ e. f) (λ e. f)
 
-again_fits : (known : Option Head) (newest : ℕ) (head : Head) → NewestFits known newest → NewestFits (earliest known head) (latest known newest head)
+again_fits : (known : Option Head) (newest : ℕ) (head : Head) → NewestFits known newest → NewestFits (earliest_with known head) (newest_with known newest head)
 again_fits None newest head f = f
 again_fits (Some known) newest head f =
     again_cases (λ k n. k.timestamp ≤ n) known newest head (known.tree_size == head.tree_size) (λ e. omega (arith, f)) (λ e. f)
@@ -171,7 +171,7 @@ still_grown known waiting newest head less later apart false false e f = (less, 
 
 again_grown : (accepted : Option Head) (waiting : Head) (newest : Newest) (head : Head) → IsGrownLater accepted newest.accepted waiting
     → KnownSay accepted (Some waiting) newest head Again
-    → IsGrownLater (earliest accepted head) (latest accepted newest.accepted head)
+    → IsGrownLater (earliest_with accepted head) (newest_with accepted newest.accepted head)
     (if waiting.tree_size == head.tree_size then at_timestamp waiting (min waiting.timestamp head.timestamp) else waiting)
 again_grown None waiting newest head g s = tt
 again_grown (Some known) waiting newest head g s =
@@ -179,7 +179,7 @@ again_grown (Some known) waiting newest head g s =
     (waiting.tree_size == head.tree_size) refl refl
 
 again_waiting : (w : Watched) (waiting : Option Head) (head : Head) → IsWaiting w waiting → KnownSay w.accepted waiting w.newest head Again
-    → IsWaiting (after_again w head) (earliest waiting head)
+    → IsWaiting (after_again w head) (earliest_with waiting head)
 again_waiting w None head i s = i
 again_waiting w (Some waiting) head i s = (
   again_grown w.accepted waiting w.newest head i.0 s,

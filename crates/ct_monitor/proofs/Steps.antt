@@ -7,7 +7,7 @@ use Rattle.std.proofs.lemmas.List.{append_assoc, map-append, take-map, take_all,
 use Rattle.ct_tree.specs.Stack.{Stands}
 use Rattle.ct_tree.specs.Tree.{hash_leaf}
 use Rattle.ct_tree.specs.declared.head.Head.{Head}
-use Rattle.ct_monitor.specs.Watched.{Watched, leaves_read, waiting_or, newest_or, read_on, with_more, after_verdict, after_again, after_head, earliest, latest}
+use Rattle.ct_monitor.specs.Watched.{Watched, leaves_read, waiting_or, newest_or, read_on, with_more, after_verdict, after_again, after_head, earliest_with, newest_with}
 use Rattle.ct_monitor.specs.Verdicts.{IsSaid, IsGrownLaterThanBoth, KnownSay, LeavesSay, WaitingSays, EntriesSay, after_entries, is_again}
 use Rattle.ct_monitor.specs.WatcherState.{WatcherState, Keeps}
 use Rattle.ct_monitor.specs.declared.newest.Newest.{Newest}
@@ -69,19 +69,19 @@ settled_after H w head waiting (Inconsistent fault) s = absurd s
 -- the state after a known head was handed out again
 abbrev pub state_again : WatcherState → Head → WatcherState
 state_again s head = record s {
-  accepted = earliest s.accepted head;
-  waiting = earliest s.waiting head;
-  newest = record { accepted = latest s.accepted s.newest.accepted head; waiting = latest s.waiting s.newest.waiting head };
+  accepted = earliest_with s.accepted head;
+  waiting = earliest_with s.waiting head;
+  newest = record { accepted = newest_with s.accepted s.newest.accepted head; waiting = newest_with s.waiting s.newest.waiting head };
 }
 
 abbrev newest_after : Option Head → Option Head → Newest → Head → Newest
 newest_after accepted waiting newest head =
-    record { accepted = latest accepted newest.accepted head; waiting = latest waiting newest.waiting head }
+    record { accepted = newest_with accepted newest.accepted head; waiting = newest_with waiting newest.waiting head }
 
 keeps_again : (H : List ℕ → List ℕ) (s : WatcherState) (w : Watched) (head : Head) → Keeps H s w → Keeps H (state_again s head) (after_again w head)
 keeps_again H s w head k = record {
-  accepted = ap (λ (o : Option Head). earliest o head) k.accepted;
-  waiting = ap (λ (o : Option Head). earliest o head) k.waiting;
+  accepted = ap (λ (o : Option Head). earliest_with o head) k.accepted;
+  waiting = ap (λ (o : Option Head). earliest_with o head) k.waiting;
   newest = ap (λ (o : Option Head). newest_after o s.waiting s.newest head) k.accepted ∙ ap (λ (o : Option Head). newest_after w.accepted o s.newest head) k.waiting
       ∙ ap (λ (n : Newest). newest_after w.accepted w.waiting n head) k.newest;
   sure = k.sure;

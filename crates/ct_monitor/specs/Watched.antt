@@ -49,22 +49,22 @@ after_verdict w head newest Pending = record w { waiting = Some head; newest = r
 after_verdict w head newest v = w
 
 -- a known head after this one: if this one has its size, the earlier of the two timestamps counts
-abbrev pub earliest : Option Head → Head → Option Head
-earliest None head = None
-earliest (Some known) head =
+abbrev pub earliest_with : Option Head → Head → Option Head
+earliest_with None head = None
+earliest_with (Some known) head =
     Some (if known.tree_size == head.tree_size then at_timestamp known (min known.timestamp head.timestamp) else known)
 
 -- the newest timestamp of a known head after this one: if this one has its size, the later of the two counts
-abbrev pub latest : Option Head → ℕ → Head → ℕ
-latest None newest head = newest
-latest (Some known) newest head = if known.tree_size == head.tree_size then max newest head.timestamp else newest
+abbrev pub newest_with : Option Head → ℕ → Head → ℕ
+newest_with None newest head = newest
+newest_with (Some known) newest head = if known.tree_size == head.tree_size then max newest head.timestamp else newest
 
 -- a known head was handed out again
 abbrev pub after_again : Watched → Head → Watched
 after_again w head = record w {
-  accepted = earliest w.accepted head;
-  waiting = earliest w.waiting head;
-  newest = record { accepted = latest w.accepted w.newest.accepted head; waiting = latest w.waiting w.newest.waiting head };
+  accepted = earliest_with w.accepted head;
+  waiting = earliest_with w.waiting head;
+  newest = record { accepted = newest_with w.accepted w.newest.accepted head; waiting = newest_with w.waiting w.newest.waiting head };
 }
 
 -- the data that was handed out, after the verdict on a head

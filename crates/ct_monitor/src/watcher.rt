@@ -5,7 +5,7 @@ ghost use Rattle.ct_tree.specs.Tree.{hash_leaf};
 ghost use Rattle.ct_tree.specs.declared.head.Head.{Head};
 ghost use Rattle.ct_monitor.specs.Heads.{IsHeadOfAll};
 ghost use Rattle.ct_monitor.specs.declared.verdict.Verdict.TheVariants.{Accepted};
-ghost use Rattle.ct_monitor.specs.Watched.{Watched, after_head, after_verdict, earliest, latest, newest_or, nothing_seen, read_on, waiting_or, with_more};
+ghost use Rattle.ct_monitor.specs.Watched.{Watched, after_head, after_verdict, earliest_with, newest_with, newest_or, nothing_seen, read_on, waiting_or, with_more};
 ghost use Rattle.ct_monitor.specs.Verdicts.{EntriesSay, HeadSays, IsGrownLater, IsGrownLaterThanBoth, IsLarger, IsNoLarger, IsSaid, KnownSay, LeadsTo, LeavesSay, OlderSays, ProofSays, WaitingSays, after_entries};
 ghost use Rattle.ct_monitor.specs.WatcherState.{Keeps, WatcherState};
 
@@ -84,8 +84,8 @@ fn by_known(
 }
 
 // A known head after this one: if this one has its size, the earlier of the two timestamps counts.
-fn earliest(known: Option<Head>, head: &Head) -> Option<Head>
-    ensures { result ≡ earliest known head.now }
+fn earliest_with(known: Option<Head>, head: &Head) -> Option<Head>
+    ensures { result ≡ earliest_with known head.now }
 {
     match known {
         None => None,
@@ -105,8 +105,8 @@ fn earliest(known: Option<Head>, head: &Head) -> Option<Head>
 }
 
 // The newest timestamp of a known head after this one: if this one has its size, the later of the two counts.
-fn latest(known: Option<Head>, newest: u64, head: &Head) -> u64
-    ensures { result ≡ latest known newest head.now }
+fn newest_with(known: Option<Head>, newest: u64, head: &Head) -> u64
+    ensures { result ≡ newest_with known newest head.now }
 {
     match known {
         None => newest,
@@ -354,17 +354,17 @@ impl<H: NodeHash + Drop> Watcher<H> {
     // Remembers the timestamp of a head that was handed out again.
     fn remember(&mut self, head: &Head)
         ensures { self.new ≡ record self.old {
-          accepted = earliest self.old.accepted head.now;
-          waiting = earliest self.old.waiting head.now;
-          newest = record { accepted = latest self.old.accepted self.old.newest.accepted head.now; waiting = latest self.old.waiting self.old.newest.waiting head.now };
+          accepted = earliest_with self.old.accepted head.now;
+          waiting = earliest_with self.old.waiting head.now;
+          newest = record { accepted = newest_with self.old.accepted self.old.newest.accepted head.now; waiting = newest_with self.old.waiting self.old.newest.waiting head.now };
         } }
     {
         self.newest = Newest {
-            accepted: latest(self.accepted, self.newest.accepted, head),
-            waiting: latest(self.waiting, self.newest.waiting, head),
+            accepted: newest_with(self.accepted, self.newest.accepted, head),
+            waiting: newest_with(self.waiting, self.newest.waiting, head),
         };
-        self.accepted = earliest(self.accepted, head);
-        self.waiting = earliest(self.waiting, head);
+        self.accepted = earliest_with(self.accepted, head);
+        self.waiting = earliest_with(self.waiting, head);
     }
 
     // Keeps what a known head says of this one: its timestamp, if it was handed out again.
