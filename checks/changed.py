@@ -2,7 +2,7 @@
 """Proves the crates that changed: each crate whose own text, or what it reads from its dependencies, changed since it was last proved here.
 
 A crate reads the contracts, specs and proofs of its dependencies, but not their bodies. So if only a body changed, that crate is proved, and no crate that
-depends on it. `make test` proves everything from scratch, and decides. This script is for daily work: it proves crates of tests and measurements as
+depends on it. `make prove` proves everything from scratch, and decides. This script is for daily work (make check): it proves crates of tests and measurements as
 programs, without their tests. A checksum of everything with which a crate was last proved is in crates/NAME/out/proved. If a crate was changed during its
 proof, the checksum is unknown, and the file is deleted.
 """
@@ -88,7 +88,7 @@ def main():
         check.reads.pop(name, None)
         kept.write_text(sum_now or "")
         proved += 1
-    print(f"{len(names)} crates proved, {proved} of them now, in {int(time.monotonic() - start)} s. This leaves out tests and wrong bodies (make test), and the Go part (make service-test).")
+    print(f"{len(names)} crates proved, {proved} of them now, in {int(time.monotonic() - start)} s. This leaves out tests and wrong bodies (make prove), and all that needs no prover (make test).")
 
 
 if __name__ == "__main__":

@@ -19,7 +19,7 @@ if [ ! -e "$log/log.pem" ]; then
   exit 1
 fi
 "$here/../deps/fetch.sh" openssl
-echo "The decisions of this witness are proved code, compiled from dist/. To prove them here: make check, with the Rattle kit (README.md, 'With the kit')."
+echo "The decisions of this witness are proved code, compiled from dist/. To prove them here: make prove, with the Rattle kit (README.md, 'With the kit')."
 "$here/build.sh" build
 mkdir -p "$folder"
 folder=$(cd "$folder" && pwd)

@@ -22,7 +22,7 @@ if [ ! -e "$folder/made" ] && [ -n "$(ls -A "$folder" 2>/dev/null)" ]; then
   exit 1
 fi
 "$here/../deps/fetch.sh" openssl
-echo "The decisions of this log are proved code, compiled from dist/. To prove them here: make check, with the Rattle kit (README.md, 'With the kit')."
+echo "The decisions of this log are proved code, compiled from dist/. To prove them here: make prove, with the Rattle kit (README.md, 'With the kit')."
 [ -x "$here/out/ctserve" ] || echo "Building ctserve, a minute and a half of one processor."
 "$here/build.sh" build
 mkdir -p "$(dirname "$folder")"

@@ -60,7 +60,7 @@ def run(line):
     left_out = [one.removeprefix(LEFT_OUT) for one in lines if one.startswith(LEFT_OUT)]
     if part.returncode:
         return Ended(0, 1, left_out, said)
-    return Ended(not lines or len(left_out) < len(lines), 0, left_out)
+    return Ended(int(not lines or len(left_out) < len(lines)), 0, left_out)
 
 
 def run_go():
@@ -68,7 +68,7 @@ def run_go():
     counts, left_out, said = collections.Counter(), [], collections.defaultdict(list)
     # (a hundred times as many histories as the simulation's own test has: they take 85 to 105 seconds of a processor)
     os.environ.setdefault("SIM_HISTORIES", "10000")
-    part, shown = started(f"{GO_TESTS} all -timeout 1h -json"), []
+    part, shown = started(f"{GO_TESTS} -timeout 1h -json"), []
     for line in part.stdout:
         try:
             event = json.loads(line)

@@ -140,7 +140,7 @@ ELSEWHERE = {
     "examples/README.md": {"examples/pem_lines.py": HERE},
     "examples/link/README.md": {"": BY_HAND},
     "release/README.md": {"apt-get install": BARE, "": BY_HAND},
-    "docs/SERVICE.md": {**dict.fromkeys(("make deps", "make service-engines", "make service-test"), BY_HAND), "make service": HERE, "openssl genpkey": BARE, "cp 2027h1.pem": BARE,
+    "docs/SERVICE.md": {**dict.fromkeys(("make deps", "make service-engines", "make test"), BY_HAND), "make service": HERE, "openssl genpkey": BARE, "cp 2027h1.pem": BARE,
                         "cat > /etc/ctwitness/a.conf": BARE, "runuser -u ctwitness": BARE, "systemctl": BARE, "ctwatch cosign": BARE, "apt-get install": BARE,
                         "(printf '{\"chain\":['": HERE, "curl -s -d @chain.json": HERE, "curl -s '127.0.0.1:8618/ct/v1/get-entr": HERE},
 }
