@@ -33,6 +33,7 @@ prove: ## proves every crate, tries wrong bodies, and runs the tests of the crat
 	@PYTHONDONTWRITEBYTECODE=1 python3 checks/prove.py
 
 claim: ## proves what one claim of docs/CHECKING.md needs, CLAIM=verifiers, and shows that a wrong body is refused; without CLAIM it prints the claims
+	@$(if $(CLAIM),checks/needs.sh claim)
 	@PYTHONDONTWRITEBYTECODE=1 python3 checks/claim.py $(CLAIM)
 
 # On a terminal it asks before it installs anything. SETUP=no says what is missing, and SETUP=yes installs a C compiler even if apt upgrades others for it.

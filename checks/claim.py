@@ -4,8 +4,8 @@
     claim.py [CLAIM]
 
 A claim needs the crates whose contracts its page (docs/checking) has, and all crates below them. The script copies these crates, adds the wrong body of BREAKS to the copy,
-and has `rt ci` prove and try them there. What is proved is kept for later runs, also of the gate. It ends with status 0 if everything is proved and the wrong body is
-refused, with 1 if not, and with 2 if there is no such claim. Without an argument, it prints the claims.
+and has `rt ci` prove and try them there. `rt ci` keeps the proofs for later runs, also for the gate. The status is 0 if everything is proved and the wrong body is refused,
+1 if not, and 2 if there is no such claim. Without an argument, the script prints the claims.
 """
 import importlib.util
 import os

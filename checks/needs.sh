@@ -1,5 +1,5 @@
 #!/usr/bin/env bash
-# Says which tools a target of the Makefile that needs the kit lacks here: needs.sh demo|prove|check|link|dist|programs. deps/fetch.sh fetches what the others need.
+# Says which tools a target of the Makefile that needs the kit lacks here: needs.sh demo|prove|claim|check|link|dist|programs. deps/fetch.sh fetches what the others need.
 set -u
 cd "$(dirname "$0")/.." || exit
 what=$1

@@ -150,7 +150,7 @@ def try_parts(repository):
         ("a script that fails", "import sys\nsys.exit('other bytes')", "exit 1", ("tests/scripts.py",), 1, 0, 1, parts.OTHERS),
         ("a script that leaves all out", ABSENT, "exit 1", ("tests/scripts.py",), 0, 0, 0, gcc),
         ("a script that leaves a part out", f"{ABSENT}\nprint('the rest is right')", "exit 1", ("tests/scripts.py",), 0, 1, 0, gcc),
-        ("a part that there is not", "", "exit 0", ("tests/none",), 1, None, None, None),
+        ("a part that there is not", "", "exit 0", ("tests/none",), 2, None, None, None),
     ):
         repository.put_scripts(all_of_it, python, "exit 0")
         (repository.folder / "cmd" / "build.sh").write_text(f"#!/bin/sh\n[ $1 != vet ] || exit 0\n{build}\n")

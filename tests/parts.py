@@ -3,9 +3,9 @@
 
     parts.py [BEGINNING ..]
 
-PARTS has the commands. With arguments, only those run that begin with one of them: `make test ONLY=checks/`, for example. go vet and the Go tests use all
-processors, so each runs by itself. Then as many others run at a time as there are processors. A line says when a part ends. What a part printed is printed if it
-failed.
+PARTS has the commands. With arguments, the script runs only those that begin with one of them: `make test ONLY=checks/`, for example. go vet and the Go tests
+use all processors, so each runs by itself. After them, as many other parts run at a time as there are processors. When a part ends, a line says what it came to.
+Its output is printed only if it failed.
 
 A part counts as one test, and the Go part as many as it has. A line that begins with 'left out: ' says what a part did not test, and why. A part that prints only
 such lines is not counted. The last two lines are 'N passed, M failed', and what was not checked. The status is 0 if nothing failed.
@@ -129,7 +129,8 @@ def main():
     wanted = tuple(sys.argv[1:])
     parts = [line for line in (*ALONE, *PARTS) if line.startswith(wanted or "")]
     if not parts:
-        sys.exit(f"parts.py: no part begins with {' or '.join(wanted)}: they are {', '.join((*ALONE, *PARTS))}")
+        print(f"parts.py: no part begins with {' or '.join(wanted)} (they are {', '.join((*ALONE, *PARTS))})", file=sys.stderr)
+        sys.exit(2)
     processors = len(os.sched_getaffinity(0))
     print(f"{len(parts)} parts on {processors} processors. All of them take some {60 // processors} minutes at most.", flush=True)
     progress = Progress(len(parts))
