@@ -32,7 +32,7 @@ PARTS = [
     *(f"tests/library/{name}.py" for name in ("proofs", "step", "guard", "witness", "monitor", "node", "names", "data_tiles", "texts", "cost", "rust")),
     *("bindings/python/tests/compare.py", "tests/scripts.py", "tests/checks.py", "tests/user_scripts.py", "release/prometheus/check.sh"),
     *("checks/fault_causes.py", "checks/wrong_bodies.py", "checks/header.py", "checks/dist.py --sources"),
-    *("checks/documents.py", "checks/promises.py", "checks/architecture.py", "checks/pictures.py", "examples/demo.sh path"),
+    *("docs/check.sh", "examples/demo.sh path"),
 ]
 OTHERS = "the proofs (make prove), data races (make service-race), engines (make service-engines), other clients (make service-clients)"
 
