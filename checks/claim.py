@@ -8,7 +8,6 @@ and has `rt ci` prove and try them there. `rt ci` keeps the proofs for later run
 1 if not, and 2 if there is no such claim. Without an argument, the script prints the claims.
 """
 import importlib.util
-import os
 import pathlib
 import re
 import shutil
