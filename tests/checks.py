@@ -140,7 +140,7 @@ ABSENT = "print('left out: a comparison (gcc is not installed)')"
 def try_parts(repository):
     """parts.py counts each script, and each test of the Go part. It says what was left out, and runs what is asked for."""
     others, all_of_it = len(parts.PARTS), (*parts.ALONE, *parts.PARTS)
-    nginx, gcc = "one TestB (nginx is not installed)", "a comparison (gcc is not installed)"
+    nginx, gcc = "TestB (nginx is not installed)", "a comparison (gcc is not installed)"
     for what, python, build, words, status, passed, failed, says in (
         ("all of it as due", "", PASSED, (), 0, 2 + others, 0, f"{parts.OTHERS}; {nginx}"),
         ("a Go test that fails", "", FAILED, (), 1, 2 + others, 1, parts.OTHERS),

@@ -65,8 +65,8 @@ def run(line):
 
 def run_go():
     """Runs the Go tests, and says when a package is done. The subtests of a test count as one."""
-    counts, left_out, said = collections.Counter(), [], collections.defaultdict(list)
-    # (a hundred times as many histories as the simulation's own test has: they take 85 to 105 seconds of a processor)
+    counts, left_out, said = collections.Counter(), collections.defaultdict(list), collections.defaultdict(list)
+    # (go test alone simulates 300 histories; these take 85 to 105 seconds of a processor)
     os.environ.setdefault("SIM_HISTORIES", "10000")
     part, shown = started(f"{GO_TESTS} -timeout 1h -json"), []
     for line in part.stdout:
@@ -84,12 +84,13 @@ def run_go():
             if action == "fail":
                 shown.append(text)
             elif test and action == "skip":
-                left_out.append(f"{package.removeprefix('wagtenib/')} {test} ({why(text)})")
+                left_out[why(text)].append(test)
             if not test and action != "skip":
                 print(f"      {package.removeprefix('wagtenib/')}: {action}, {event.get('Elapsed', 0):.0f} s", flush=True)
     shown += ["".join(texts) for texts in said.values()]
-    failed = counts["fail"] or int(part.wait() != 0 or not counts["pass"])
-    return Ended(counts["pass"], failed, left_out, "".join(shown) if failed else "")
+    is_wrong = part.wait() != 0 or not counts["pass"]
+    told = [f"{', '.join(tests)} ({reason})" for reason, tests in left_out.items()]
+    return Ended(counts["pass"], max(counts["fail"], int(is_wrong)), told, "".join(shown) if is_wrong else "")
 
 
 def why(text):
@@ -132,13 +133,14 @@ def main():
         print(f"parts.py: no part begins with {' or '.join(wanted)} (they are {', '.join((*ALONE, *PARTS))})", file=sys.stderr)
         sys.exit(2)
     processors = len(os.sched_getaffinity(0))
-    print(f"{len(parts)} parts on {processors} processors. All of them take some {60 // processors} minutes at most.", flush=True)
+    is_all = len(parts) == len(ALONE) + len(PARTS)
+    print(f"{len(parts)} parts on {processors} processors{f', in {max(5, 60 // processors)} minutes at most' if is_all else ''}.", flush=True)
     progress = Progress(len(parts))
     run_parts([line for line in parts if line in ALONE], 1, progress)
     run_parts([line for line in parts if line not in ALONE], processors, progress)
     print(f"{progress.passed} passed, {progress.failed} failed")
-    of_parts = f"; all parts but {len(parts)}" if len(parts) < len(ALONE) + len(PARTS) else ""
-    print(f"Not checked: {'; '.join([OTHERS + of_parts, *dict.fromkeys(progress.left_out)])}.")
+    not_checked = [OTHERS, *["all other parts"] * (not is_all), *dict.fromkeys(progress.left_out)]
+    print(f"Not checked: {'; '.join(not_checked)}.")
     sys.exit(1 if progress.failed else 0)
 
 
