@@ -88,7 +88,7 @@ def is_refused(claim, crates):
     print(f"The wrong body crates/{crate}/wrong-bodies/{edit.name} is {'refused' if refused else 'NOT REFUSED (the lines above say why)'}:\n")
     print(prove.for_rt(edit).rstrip("\n"))
     if refused:
-        print(f"\nThe prover says of it: {refused[1]}")
+        print(f"\nThe prover says of it: {refused[1]} ..")
     return proved and bool(refused)
 
 
