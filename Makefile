@@ -1,4 +1,4 @@
-.PHONY: help demo test check deps service service-test service-race service-engines service-soak histories service-audit service-clients cluster cluster-status cluster-stop link link-emulated dist install install-library install-ctlog fuzz sweep wrong sources serve serve-witness programs release reproduce bare container
+.PHONY: help demo test prove claim check deps service service-race service-engines service-soak histories service-audit service-clients cluster cluster-status cluster-stop link link-emulated dist install install-library install-ctlog fuzz sweep wrong serve serve-witness programs release reproduce bare container
 
 SECONDS ?= 60
 PREFIX ?= /usr/local
@@ -22,13 +22,19 @@ demo: ## proves ctlog, and shows what it and the library do as soon as each is p
 	@checks/needs.sh demo
 	@examples/demo.sh
 
-# TURN=0 to 8 says of which ninth of the crates it tries the wrong bodies that every ninth gate tries.
-# GO=no leaves the Go part out, SETUP=no fetches and installs nothing for it. The file COUNT gets how many of its tests passed.
-test: ## the gate: proves every crate from nothing, and runs the tests and the program
-	@checks/needs.sh test
-	@$(MAKE) --silent sources
-	@COUNT="$(CURDIR)/cmd/out/count" $(MAKE) --silent service-test
-	@COUNT="$(CURDIR)/cmd/out/count" PYTHONDONTWRITEBYTECODE=1 python3 checks/gate.py
+# It fetches and installs what is missing, as make deps does. ONLY=checks/ runs only the parts that begin with this.
+test: ## runs all tests that need no prover: Go, the library, models, sources and pages; without the kit
+	@deps/fetch.sh openssl curl
+	@PYTHONDONTWRITEBYTECODE=1 python3 tests/parts.py $(ONLY)
+
+# TURN=0 to 8 says of which ninth of the crates it tries the wrong bodies that every ninth run tries.
+prove: ## proves every crate, tries wrong bodies, and runs the tests of the crates and of ctlog
+	@checks/needs.sh prove
+	@PYTHONDONTWRITEBYTECODE=1 python3 checks/prove.py
+
+claim: ## proves what one claim of docs/CHECKING.md needs, CLAIM=verifiers, and shows that a wrong body is refused; without CLAIM it prints the claims
+	@$(if $(CLAIM),checks/needs.sh claim)
+	@PYTHONDONTWRITEBYTECODE=1 python3 checks/claim.py $(CLAIM)
 
 # On a terminal it asks before it installs anything. SETUP=no says what is missing, and SETUP=yes installs a C compiler even if apt upgrades others for it.
 deps: ## fetches Go 1.24 and the modules of the Go part from Debian 13 into a cache, and installs a C compiler where there is none
@@ -37,8 +43,7 @@ deps: ## fetches Go 1.24 and the modules of the Go part from Debian 13 into a ca
 
 check: ## for daily work: proves what changed
 	@checks/needs.sh check
-	@PYTHONDONTWRITEBYTECODE=1 python3 checks/prove.py
-	@$(MAKE) --silent sources
+	@PYTHONDONTWRITEBYTECODE=1 python3 checks/changed.py
 
 serve: ## serves a log over HTTP at PORT=8618 out of the folder FOLDER=ct-log, by ctserve, which it builds over the proved code of dist/, without the kit
 	@cmd/serve.sh "$(FOLDER:~/%=$(HOME)/%)" "$(PORT)"
@@ -47,39 +52,34 @@ serve-witness: ## serves a witness at WITNESS_PORT=8640 out of WITNESS=ct-witnes
 	@cmd/serve-witness.sh "$(WITNESS:~/%=$(HOME)/%)" "$(WITNESS_PORT)" "$(FOLDER:~/%=$(HOME)/%)"
 
 service: ## builds cmd/out/ctserve, the service in Go (docs/OPERATING.md), ctwitness, ctwatch, and ctfsck, ctload and ctfollow
-	@checks/needs.sh service
 	@cmd/build.sh build
 
-service-test: ## builds and tests the Go part, without engines; fetches first what make deps fetches
-	@cmd/test.sh
+service-engines: ## runs the Go tests with engines on loopback: those of etcd, PostgreSQL and Ceph that are installed
+	@tests/engines.sh run cmd/build.sh test -timeout 2h
 
-service-engines: ## the same with engines on loopback: those of etcd, PostgreSQL and Ceph that are installed
-	@cmd/test.sh engines
-
-service-race: ## the same as service-test, built to tell of data races (go test -race)
-	@cmd/test.sh race
+service-race: ## runs the Go tests, built to tell of data races (go test -race)
+	@cmd/build.sh test -race -timeout 2h
 
 service-audit: ## has ctserve audit look for MINUTES=60 at a log on a folder that is killed each minute
-	@checks/needs.sh service
+	@deps/fetch.sh
 	@PYTHONDONTWRITEBYTECODE=1 tests/soak.py --folder --kills --minutes $(or $(MINUTES),60)
 
 # SEED=NUMBER repeats the choices of another run.
 service-soak: ## kills and pauses the nodes, the signer, the witnesses and the engines of a log at random for MINUTES=60, and judges the log from outside
-	@checks/needs.sh service
+	@deps/fetch.sh
 	@PYTHONDONTWRITEBYTECODE=1 tests/soak.py --minutes $(or $(MINUTES),60) $(if $(SEED),--seed $(SEED))
 
 # SIM_FIRST=SEED begins at another seed: the output names those that are done. GOMAXPROCS=1 leaves the other processors alone.
 histories: ## simulates HISTORIES=1000000 histories of nodes (internal/sim/README.md), in some two hours of one processor
-	@checks/needs.sh service-test
 	@SIM_HISTORIES=$(or $(HISTORIES),1000000) cmd/build.sh test internal/sim -timeout 24h -v -run '^TestHistories$$'
 
 service-clients: ## has certspotter, Google's client library, x/mod's tlog and ctwatch use a log of ctserve over HTTP, those of them that are installed
-	@checks/needs.sh service
+	@deps/fetch.sh
 	@tests/clients.sh
 
 # LOAD=no leaves the loader and the reader out.
 cluster: ## runs three nodes of ctserve on engines of their own in CLUSTER=ct-cluster (etcd, Ceph's S3; from PORT=8618 on), with three witnesses, a loader and a reader
-	@checks/needs.sh service
+	@deps/fetch.sh
 	@tests/cluster.sh start "$(CLUSTER:~/%=$(HOME)/%)" "$(PORT)"
 
 cluster-status: ## says what runs of it
@@ -124,7 +124,6 @@ install-library:
 
 programs: ## proves and builds ctlog and libwagtenib, and builds the service: what a release is made of
 	@checks/needs.sh programs
-	@checks/needs.sh service
 	@examples/build.py $(PROGRAMS) libwagtenib
 	@examples/link/library.sh
 	@cmd/build.sh build
@@ -135,12 +134,12 @@ release: ## puts what is built into release/out: a tarball, Debian packages, SHA
 
 # As root, with mmdebstrap. If ctlog is not built, the packages have a program in its place that only says so.
 bare: ## makes a release's packages, installs them on a bare Debian, and runs the lines of docs/OPERATING.md there as they stand
-	@checks/needs.sh service
+	@deps/fetch.sh
 	@PYTHONDONTWRITEBYTECODE=1 tests/installation/bare.py --built "$(BUILT)"
 
 # As root, with buildah, podman and mmdebstrap.
 container: ## builds the image of release/Containerfile out of a release's package, and runs a log in it
-	@checks/needs.sh service
+	@deps/fetch.sh
 	@PYTHONDONTWRITEBYTECODE=1 tests/installation/container.py --built "$(BUILT)"
 
 reproduce: ## builds the programs of the Go part, and those of the crates that are proved here, twice in folders of other names, and compares their bytes
@@ -157,16 +156,4 @@ sweep: ## refuses each allocation of ctlog and of the library's calls in turn, a
 # After `make check`, over whose work it goes. The first line of an edit says which gates try it.
 wrong: ## has the prover refuse the wrong bodies of CRATE=ct_core (crates/*/wrong-bodies), of which the gate tries few each time
 	@PYTHONDONTWRITEBYTECODE=1 python3 checks/wrong_bodies.py $(or $(CRATE),ct_core)
-
-# What no contract can say of the sources, what docs/CHECKING.md is made from, and what the documents name.
-sources: ## looks through the sources, the documents and the scripts of examples/ and tests/, in three to five minutes, without a proof
-	@PYTHONDONTWRITEBYTECODE=1 python3 checks/allocation_errors.py
-	@PYTHONDONTWRITEBYTECODE=1 python3 checks/loops.py
-	@PYTHONDONTWRITEBYTECODE=1 python3 checks/fault_causes.py
-	@PYTHONDONTWRITEBYTECODE=1 python3 checks/definitions.py
-	@PYTHONDONTWRITEBYTECODE=1 python3 checks/wrong_bodies.py
-	@PYTHONDONTWRITEBYTECODE=1 python3 checks/header.py
-	@PYTHONDONTWRITEBYTECODE=1 python3 checks/dist.py --sources
-	@docs/check.sh
-	@PYTHONDONTWRITEBYTECODE=1 python3 tests/scripts.py
 

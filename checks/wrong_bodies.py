@@ -4,7 +4,7 @@
     wrong_bodies.py [CRATE..]
 
 crates/NAME/wrong-bodies/ has edits: a line 'file: PATH', and then pairs of lines 'old: TEXT' and 'new: TEXT'. Each old TEXT must occur in that file exactly
-once. The gate (gate.py) tries those whose first line is 'tried: by each gate' each time. It tries those whose first line is 'tried: by every ninth gate' in a
+once. The gate (prove.py) tries those whose first line is 'tried: by each gate' each time. It tries those whose first line is 'tried: by every ninth gate' in a
 ninth of the crates, because one edit costs up to a minute of a processor, and a crate's first one a proof of the crate.
 
 Without a name, this script checks within seconds whether all edits can be applied, and whether checks/README.md names those that each gate tries. With
@@ -18,14 +18,14 @@ import subprocess
 import sys
 import tempfile
 
-import gate
+import prove
 from source import CRATES, MADE, ROOT
 
 
 def why_not(edit, crate):
     """Returns the reason why the edit cannot be applied to the crate, or None."""
     texts, path, old, pairs = {}, None, None, 0
-    for line in gate.for_rt(edit).splitlines():
+    for line in prove.for_rt(edit).splitlines():
         if line.startswith("file: "):
             path = line[len("file: "):].strip()
         elif line.startswith("old: "):
@@ -41,7 +41,7 @@ def why_not(edit, crate):
             texts[path] = text.replace(old, re.sub("^ ", "", line[len("new:"):]))
             old, pairs = None, pairs + 1
         else:
-            return f"a line does not start with 'file:', 'old:' or 'new:', and is not a first line '{gate.EACH}' or '{gate.IN_TURN}': {line}"
+            return f"a line does not start with 'file:', 'old:' or 'new:', and is not a first line '{prove.EACH}' or '{prove.IN_TURN}': {line}"
     return None if pairs else "it has no 'old:' and 'new:' pair"
 
 
@@ -58,11 +58,11 @@ def looked():
 def untold():
     """Reports whether the table in README.md fails to name exactly the edits that each gate tries. It prints each edit that is not named, and each name that is no such edit."""
     named = set(re.findall(r"`([a-z_0-9]+/[a-z_0-9]+)`", (ROOT / "checks" / "README.md").read_text()))
-    tried_each_time = {f"{edit.parent.parent.name}/{edit.stem}" for edit in CRATES.glob("*/wrong-bodies/*.edit") if edit.read_text().startswith(gate.EACH)}
+    tried_each_time = {f"{edit.parent.parent.name}/{edit.stem}" for edit in CRATES.glob("*/wrong-bodies/*.edit") if edit.read_text().startswith(prove.EACH)}
     for edit in sorted(tried_each_time - named):
         print(f"crates/{edit.replace('/', '/wrong-bodies/')}.edit is tried by each gate, and the table in checks/README.md does not name it (name it there)")
     for edit in sorted(name for name in named - tried_each_time if (CRATES / name.split("/")[0]).is_dir()):
-        print(f"checks/README.md names {edit}, which is no edit with the first line '{gate.EACH}' (write that line, or take the name out)")
+        print(f"checks/README.md names {edit}, which is no edit with the first line '{prove.EACH}' (write that line, or take the name out)")
     return tried_each_time != {name for name in named if (CRATES / name.split("/")[0]).is_dir()}
 
 
@@ -77,7 +77,7 @@ def tried(names):
     for name in names:
         if not any((CRATES / name / "wrong-bodies").glob("*.edit")):
             sys.exit(f"wrong_bodies.py: crates/{name} has no edit in wrong-bodies")
-    gate.end_in_order()
+    prove.end_in_order()
     # (the copy takes several GB, so its folder must be on the disk, not in memory)
     if not shutil.which("rt"):
         sys.exit("checks/wrong_bodies.py lacks rt, the command of the Rattle kit: put the kit's folder bin on the PATH (README.md, 'With the kit')")
@@ -91,7 +91,7 @@ def tried(names):
             shutil.rmtree(crate / "must-fail", ignore_errors=True)
             (crate / "must-fail").mkdir()
             for edit in (crate / "wrong-bodies").glob("*.edit"):
-                (crate / "must-fail" / edit.name).write_text(gate.for_rt(edit))
+                (crate / "must-fail" / edit.name).write_text(prove.for_rt(edit))
         trial = subprocess.Popen(["rt", "must-fail", *names], cwd=copy)
         try:
             return trial.wait() == 0

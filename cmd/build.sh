@@ -1,5 +1,5 @@
 #!/usr/bin/env bash
-# Builds and tests the Go part: build.sh test [PACKAGE [WORD..]] | fuzz [SECONDS] | vet | build | modules.
+# Builds and tests the Go part: build.sh test [PACKAGE] [WORD..] | fuzz [SECONDS] | vet | build | modules.
 # Go and the modules are those that `make deps` fetched, or a later Go and a module proxy's modules.
 set -eu
 cd "$(dirname "$0")/.."
@@ -21,13 +21,10 @@ trimmed=-trimpath
 export GOFLAGS="$trimmed -buildvcs=false -tags=$tags -p=${PROCESSORS:-$(nproc)}"
 case $what in
   test)
-    package=${1:-}
-    shift || true
-    if [ -n "$package" ]; then
-      go test -count=1 "$@" "./$package"
-    else
-      go test -count=1 "$@" ./bindings/... ./cmd/... ./internal/...
-    fi
+    # (the words of go test begin with -)
+    packages=(./bindings/... ./cmd/... ./internal/...)
+    [[ ${1:--} == -* ]] || { packages=("./$1"); shift; }
+    go test -count=1 "$@" "${packages[@]}"
     ;;
   vet)
     # (each line is a file in Go)
@@ -75,7 +72,7 @@ case $what in
     done
     ;;
   *)
-    echo "build.sh test [PACKAGE [WORD..]] | fuzz [SECONDS] | vet | build | modules" >&2
+    echo "build.sh test [PACKAGE] [WORD..] | fuzz [SECONDS] | vet | build | modules" >&2
     exit 1
     ;;
 esac

@@ -18,8 +18,8 @@ if [ ! -e "$log/log.pem" ]; then
   echo "serve-witness.sh: $log has no log.pem (run make serve first: it makes a log there)" >&2
   exit 1
 fi
-"$here/../checks/needs.sh" service-for-serve
-echo "The decisions of this witness are proved code, compiled from dist/. To prove them here: make check, with the Rattle kit (README.md, 'With the kit')."
+"$here/../deps/fetch.sh" openssl
+echo "The decisions of this witness are proved code, compiled from dist/. To prove them here: make prove, with the Rattle kit (README.md, 'With the kit')."
 "$here/build.sh" build
 mkdir -p "$folder"
 folder=$(cd "$folder" && pwd)

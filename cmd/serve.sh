@@ -21,8 +21,8 @@ if [ ! -e "$folder/made" ] && [ -n "$(ls -A "$folder" 2>/dev/null)" ]; then
   echo "serve.sh: $folder isn't a log that serve.sh made, or is incomplete (remove it and run this again: rm -r $folder)" >&2
   exit 1
 fi
-"$here/../checks/needs.sh" service-for-serve
-echo "The decisions of this log are proved code, compiled from dist/. To prove them here: make check, with the Rattle kit (README.md, 'With the kit')."
+"$here/../deps/fetch.sh" openssl
+echo "The decisions of this log are proved code, compiled from dist/. To prove them here: make prove, with the Rattle kit (README.md, 'With the kit')."
 [ -x "$here/out/ctserve" ] || echo "Building ctserve, a minute and a half of one processor."
 "$here/build.sh" build
 mkdir -p "$(dirname "$folder")"

@@ -1,6 +1,6 @@
 #!/usr/bin/env bash
 # Checks the documents, in seconds: links, names of files and functions, commands, quotations, the contracts of PROMISES.md, and pictures.
-# make test runs it before the proofs, and make check after them.
+# make test runs it too.
 set -u
 cd "$(dirname "$0")/.." || exit 1
 export PYTHONDONTWRITEBYTECODE=1

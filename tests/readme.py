@@ -4,7 +4,7 @@ other pages, it has the name of the script that runs it.
 
 `make serve` runs until the end, at a free port. The script checks the output of each command. It also runs the first session of docs/LINES.md, by ctlog if
 that is built and otherwise by expected.py. A command of README.md that this script doesn't know is a fault. It prints one line, and ends with status 1 at the
-first command that does something else than README.md says. If Go or one of its packages isn't installed, it says so, and runs no command that needs them.
+first command that does something else than README.md says. It needs what `make test` fetches.
 
 ELSEWHERE has the commands of the other pages, each with what runs it: this script, in that copy; installation/bare.py, on a bare Debian with the packages of a release;
 or nobody but a user. A command that is missing there is a fault, and one that is on no page is a fault too.
@@ -140,7 +140,7 @@ ELSEWHERE = {
     "examples/README.md": {"examples/pem_lines.py": HERE},
     "examples/link/README.md": {"": BY_HAND},
     "release/README.md": {"apt-get install": BARE, "": BY_HAND},
-    "docs/SERVICE.md": {**dict.fromkeys(("make deps", "make service-engines", "make service-test"), BY_HAND), "make service": HERE, "openssl genpkey": BARE, "cp 2027h1.pem": BARE,
+    "docs/SERVICE.md": {**dict.fromkeys(("make deps", "make service-engines", "make test"), BY_HAND), "make service": HERE, "openssl genpkey": BARE, "cp 2027h1.pem": BARE,
                         "cat > /etc/ctwitness/a.conf": BARE, "runuser -u ctwitness": BARE, "systemctl": BARE, "ctwatch cosign": BARE, "apt-get install": BARE,
                         "(printf '{\"chain\":['": HERE, "curl -s -d @chain.json": HERE, "curl -s '127.0.0.1:8618/ct/v1/get-entr": HERE},
 }
@@ -189,10 +189,13 @@ ALERT = r"FOUND example\.org: shop\.example\.org \(1 name\); issued by .*; certi
 AUDITED = r"ct-log\.example: passed\n.*"
 # The answers to the requests of docs/SERVICE.md, by a part of the command.
 ANSWERS = {"add-chain": SIGNED, "get-entries": r'\{"entries":\[\{"leaf_input":.*\}\]\}\n', "get-entry-and-proof": r'\{"leaf_input":.*"audit_path":\[\]\}\n'}
+# (the whole of it runs this script)
+TESTED = r"1 parts on .*\n\[1/1\] docs/check\.sh: 1 passed, [0-9]+ s\n1 passed, 0 failed\nNot checked: the proofs \(make prove\), .*\.\n"
 INCLUDED = r"127\.0\.0\.1:[0-9]+: INCLUDED: the leaf is at 0 of [0-9]+\n"
 # The commands by their first words, with the test of each.
 KNOWN = [
     ("make serve", lambda page, command: page.serve(command)),
+    ("make test", lambda page, command: page.run(f"{command} ONLY=docs/", 0, TESTED)),
     ("curl -s -d @ct-log/chain.json", lambda page, command: page.run(command, 0, SIGNED)),
     ("curl -s 127.0.0.1:8618/checkpoint", lambda page, command: page.run(command, 0, CHECKPOINT)),
     ("cmd/out/ctwatch run", lambda page, command: page.run(command, 8, ALERT)),
@@ -200,8 +203,6 @@ KNOWN = [
 
 
 def main():
-    missing = subprocess.run([ROOT / "checks" / "needs.sh", "service-for-serve"], stderr=subprocess.PIPE, text=True, env={**os.environ, "SETUP": "no"}).stderr.splitlines()
-    missing += ["it lacks curl"] if not shutil.which("curl") else []
     given, others = commands(), elsewhere()
     unknown = [command for command in given if not any(command.startswith(beginning) for beginning, _ in KNOWN)]
     if unknown or len(given) < len(KNOWN):
@@ -210,37 +211,33 @@ def main():
         page = Page(pathlib.Path(folder))
         try:
             for command in given:
-                does = next(known[1] for known in KNOWN if command.startswith(known[0]))
-                if not missing:
-                    does(page, command)
-                    page.count += 1
+                next(known[1] for known in KNOWN if command.startswith(known[0]))(page, command)
+                page.count += 1
             page.run("make help", 0, r"(?:make [a-z-]+ +\S.*\n)+")
             for command in commands(ROOT / "docs" / "LINES.md"):
                 page.first_session(command)
-            if not missing:
-                # (README's make serve built it, in this copy)
-                page.run("make service", 0, "")
-                watching = commands(ROOT / "docs" / "WATCH.md")
-                page.run(next(command for command in watching if command.startswith("curl")), 0, SIGNED)
-                # (in a folder of its own: the store of README.md's ctwatch has the alert already)
-                watches = next(command for command in watching if command.startswith("cmd/out/ctwatch run"))
-                audits = next(command for command in commands(ROOT / "docs" / "ACCEPTED.md") if command.startswith("cmd/out/ctserve audit"))
-                page.run(audits, 0, AUDITED)
-                page.run(watches.replace("ctwatch run", "ctwatch run --folder another-store"), 8, ALERT)
-                for command in watching[watching.index(watches) + 1 :]:
-                    page.run(command, 0, SIGNED if command.startswith("curl") else "")
-                for command in commands(ROOT / "docs" / "AUDIT.md"):
-                    page.run(command, 0, INCLUDED if "ctwatch audit" in command else "")
-                # (chain.pem is that of AUDIT.md)
-                for command in commands(ROOT / "docs" / "SERVICE.md"):
-                    if "chain.json" in command or "/ct/v1/" in command:
-                        page.run(command, 0, next((form for part, form in ANSWERS.items() if part in command), ""))
-                pem_lines(page)
+            # (README's make serve built it, in this copy)
+            page.run("make service", 0, "")
+            watching = commands(ROOT / "docs" / "WATCH.md")
+            page.run(next(command for command in watching if command.startswith("curl")), 0, SIGNED)
+            # (in a folder of its own: the store of README.md's ctwatch has the alert already)
+            watches = next(command for command in watching if command.startswith("cmd/out/ctwatch run"))
+            audits = next(command for command in commands(ROOT / "docs" / "ACCEPTED.md") if command.startswith("cmd/out/ctserve audit"))
+            page.run(audits, 0, AUDITED)
+            page.run(watches.replace("ctwatch run", "ctwatch run --folder another-store"), 8, ALERT)
+            for command in watching[watching.index(watches) + 1 :]:
+                page.run(command, 0, SIGNED if command.startswith("curl") else "")
+            for command in commands(ROOT / "docs" / "AUDIT.md"):
+                page.run(command, 0, INCLUDED if "ctwatch audit" in command else "")
+            # (chain.pem is that of AUDIT.md)
+            for command in commands(ROOT / "docs" / "SERVICE.md"):
+                if "chain.json" in command or "/ct/v1/" in command:
+                    page.run(command, 0, next((form for part, form in ANSWERS.items() if part in command), ""))
+            pem_lines(page)
         finally:
             page.end()
-    left_out = f"; what needs Go isn't tried: {missing[0]}" if missing else ""
     by = collections.Counter(run_by(name, command) for name, known in others.items() for command in known)
-    print(f"README.md: {page.count} commands do what it says, in its order, where nothing is built{left_out}.")
+    print(f"README.md: {page.count} commands do what it says, in its order, where nothing is built.")
     print("The commands of the other pages are run " + ", ".join(f"{count} by {runs}" for runs, count in by.items()).replace("by by", "by") + ".")
 
 

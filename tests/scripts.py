@@ -1,7 +1,6 @@
 #!/usr/bin/env python3
 """Tries the scripts of examples/ and of this folder. It compares expected.py with the stored replies and with the sessions; has check.py refuse damaged outputs;
-and compares what pem_lines.py makes with the files in the tree. It looks for names that no script in Python defines, and runs shellcheck over the others. It
-then runs checks.py, user_scripts.py and readme.py.
+and compares what pem_lines.py makes with the files in the tree. It looks for names that no script in Python defines, and runs shellcheck over the others.
 
 It prints one line if everything is as expected. Otherwise it names the fault, and ends with status 1.
 """
@@ -183,20 +182,12 @@ def try_shell():
     files = [path for folder in folders for path in sorted((root / folder).rglob("*")) if path.is_file() and "out" not in path.relative_to(root).parts]
     scripts = [path.relative_to(root) for path in files if re.match(rb"#!.*\b(bash|sh)\n", path.open("rb").readline())]
     if not shutil.which("shellcheck"):
-        print("tests/scripts.py: the shell scripts were left out: there is no shellcheck (apt-get install shellcheck)")
+        print("left out: shellcheck of the shell scripts (shellcheck is not installed)")
         return 0
     ran = subprocess.run(["shellcheck", "--severity=warning", "--format=gcc", *scripts], cwd=root, capture_output=True, text=True)
     if ran.returncode:
         fail(f"shellcheck warns:\n{ran.stdout}{ran.stderr}")
     return len(scripts)
-
-
-def run_script(script):
-    """Runs a script that tests, and prints its line."""
-    ran = run(script)
-    if ran.returncode:
-        fail(f"{script}: {ran.stdout.decode()}{ran.stderr.decode()}")
-    sys.stdout.write(ran.stdout.decode())
 
 
 def main():
@@ -210,8 +201,6 @@ def main():
         ran = run("expected.py", *words.split(), given=(EXAMPLES / f"{name}.jsonl").read_bytes())
         if ran.stdout != (EXAMPLES / f"{name}.expected.jsonl").read_bytes():
             fail(f"expected.py computes other replies than {name}.expected.jsonl")
-    for script in ("checks.py", "user_scripts.py", "readme.py"):
-        run_script(script)
     print(f"tests/scripts.py: as expected, over {chains} chains, {len(INPUTS)} inputs, {sessions} sessions, {outputs} damaged outputs, {shell} scripts for shells and {python} in Python.")
 
 

@@ -58,7 +58,8 @@ def try_release(folder):
     """A release has the builds, byte for byte. If one is missing, it is named and nothing is made. The same files give the same bytes twice. Builds
     are made up, as for try_install. Without dpkg-deb it isn't tried, and says so."""
     if not shutil.which("dpkg-deb") or not shutil.which("objdump"):
-        return "it is left out, because dpkg-deb or objdump is missing"
+        print("left out: the files of a release (dpkg-deb or objdump is not installed)")
+        return "not made"
 
     def make(to, built="built", service="service"):
         words = [ROOT / "release" / "release.py", "--built", folder / built, "--service", folder / service, "--to", folder / to]
@@ -160,7 +161,7 @@ def answered(words, answer, **how):
 
 def try_deps(folder):
     """fetch.sh installs a missing C compiler if that needs no question, and after a question on a terminal. It neither upgrades nor removes
-    anything, except with SETUP=yes. With SETUP=no it does nothing, and says what is missing. Then `make test` fails, except with GO=no."""
+    anything, except with SETUP=yes. With SETUP=no it does nothing, and says what is missing."""
     top, log, planned = folder / "checkout", folder / "log", folder / "planned"
     shutil.copytree(ROOT / "deps", top / "deps")
     shutil.copy(ROOT / "go.mod", top)
@@ -211,16 +212,12 @@ def try_deps(folder):
         log.unlink(missing_ok=True)
         planned.write_text(new)
         judge(f"the answer {answer}", answered([top / "deps" / "fetch.sh"], answer, env=place(), capture_output=True, text=True), status, ran, line)
-    for go, status, says in (("", 1, "deps: gcc libc6-dev must be installed"), ("no", 0, "GO=no")):
-        ended = subprocess.run([ROOT / "cmd" / "test.sh"], env={**place("no"), "GO": go}, stdin=subprocess.DEVNULL, capture_output=True, text=True)
-        if ended.returncode != status or says not in ended.stdout + ended.stderr:
-            fail(f"test.sh with GO={go} ends with status {ended.returncode}: {ended.stdout}{ended.stderr}")
 
 
 def served(folder, script, program_name, stub):
     """Copies a script of cmd/ into a folder, beside a program in place of its own, and returns its path."""
     shutil.copy(ROOT / "cmd" / script, folder)
-    for path, text in ((folder / "build.sh", ""), (folder.parent / "checks" / "needs.sh", ""), (folder / "out" / program_name, stub)):
+    for path, text in ((folder / "build.sh", ""), (folder.parent / "deps" / "fetch.sh", ""), (folder / "out" / program_name, stub)):
         program(path, text)
     return folder / script
 
@@ -250,7 +247,7 @@ case "$*" in *--create*) trap 'exit 0' TERM; while :; do sleep 0.1; done ;; esac
 
     def serve(what, status, says, is_there):
         ran = subprocess.run([script, log, str(port)], env={**os.environ, "ROOTS": os.devnull}, capture_output=True, text=True)
-        left = {path.name for path in folder.iterdir()} - {"cmd", "checks", "fails", "calls"}
+        left = {path.name for path in folder.iterdir()} - {"cmd", "deps", "fails", "calls"}
         if ran.returncode != status or says not in ran.stdout + ran.stderr or left != ({log.name} if is_there else set()):
             fail(f"serve.sh, with {what}, ends with status {ran.returncode}, leaves {left} and says {ran.stdout}{ran.stderr}")
 

@@ -32,7 +32,7 @@ func metricNames(t *testing.T) map[string]bool {
 }
 
 // TestRules checks that the alert rules use existing metrics, and that each alert has a section in the page of
-// incidents. cmd/test.sh checks their expressions with promtool.
+// incidents. release/prometheus/check.sh checks their expressions with promtool.
 func TestRules(t *testing.T) {
 	rules, err := os.ReadFile("../../release/prometheus/ctserve.rules.yml")
 	if err != nil {

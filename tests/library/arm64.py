@@ -12,6 +12,7 @@ replays.py compares the same code with that for amd64, called from C. Debian's p
 environment, root installs them, and apt fetches Python and Rust into a folder that is removed at the end. A part whose packages cannot be had is left out, and the script says so in one line.
 It ends with status 1 if something fails.
 """
+import fcntl
 import functools
 import os
 import pathlib
@@ -58,11 +59,19 @@ def lacking():
     if platform.machine() != "x86_64":
         return "this machine is not an amd64"
     is_here = lambda: all(map(shutil.which, (COMPILER, QEMU)))
+    # (several scripts come here at the same time, and apt-get update does not wait for another one)
+    with open(__file__) as lock:
+        fcntl.flock(lock, fcntl.LOCK_EX)
+        install(is_here)
+    return "" if is_here() else f"{', '.join(PACKAGES)} must be installed"
+
+
+def install(is_here):
+    """Installs PACKAGES, if they are missing and may be installed."""
     if not is_here() and may_install():
         words = ["apt-get", "-qq", "-o", "DPkg::Lock::Timeout=300"]
         subprocess.run([*words, "update"], stdout=subprocess.DEVNULL)
         subprocess.run([*words, "install", "--yes", "--no-install-recommends", *PACKAGES], stdout=subprocess.DEVNULL, env={**os.environ, "DEBIAN_FRONTEND": "noninteractive"})
-    return "" if is_here() else f"{', '.join(PACKAGES)} must be installed"
 
 
 def ran(what, words, **how):
@@ -118,12 +127,10 @@ def try_c(folder):
 
 def try_go(folder):
     """The tests of the Go package."""
-    if os.environ.get("GO") == "no":
-        return say("the Go package was left out, as GO=no has it")
     made, package = folder / "go.test", ROOT / "bindings" / "go" / "wagtenib"
     go = f'. "{ROOT}/deps/env.sh" && command -v go >/dev/null && exec go "$@"'
     if subprocess.run(["bash", "-c", go, "go", "version"], cwd=ROOT, stdout=subprocess.DEVNULL).returncode or not (ROOT / "vendor" / "modules.txt").exists():
-        return say("the Go package was left out: Go and its modules are missing (make deps fetches them)")
+        return print("left out: the Go package for arm64 (Go and its modules are missing: make deps fetches them)")
     surroundings = {**os.environ, "CGO_ENABLED": "1", "CC": COMPILER, "GOARCH": "arm64"}
     ran("the test of the Go package", ["bash", "-c", go, "go", "test", "-c", "-o", made, "./bindings/go/wagtenib"], cwd=ROOT, env=surroundings)
     told = ran("the test of the Go package", [QEMU, "-L", LIBRARIES, made, "-test.v"], cwd=package)
@@ -137,7 +144,7 @@ def try_python(folder):
     """Comparisons of the Python package with models."""
     root = Packages(folder / "python", "arm64", None).with_all_below("python3-minimal", "libpython3-stdlib") if may_install() else None
     if root is None:
-        return say("the Python package was left out: there is no Python for arm64 (SETUP=yes, as root, has apt fetch it)")
+        return print("left out: the Python package for arm64 (there is no Python for arm64: SETUP=yes, as root, has apt fetch it)")
     library = folder / "libwagtenib.so"
     sources = [DIST / "memory.c", DIST / "libwagtenib_linux_arm64.s"]
     ran("the library for arm64", [COMPILER, "-shared", "-fPIC", "-O2", "-fvisibility=hidden", *sources, "-o", library])
@@ -174,7 +181,7 @@ def try_rust(folder):
     """The tests of the Rust crate."""
     found = rust_compiler(folder)
     if found is None:
-        return say("the Rust crate was left out: there is no Rust with the standard library for arm64 (SETUP=yes, as root, has apt fetch it)")
+        return print("left out: the Rust crate for arm64 (there is no Rust with the standard library for arm64: SETUP=yes, as root, has apt fetch it)")
     words, surroundings = found
     made = folder / "made"
     made.mkdir()
@@ -198,7 +205,7 @@ def try_rust(folder):
 
 def main():
     if why := lacking():
-        say(f"all was left out: {why}")
+        print(f"left out: arm64 ({why})")
         return
     with tempfile.TemporaryDirectory(prefix="wagtenib-arm64-") as folder:
         folder = pathlib.Path(folder)

@@ -157,7 +157,7 @@ def begin(script, calls, **more):
     try:
         library = _library.load()
     except wagtenib.Unavailable as why:
-        print(f"{script}: nothing was compared: {why}")
+        print(f"left out: {script} ({why})")
         sys.exit(0)
     for name, _, parameters in signatures.functions():
         setattr(library, name, Watched(name, parameters, getattr(library, name)))

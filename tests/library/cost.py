@@ -189,7 +189,7 @@ def prepared(make, count, call):
 
 def main():
     if not shutil.which("gcc") or platform.machine() not in _library.PROCESSORS:
-        print("tests/library/cost.py: nothing was compared: there is no gcc for a processor of dist/")
+        print("left out: tests/library/cost.py (there is no gcc for a processor of dist/)")
         return 0
     call, failed, largest = _library.load(), 0, (0, "")
     for make in INPUTS:

@@ -69,7 +69,7 @@ def faults(told):
 
 def main():
     if not shutil.which("gcc") or platform.machine() not in ("x86_64", "aarch64"):
-        print("tests/library/refusals.py: nothing was compared: there is no gcc for a processor of dist/")
+        print("left out: tests/library/refusals.py (there is no gcc for a processor of dist/)")
         return 0
     with tempfile.TemporaryDirectory(prefix="wagtenib-refusals-") as folder:
         folder = pathlib.Path(folder)

@@ -83,7 +83,7 @@ def main():
     said.add_argument("--keep", type=pathlib.Path, help="the folder in which the calls and the programs are kept")
     asked = said.parse_args()
     if not shutil.which("gcc") or platform.machine() != "x86_64":
-        say("nothing was compared: there is no gcc for amd64")
+        print("left out: tests/library/replays.py (there is no gcc for amd64)")
         return
     with contextlib.ExitStack() as stack:
         folder = asked.keep or pathlib.Path(stack.enter_context(tempfile.TemporaryDirectory(prefix="wagtenib-replays-")))
@@ -95,7 +95,7 @@ def main():
         told, seconds = replay(here, "threads", calls)
         say(f"{told.strip()}, and each replies what it replies in one ({seconds:.1f} s)")
         if lacking := arm64.lacking():
-            say(f"arm64 was left out: {lacking}")
+            print(f"left out: arm64 ({lacking})")
             return
         there = [arm64.QEMU, replayer(folder, "arm64", arm64.COMPILER, "-static")]
         others, seconds = replay(there, "replies", calls)

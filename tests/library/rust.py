@@ -8,7 +8,7 @@
    crate must be named in its tests.
 3. cargo runs the crates' tests, without the network.
 
-Without cargo or gcc, 3 is left out, and the script says so. It ends with status 1 if something differs.
+Without cargo or gcc, 3 is left out, and a line says so. It ends with status 1 if something differs.
 """
 import os
 import pathlib
@@ -118,7 +118,7 @@ def main():
         print(f"tests/library/rust.py: {fault}")
         wrong += 1
     if not shutil.which("cargo") or not shutil.which("gcc") or platform.machine() not in ("x86_64", "aarch64"):
-        print("tests/library/rust.py: no test was run: there is no cargo, or no gcc for a processor of dist/")
+        print("left out: the tests of the Rust crate (there is no cargo, or no gcc for a processor of dist/)")
         return int(wrong > 0)
     ran = subprocess.run(["cargo", "test", "--offline", "--quiet"], cwd=RUST, capture_output=True, text=True, timeout=900, env={**os.environ, "RUSTFLAGS": "-D warnings"})
     passed = sum(map(int, re.findall(r"^test result: ok\. (\d+) passed; 0 failed", ran.stdout, re.M)))

@@ -115,7 +115,7 @@ def try_processor(folder, processor, compiler, options, emulators):
         what = "by the instructions" if has else "by the proved code, as there are no instructions,"
         say(f"{processor}{', ' + ' '.join(before) if before else ''}: {options.blocks} blocks and {LONGEST + 1} leaves {what} have the right hashes")
     if True not in found:
-        say(f"{processor}: the instructions were left out: no processor or qemu here has them")
+        print(f"left out: the SHA instructions of {processor} (no processor or qemu here has them)")
     return True in found
 
 
@@ -132,8 +132,8 @@ def known(has):
 def try_go(options, emulator):
     """The tests of the Go package with the build tag."""
     go = f'. "{ROOT}/deps/env.sh" && command -v go >/dev/null && exec go "$@"'
-    if os.environ.get("GO") == "no" or not (ROOT / "vendor" / "modules.txt").exists():
-        return say("the Go package was left out: Go and its modules are missing (make deps fetches them)")
+    if not (ROOT / "vendor" / "modules.txt").exists():
+        return print("left out: the Go package with SHA instructions (Go and its modules are missing: make deps fetches them)")
     surroundings = {**os.environ, "WAGTENIB_BLOCKS": str(options.blocks), "CGO_ENABLED": "1"}
     words = ["bash", "-c", go, "go", "test", "-count=1", f"-tags={TAG}"]
     ran([*words, ".", "wagtenib/internal/version"], cwd=PACKAGE, env={**surroundings, **known(has_natively())})
@@ -145,7 +145,7 @@ def try_go(options, emulator):
 def try_rust(folder, emulator):
     """The tests of the Rust crates with the feature."""
     if not shutil.which("cargo"):
-        return say("the Rust crate was left out: there is no cargo")
+        return print("left out: the Rust crate with SHA instructions (there is no cargo)")
     surroundings = {**os.environ, **known(emulator or has_natively()), "CARGO_TARGET_DIR": str(folder / "target"), "CARGO_INCREMENTAL": "0"}
     if emulator:
         surroundings["CARGO_TARGET_X86_64_UNKNOWN_LINUX_GNU_RUNNER"] = " ".join(emulator)
@@ -163,11 +163,11 @@ def main():
     with tempfile.TemporaryDirectory(prefix="wagtenib-sha-") as folder:
         folder = pathlib.Path(folder)
         if why := arm64.lacking():
-            say(f"arm64 was left out: {why}")
+            print(f"left out: arm64 ({why})")
         else:
             try_processor(folder, "arm64", arm64.COMPILER, options, [([arm64.QEMU], None)])
         if platform.machine() != "x86_64":
-            return say("amd64 was left out: this machine is not an amd64")
+            return print("left out: amd64 (this machine is not an amd64)")
         native = has_natively()
         emulated = [] if native else [(WITH, None)]
         seen = try_processor(folder, "amd64", "gcc", options, [([], native), *emulated, (WITHOUT, False)])
