@@ -17,6 +17,8 @@
 //! - A deletion removes only the staged batch that it names.
 //! - A node is never given an outcome that is false.
 //!
+//! If no store fails, some node comes to its answer within 9 outcomes for each node that starts ([`laws::progress`]).
+//!
 //! [`start`] decides whether a node that starts continues from the lock's state, and [`show`] decides which head it shows
 //! ([`laws::starts`]). [`laws::take_ups`] relates these answers to what exists. [`laws::sweeps`] says which objects that nobody reads any
 //! more may be deleted.
