@@ -61,27 +61,51 @@ func readSubtrees(s *cryptobyte.String) (found subtreesOf, ok bool) {
 	return found, len(found.roots) == bits.OnesCount64(found.size)
 }
 
-// isState reports whether these bytes and their hash are a monitor's state: they have the version 1, two heads and two
-// lists of subtrees, and these are consistent with each other.
-func isState(parts []byte) bool {
+// isState reports whether these bytes and their hash are a monitor's state: they have the version 1 or 2, two heads, two
+// newest timestamps in the version 2, and two lists of subtrees, and these are consistent with each other. It returns
+// the bytes in the version 2.
+func isState(parts []byte) (inVersion2 []byte, is bool) {
 	s := cryptobyte.String(parts)
 	var version uint8
-	if !s.ReadUint8(&version) || version != 1 {
-		return false
+	if !s.ReadUint8(&version) || version != 1 && version != 2 {
+		return nil, false
 	}
 	accepted, first := readHead(&s)
 	if !first {
-		return false
+		return nil, false
 	}
 	waiting, second := readHead(&s)
 	if !second {
-		return false
+		return nil, false
 	}
-	sure, third := readSubtrees(&s)
+	var newest [2]uint64
+	if inVersion2 = parts; version == 1 {
+		for i, head := range []*wagtenib.TreeHead{accepted, waiting} {
+			if head != nil {
+				newest[i] = head.Timestamp
+			}
+		}
+		heads := len(parts) - len(s)
+		inVersion2 = slices.Concat([]byte{2}, parts[1:heads], binary.BigEndian.AppendUint64(nil, newest[0]),
+			binary.BigEndian.AppendUint64(nil, newest[1]), s)
+	} else if !s.ReadUint64(&newest[0]) || !s.ReadUint64(&newest[1]) {
+		return nil, false
+	}
+	return inVersion2, isConsistent(&s, accepted, waiting, newest)
+}
+
+// isConsistent reads the subtrees of a state, and reports whether all its parts are consistent with each other.
+func isConsistent(s *cryptobyte.String, accepted, waiting *wagtenib.TreeHead, newest [2]uint64) bool {
+	for i, head := range []*wagtenib.TreeHead{accepted, waiting} {
+		if head != nil && newest[i] < head.Timestamp {
+			return false
+		}
+	}
+	sure, third := readSubtrees(s)
 	if !third {
 		return false
 	}
-	all, fourth := readSubtrees(&s)
+	all, fourth := readSubtrees(s)
 	if !fourth || !s.Empty() {
 		return false
 	}
@@ -95,12 +119,12 @@ func isState(parts []byte) bool {
 	if waiting == nil {
 		return same
 	}
-	later := accepted == nil || accepted.TreeSize < waiting.TreeSize && accepted.Timestamp < waiting.Timestamp
+	later := accepted == nil || accepted.TreeSize < waiting.TreeSize && newest[0] < waiting.Timestamp
 	return later && all.size < waiting.TreeSize && (sure.size < all.size || same)
 }
 
-// FuzzMonitorState reads the bytes of a state with their correct hash. A state must be written again as it was read,
-// and everything else must be refused.
+// FuzzMonitorState reads the bytes of a state with their correct hash. A state must be written again as it was read, in
+// the version 2, and everything else must be refused.
 func FuzzMonitorState(f *testing.F) {
 	log := &madeLog{}
 	for i := range 9 {
@@ -121,17 +145,20 @@ func FuzzMonitorState(f *testing.F) {
 	_, _, next, err = wagtenib.MonitorEntries(state, 7, log.leaves[7:])
 	add(next, err)
 	f.Add(binary.BigEndian.AppendUint64([]byte{1, 0, 0}, 0))
+	f.Add(append([]byte{1, 0, 0}, make([]byte, 32)...))
 	f.Fuzz(func(t *testing.T, parts []byte) {
 		sum := sha256.Sum256(parts)
 		state := append(bytes.Clone(parts), sum[:]...)
 		found, next, err := wagtenib.MonitorProof(state, nil)
-		if !isState(parts) {
+		inVersion2, is := isState(parts)
+		if !is {
 			if !errors.Is(err, wagtenib.ErrState) {
 				t.Fatalf("%x: %v, but it is no state", parts, err)
 			}
 			return
 		}
-		if err != nil || !bytes.Equal(next, state) {
+		sum = sha256.Sum256(inVersion2)
+		if err != nil || !bytes.Equal(next, append(bytes.Clone(inVersion2), sum[:]...)) {
 			t.Fatalf("%x: %v, and the state %x", parts, err, next)
 		}
 		if found.Verdict != wagtenib.VerdictGap && found.Verdict != wagtenib.VerdictInconsistent {

@@ -12,6 +12,10 @@ package wagtenib
 // #cgo noescape wagtenib_monitor_entries
 // #cgo nocallback wagtenib_monitor_proof
 // #cgo noescape wagtenib_monitor_proof
+// #cgo nocallback wagtenib_monitor_older
+// #cgo noescape wagtenib_monitor_older
+// #cgo nocallback wagtenib_compare_heads
+// #cgo noescape wagtenib_compare_heads
 // #cgo nocallback wagtenib_monitor_entry
 // #cgo noescape wagtenib_monitor_entry
 // #include "wagtenib.h"

@@ -12,24 +12,22 @@ import (
 	"wagtenib/bindings/go/wagtenib"
 )
 
-// watched is a model of a monitor: the accepted head, the accepted leaves of the log, the head that waits, and the
-// leaves that were read after the accepted ones.
+// watched is a model of a monitor: all heads of the accepted tree, all heads of the tree that waits, the accepted
+// leaves of the log, and the leaves that were read.
 type watched struct {
-	accepted, waiting *wagtenib.TreeHead
+	accepted, waiting []wagtenib.TreeHead
 	sure, read        uint64
 }
 
 // beside returns the verdict on a head compared with a known one, or 0 if it is larger and later.
-func beside(known *wagtenib.TreeHead, head wagtenib.TreeHead) wagtenib.Verdict {
+func beside(known, head wagtenib.TreeHead) wagtenib.Verdict {
 	switch {
-	case known == nil:
-		return 0
 	case head.TreeSize > known.TreeSize && head.Timestamp > known.Timestamp:
 		return 0
 	case head.TreeSize > known.TreeSize:
 		return wagtenib.VerdictNotLater
 	case head.TreeSize < known.TreeSize && head.Timestamp < known.Timestamp:
-		return wagtenib.VerdictStale
+		return wagtenib.VerdictOlder
 	case head.TreeSize < known.TreeSize:
 		return wagtenib.VerdictShrunk
 	case head.Root == known.Root:
@@ -38,13 +36,35 @@ func beside(known *wagtenib.TreeHead, head wagtenib.TreeHead) wagtenib.Verdict {
 	return wagtenib.VerdictForked
 }
 
+// head returns the verdict on a head, beside every known head. It is 0 if the head is larger and later than all.
+func (w *watched) head(head wagtenib.TreeHead) wagtenib.Verdict {
+	var first wagtenib.Verdict
+	for _, known := range slices.Concat(w.accepted, w.waiting) {
+		said := beside(known, head)
+		if said.Accuses() {
+			return said
+		}
+		if first == 0 {
+			first = said
+		}
+	}
+	if first == wagtenib.VerdictAgain {
+		if len(w.accepted) > 0 && w.accepted[0].TreeSize == head.TreeSize {
+			w.accepted = append(w.accepted, head)
+		} else {
+			w.waiting = append(w.waiting, head)
+		}
+	}
+	return first
+}
+
 // settle returns the verdict on the waiting head after the leaves were read. All of these are leaves of the log.
 func (w *watched) settle(t *testing.T, log *madeLog) wagtenib.Verdict {
 	t.Helper()
-	if w.read != w.waiting.TreeSize {
+	if w.read != w.waiting[0].TreeSize {
 		return wagtenib.VerdictPending
 	}
-	if w.waiting.Root != log.root(t, w.read) {
+	if w.waiting[0].Root != log.root(t, w.read) {
 		w.waiting, w.read = nil, w.sure
 		return wagtenib.VerdictOtherRoot
 	}
@@ -87,12 +107,9 @@ func TestMonitorAgreesWithTlog(t *testing.T) {
 			if chance.Intn(12) == 0 {
 				head.Timestamp = 200
 			}
-			if due = beside(model.accepted, head); due == 0 {
-				due = beside(model.waiting, head)
-			}
-			if due == 0 {
+			if due = model.head(head); due == 0 {
 				if model.waiting == nil {
-					model.waiting = &head
+					model.waiting = []wagtenib.TreeHead{head}
 				}
 				due = model.settle(t, log)
 			}
@@ -105,7 +122,7 @@ func TestMonitorAgreesWithTlog(t *testing.T) {
 			leaves := log.leaves[start:min(start+uint64(chance.Intn(9)), 40)]
 			due = wagtenib.VerdictGap
 			if model.waiting != nil && start == model.read {
-				model.read += min(uint64(len(leaves)), model.waiting.TreeSize-model.read)
+				model.read += min(uint64(len(leaves)), model.waiting[0].TreeSize-model.read)
 				due = model.settle(t, log)
 			}
 			found, _, next, err = wagtenib.MonitorEntries(state, start, leaves)
@@ -114,8 +131,8 @@ func TestMonitorAgreesWithTlog(t *testing.T) {
 			var proof []wagtenib.Hash
 			if model.accepted != nil && model.waiting != nil {
 				due = wagtenib.VerdictInconsistent
-				first, second := model.accepted.TreeSize, model.waiting.TreeSize
-				if first > 0 && model.waiting.Root == log.root(t, second) {
+				first, second := model.accepted[0].TreeSize, model.waiting[0].TreeSize
+				if first > 0 && model.waiting[0].Root == log.root(t, second) {
 					proof = log.proof(t, first, second)
 					if due = wagtenib.VerdictConsistent; chance.Intn(3) == 0 {
 						due, proof = wagtenib.VerdictInconsistent, proof[:len(proof)-1]
@@ -129,7 +146,7 @@ func TestMonitorAgreesWithTlog(t *testing.T) {
 		}
 		wanted := model.read
 		if model.waiting != nil {
-			wanted = model.waiting.TreeSize
+			wanted = model.waiting[0].TreeSize
 		}
 		if found.Accepted != model.sure || found.Read != model.read || found.Wanted != wanted {
 			t.Fatalf("%+v over %+v", found, model)
@@ -236,6 +253,133 @@ func TestMonitorNamesKnownHeads(t *testing.T) {
 	}
 }
 
+// TestMonitorKeepsTimestampsOfKnownTrees checks that a head is compared with the earliest and with the newest timestamp
+// of the accepted and of the waiting tree, and that the verdict names the head that contradicts it.
+func TestMonitorKeepsTimestampsOfKnownTrees(t *testing.T) {
+	log := &madeLog{}
+	for i := range 9 {
+		log.append(t, leafAt(uint64(i), "a certificate"))
+	}
+	head := func(size, timestamp uint64) wagtenib.TreeHead {
+		return wagtenib.TreeHead{TreeSize: size, Timestamp: timestamp, Root: log.root(t, size)}
+	}
+	state, err := wagtenib.MonitorStart(head(4, 100), log.subtrees(4))
+	if err != nil {
+		t.Fatal(err)
+	}
+	for _, one := range []struct {
+		head  wagtenib.TreeHead
+		due   wagtenib.Verdict
+		known wagtenib.TreeHead
+	}{
+		{head(4, 140), wagtenib.VerdictAgain, wagtenib.TreeHead{}},
+		{head(7, 120), wagtenib.VerdictNotLater, head(4, 140)},
+		{head(4, 90), wagtenib.VerdictAgain, wagtenib.TreeHead{}},
+		{head(3, 95), wagtenib.VerdictShrunk, head(4, 90)},
+		{head(3, 80), wagtenib.VerdictOlder, head(4, 90)},
+		{head(7, 200), wagtenib.VerdictPending, wagtenib.TreeHead{}},
+		{head(4, 210), wagtenib.VerdictShrunk, head(7, 200)},
+		{head(5, 190), wagtenib.VerdictOlder, head(7, 200)},
+		{head(7, 300), wagtenib.VerdictAgain, wagtenib.TreeHead{}},
+		{head(9, 250), wagtenib.VerdictNotLater, head(7, 300)},
+	} {
+		found, next, err := wagtenib.MonitorHead(state, one.head)
+		if err != nil || found.Verdict != one.due || found.Known != one.known {
+			t.Fatalf("%+v: %v, %+v, and %v beside %+v is due", one.head, err, found, one.due, one.known)
+		}
+		state = next
+	}
+}
+
+// TestMonitorJudgesOlderHeads checks proofs from each smaller head to the accepted one and to the waiting one. x/mod's
+// tlog makes them.
+func TestMonitorJudgesOlderHeads(t *testing.T) {
+	log := &madeLog{}
+	for i := range 12 {
+		log.append(t, leafAt(uint64(i), "a certificate"))
+	}
+	accepted := wagtenib.TreeHead{TreeSize: 7, Timestamp: 100, Root: log.root(t, 7)}
+	state, err := wagtenib.MonitorStart(accepted, log.subtrees(7))
+	if err != nil {
+		t.Fatal(err)
+	}
+	_, state, err = wagtenib.MonitorHead(state, wagtenib.TreeHead{TreeSize: 12, Timestamp: 200, Root: log.root(t, 12)})
+	if err != nil {
+		t.Fatal(err)
+	}
+	for size := range uint64(12) {
+		known := uint64(7)
+		if size >= known {
+			known = 12
+		}
+		var proof []wagtenib.Hash
+		if size > 0 {
+			proof = log.proof(t, size, known)
+		}
+		for _, one := range []struct {
+			root wagtenib.Hash
+			due  wagtenib.Verdict
+		}{
+			{log.root(t, size), wagtenib.VerdictConsistent},
+			{sha256.Sum256([]byte("a fork")), wagtenib.VerdictInconsistent},
+		} {
+			head := wagtenib.TreeHead{TreeSize: size, Timestamp: 9, Root: one.root}
+			found, next, err := wagtenib.MonitorOlder(state, head, proof)
+			if err != nil || found.Verdict != one.due || (found.Fault != nil) != (one.due == wagtenib.VerdictInconsistent) ||
+				found.Verdict.Accuses() || !bytes.Equal(next, state) {
+				t.Errorf("the size %d: %v, %+v, and %v is due", size, err, found, one.due)
+			}
+		}
+	}
+	found, _, err := wagtenib.MonitorOlder(state, wagtenib.TreeHead{TreeSize: 12}, nil)
+	if err != nil || found.Verdict != wagtenib.VerdictGap {
+		t.Errorf("a head that is not smaller: %v, %+v", err, found)
+	}
+}
+
+func TestCompareHeads(t *testing.T) {
+	a, b := sha256.Sum256([]byte("a")), sha256.Sum256([]byte("b"))
+	known := wagtenib.TreeHead{TreeSize: 5, Timestamp: 50, Root: a}
+	for _, one := range []struct {
+		head wagtenib.TreeHead
+		due  wagtenib.Verdict
+	}{
+		{wagtenib.TreeHead{TreeSize: 5, Timestamp: 50, Root: a}, wagtenib.VerdictAgain},
+		{wagtenib.TreeHead{TreeSize: 5, Timestamp: 90, Root: a}, wagtenib.VerdictAgain},
+		{wagtenib.TreeHead{TreeSize: 5, Timestamp: 50, Root: b}, wagtenib.VerdictForked},
+		{wagtenib.TreeHead{TreeSize: 4, Timestamp: 49, Root: b}, wagtenib.VerdictOlder},
+		{wagtenib.TreeHead{TreeSize: 4, Timestamp: 50, Root: b}, wagtenib.VerdictShrunk},
+		{wagtenib.TreeHead{TreeSize: 6, Timestamp: 50, Root: b}, wagtenib.VerdictNotLater},
+		{wagtenib.TreeHead{TreeSize: 6, Timestamp: 51, Root: b}, 0},
+	} {
+		if found := wagtenib.CompareHeads(known, one.head); found != one.due {
+			t.Errorf("%+v: %v, and %v is due", one.head, found, one.due)
+		}
+	}
+}
+
+// TestMonitorReadsStatesOfVersion1 checks that a state without newest timestamps is read as one whose heads were handed
+// out once.
+func TestMonitorReadsStatesOfVersion1(t *testing.T) {
+	log := &madeLog{}
+	for i := range 4 {
+		log.append(t, leafAt(uint64(i), "a certificate"))
+	}
+	head := wagtenib.TreeHead{TreeSize: 4, Timestamp: 100, Root: log.root(t, 4)}
+	state, err := wagtenib.MonitorStart(head, log.subtrees(4))
+	if err != nil {
+		t.Fatal(err)
+	}
+	// The version 1 lacks the two newest timestamps, which follow the accepted head and the mark of no waiting head.
+	at := 1 + 49 + 1
+	parts := slices.Concat([]byte{1}, state[1:at], state[at+16:len(state)-sha256.Size])
+	sum := sha256.Sum256(parts)
+	found, next, err := wagtenib.MonitorHead(append(parts, sum[:]...), wagtenib.TreeHead{TreeSize: 9, Timestamp: 100})
+	if err != nil || found.Verdict != wagtenib.VerdictNotLater || found.Known != head || !bytes.Equal(next, state) {
+		t.Errorf("%v, %+v", err, found)
+	}
+}
+
 func TestMonitorRefusesDamagedStates(t *testing.T) {
 	state, err := wagtenib.MonitorBegin()
 	if err != nil {
@@ -254,7 +398,8 @@ func TestMonitorRefusesDamagedStates(t *testing.T) {
 		_, _, head := wagtenib.MonitorHead(damaged, wagtenib.TreeHead{})
 		_, _, _, entries := wagtenib.MonitorEntries(damaged, 0, nil)
 		_, _, proof := wagtenib.MonitorProof(damaged, nil)
-		for _, err := range []error{head, entries, proof} {
+		_, _, older := wagtenib.MonitorOlder(damaged, wagtenib.TreeHead{}, nil)
+		for _, err := range []error{head, entries, proof, older} {
 			if !errors.Is(err, wagtenib.ErrState) {
 				t.Errorf("%s: %v", name, err)
 			}

@@ -29,8 +29,8 @@ fn a_monitor_accepts_the_head_of_the_leaves_that_it_read() {
     assert_eq!((all.verdict, all.accepted, all.wanted), (Verdict::Accepted, 8, 8));
     assert_eq!(monitor::head(&all.state, &head(8, 6)).unwrap().verdict, Verdict::Again);
     assert_eq!(monitor::head(&all.state, &TreeHead { root: Hash::default(), ..head(8, 6) }).unwrap().verdict, Verdict::Forked(head(8, 5)));
-    assert_eq!(monitor::head(&all.state, &head(7, 4)).unwrap().verdict, Verdict::Stale);
-    assert_eq!(monitor::head(&all.state, &head(7, 6)).unwrap().verdict, Verdict::Shrunk);
+    assert_eq!(monitor::head(&all.state, &head(7, 4)).unwrap().verdict, Verdict::Older(head(8, 5)));
+    assert_eq!(monitor::head(&all.state, &head(7, 6)).unwrap().verdict, Verdict::Shrunk(head(8, 5)));
 }
 
 #[test]
@@ -47,6 +47,19 @@ fn a_monitor_begins_at_a_head_that_it_is_told_to_trust() {
     assert_eq!(monitor::start(&head(6, 5), &subtrees[..1]), Err(Error::OtherCount));
     assert_eq!(monitor::start(&head(6, 5), &[subtrees[1], subtrees[0]]), Err(Error::RootMismatch));
     assert_eq!(monitor::head(&started[1..], &head(8, 6)), Err(Error::BadState));
+}
+
+#[test]
+fn a_proof_tells_an_older_head_from_a_fork_that_lags() {
+    let waiting = monitor::head(&monitor::begin().unwrap(), &head(8, 5)).unwrap();
+    let (all, _) = monitor::entries(&waiting.state, 0, &leaves()).unwrap();
+    let fork = TreeHead { root: Hash::default(), ..head(6, 4) };
+    assert_eq!(monitor::older(&all.state, &head(6, 4), &hashes(&PROOF)).unwrap().verdict, Verdict::Consistent);
+    assert_eq!(monitor::older(&all.state, &fork, &hashes(&PROOF)).unwrap().verdict, Verdict::Inconsistent(Error::FirstMismatch));
+    assert_eq!(monitor::older(&all.state, &head(8, 4), &[]).unwrap().verdict, Verdict::Gap);
+    assert!(!Verdict::Inconsistent(Error::FirstMismatch).accuses());
+    assert_eq!((monitor::compare(&head(6, 4), &head(8, 5)), monitor::compare(&head(8, 5), &head(6, 4))), (None, Some(Verdict::Older(head(8, 5)))));
+    assert_eq!(monitor::compare(&head(8, 5), &head(6, 5)), Some(Verdict::Shrunk(head(8, 5))));
 }
 
 #[test]
