@@ -23,7 +23,7 @@ use Rattle.ct_data_tiles.specs.declared.fault.TileFault.TheVariants.{Field, Part
 use Rattle.ct_data_tiles.specs.TileEntries.{tile_entries_bytes, tile_entry_bytes}
 use Rattle.ct_monitor.specs.WatcherState.{WatcherState}
 use Rattle.ct_monitor.specs.declared.verdict.Verdict.{Verdict}
-use Rattle.ct_monitor.specs.declared.verdict.Verdict.TheVariants.{Accepted, Pending, Again, Stale, Shrunk, Fork, TimeNotLater, RootMismatch, Gap, Consistent, Inconsistent}
+use Rattle.ct_monitor.specs.declared.verdict.Verdict.TheVariants.{Accepted, Pending, Again, Older, Shrunk, Fork, TimeNotLater, RootMismatch, Gap, Consistent, Inconsistent}
 use Rattle.ct_monitor.specs.Calls.{ReportsEntries}
 use Rattle.ct_monitor.specs.Entries.{IsFirstLater, leaves_to_read, moment_awaited}
 use Rattle.ct_monitor.specs.StateText.{IsMonitorState}
@@ -67,8 +67,8 @@ gap_code : (v : Verdict) → verdict_code v ≡ 136 → v ≡ Gap
 gap_code Accepted e = absurd (omega (arith, e))
 gap_code Pending e = absurd (omega (arith, e))
 gap_code Again e = absurd (omega (arith, e))
-gap_code Stale e = absurd (omega (arith, e))
-gap_code Shrunk e = absurd (omega (arith, e))
+gap_code (Older known) e = absurd (omega (arith, e))
+gap_code (Shrunk known) e = absurd (omega (arith, e))
 gap_code (Fork known) e = absurd (omega (arith, e))
 gap_code (TimeNotLater known) e = absurd (omega (arith, e))
 gap_code (RootMismatch root) e = absurd (omega (arith, e))
