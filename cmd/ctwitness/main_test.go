@@ -342,8 +342,8 @@ func TestArguments(t *testing.T) {
 		must(t, os.Chmod(p.path("key.pem"), mode))
 		var lines bytes.Buffer
 		// With --verifier-key it exits after it read the key.
-		if status := run(p.arguments("--verifier-key"), io.Discard, &lines, nil); status != 1 ||
-			!strings.Contains(lines.String(), "not only its owner") {
+		if status := run(p.arguments("--verifier-key"), io.Discard, &lines, nil); status != 2 ||
+			!strings.Contains(lines.String(), "other users may read or write it (run chmod 600 "+p.path("key.pem")) {
 			t.Errorf("a key of the mode %v: status %d: %s", mode, status, &lines)
 		}
 	}

@@ -13,6 +13,8 @@ import (
 	"strconv"
 	"strings"
 	"time"
+
+	"wagtenib/internal/privatefile"
 )
 
 // Rules are the rules of one program's config file, by the names of its flags.
@@ -101,7 +103,7 @@ func (r Rules) ParseAndValidate(flags *flag.FlagSet, arguments []string, validat
 }
 
 // read sets the flags that the command line did not set, from a file. Each line has a name and a value, which the flag
-// checks. Comments begin with #.
+// checks. Comments begin with #. If a value has a password, only the file's owner may have the permission to read it.
 func (r Rules) read(flags *flag.FlagSet, path string) error {
 	file, err := os.Open(path)
 	if err != nil {
@@ -129,6 +131,11 @@ func (r Rules) read(flags *flag.FlagSet, path string) error {
 			continue
 		}
 		value = strings.TrimSpace(value)
+		if hasPassword.MatchString(value) {
+			if err := privatefile.Check(file, fmt.Sprintf("a password in line %d", number)); err != nil {
+				return err
+			}
+		}
 		if err := flags.Set(name, value); err != nil {
 			return fmt.Errorf("%s, line %d: %s: %s", path, number, name,
 				refused(flags.Lookup(name), value, err.Error(), "%[1]s true, or %[1]s false"))
@@ -136,6 +143,10 @@ func (r Rules) read(flags *flag.FlagSet, path string) error {
 	}
 	return lines.Err()
 }
+
+// hasPassword matches the value of a setting with a password in an address: a URL with a user and a password, or with a
+// parameter for the password.
+var hasPassword = regexp.MustCompile(`://[^/@\s]*:[^/\s]*@|[?&]password=`)
 
 // Duration parses a duration. The error names the text and says what to write.
 func Duration(text string) (time.Duration, error) {

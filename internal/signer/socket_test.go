@@ -32,7 +32,7 @@ func TestRefusesAnotherKey(t *testing.T) {
 		signers, opened := []Signer{key, other}, 0
 		c, err := NewClient(ctx, func(ctx context.Context) (*Peer, error) {
 			path, next := filepath.Join(t.TempDir(), "socket"), signers[opened%2]
-			go func() { _ = Listen(ctx, next, path) }()
+			go func() { _ = Listen(ctx, next, Socket{Path: path}) }()
 			for {
 				if end, err := Dial(ctx, path); err == nil {
 					opened++
@@ -63,7 +63,7 @@ func TestSocketMode(t *testing.T) {
 	folder := t.TempDir()
 	path, file := filepath.Join(folder, "socket"), filepath.Join(folder, "file")
 	for i := 0; i < 2; i++ {
-		listener, err := listenAt(path)
+		listener, err := listenAt(Socket{Path: path})
 		must(t, err)
 		defer listener.Close()
 		if info, err := os.Stat(path); err != nil || info.Mode() != os.ModeSocket|0o660 {
@@ -71,7 +71,7 @@ func TestSocketMode(t *testing.T) {
 		}
 	}
 	must(t, os.WriteFile(file, []byte("something"), 0o600))
-	if _, err := listenAt(file); err == nil {
+	if _, err := listenAt(Socket{Path: file}); err == nil {
 		t.Error("a file is taken for a socket")
 	}
 	if content, err := os.ReadFile(file); err != nil || string(content) != "something" {

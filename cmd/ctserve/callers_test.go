@@ -1,0 +1,235 @@
+package main
+
+import (
+	"bufio"
+	"bytes"
+	"crypto/sha256"
+	"encoding/json"
+	"fmt"
+	"net"
+	"os"
+	"os/exec"
+	"path/filepath"
+	"runtime"
+	"strings"
+	"syscall"
+	"testing"
+	"time"
+
+	"wagtenib/internal/httpserver/fakelog"
+	"wagtenib/internal/testutil"
+)
+
+// stranger and other are users that own nothing of a log.
+const stranger, other = 65534, 64321
+
+// as calls do in a thread that is another user's, with only this group and no capability. The kernel names the user of
+// the thread as the caller of a connection. The thread ends with do.
+func as(t *testing.T, uid, group int, do func() error) error {
+	t.Helper()
+	if os.Getuid() != 0 {
+		t.Skip("only root can become another user")
+	}
+	done := make(chan error, 1)
+	go func() {
+		// Without UnlockOSThread the thread ends with this goroutine.
+		runtime.LockOSThread()
+		done <- func() error {
+			if err := becomes(uid, group); err != nil {
+				return err
+			}
+			return do()
+		}()
+	}()
+	return <-done
+}
+
+// becomes makes this thread, and no other one, another user's. The functions of package syscall change all threads.
+func becomes(uid, group int) error {
+	user, other := uintptr(uid), uintptr(group)
+	for _, call := range [][4]uintptr{{syscall.SYS_SETGROUPS}, {syscall.SYS_SETRESGID, other, other, other},
+		{syscall.SYS_SETRESUID, user, user, user}} {
+		if _, _, errno := syscall.RawSyscall(call[0], call[1], call[2], call[3]); errno != 0 {
+			return fmt.Errorf("call %d: %w", call[0], errno)
+		}
+	}
+	return nil
+}
+
+// enterable returns a folder that only root and its group may enter.
+func enterable(t *testing.T, group int) string {
+	t.Helper()
+	folder, err := os.MkdirTemp("", "ctserve-")
+	testutil.Must(t, err)
+	t.Cleanup(func() { os.RemoveAll(folder) })
+	testutil.Must(t, os.Chown(folder, 0, group))
+	testutil.Must(t, os.Chmod(folder, 0o750))
+	return folder
+}
+
+// signerAt starts a signer at a socket, and returns its lines on standard error.
+func signerAt(t *testing.T, at *place, socket string, more ...string) <-chan string {
+	t.Helper()
+	command := exec.Command(os.Args[0], append([]string{"signer", "--signing-key", at.path("log.pem"), "--guard-state",
+		"file:" + at.path("guard"), "--create", "--listen", socket}, more...)...)
+	command.Env = append(os.Environ(), childKey+"=1")
+	output, err := command.StderrPipe()
+	testutil.Must(t, err)
+	testutil.Must(t, command.Start())
+	lines := make(chan string, 100)
+	go func() {
+		defer close(lines)
+		for scanner := bufio.NewScanner(output); scanner.Scan(); {
+			lines <- scanner.Text()
+		}
+	}()
+	t.Cleanup(func() {
+		_ = command.Process.Kill()
+		_ = command.Wait()
+	})
+	for until := time.Now().Add(testutil.Longest); ; time.Sleep(5 * time.Millisecond) {
+		if isThere(socket) {
+			return lines
+		}
+		if time.Now().After(until) {
+			t.Fatal("the signer does not listen")
+		}
+	}
+}
+
+// answerTo sends a line to a socket, and returns the first line of the answer. It is empty if the connection is closed
+// instead.
+func answerTo(socket, line string) (string, error) {
+	connection, err := net.Dial("unix", socket)
+	if err != nil {
+		return "", err
+	}
+	defer connection.Close()
+	if err := connection.SetDeadline(time.Now().Add(testutil.Longest)); err != nil {
+		return "", err
+	}
+	// This fails if the connection is closed already.
+	_, _ = connection.Write([]byte(line + "\n"))
+	answer, err := bufio.NewReader(connection).ReadString('\n')
+	if late, isNet := err.(net.Error); isNet && late.Timeout() {
+		return "", err
+	}
+	return answer, nil
+}
+
+// headOf returns the size, the timestamp and the root of a log's newest head.
+func headOf(t *testing.T, address string) (size, timestamp uint64, root []byte) {
+	t.Helper()
+	var head struct {
+		Size      uint64 `json:"tree_size"`
+		Timestamp uint64 `json:"timestamp"`
+		Root      []byte `json:"sha256_root_hash"`
+	}
+	_, text := read(address, "/ct/v1/get-sth")
+	testutil.Must(t, json.Unmarshal([]byte(text), &head))
+	return head.Size, head.Timestamp, head.Root
+}
+
+// longerHead returns a request for the head of a log with four entries and a fifth one. As four is a power of two, the
+// root is the hash of the log's root and the leaf's, and the leaf's hash is the consistency proof (RFC 6962, section
+// 2.1.2).
+func longerHead(t *testing.T, address string) string {
+	t.Helper()
+	size, timestamp, root := headOf(t, address)
+	if size != 4 {
+		t.Fatalf("the log has %d entries", size)
+	}
+	leaf := fakelog.LeafHash([]byte("an entry of the stranger"))
+	longer := sha256.Sum256(append(append([]byte{1}, root...), leaf[:]...))
+	line, err := json.Marshal(map[string]any{"consistency": [][]byte{leaf[:]},
+		"head": map[string]any{"sha256_root_hash": longer[:], "timestamp": timestamp + 1, "tree_size": 5}})
+	testutil.Must(t, err)
+	return string(line)
+}
+
+// TestStrangerCannotSign: a process that may open the signer's socket, but is another user's, asks for the signature of
+// a head that continues the log with an entry of its own. The guard would approve that head, and would then refuse all
+// heads of the log. The signer must close the connection, report the caller, and sign for the log as before.
+func TestStrangerCannotSign(t *testing.T) {
+	t.Parallel()
+	at, socket := newPlace(t), filepath.Join(enterable(t, other), "signer")
+	lines := signerAt(t, at, socket)
+	testutil.Must(t, os.Chown(socket, 0, other))
+	p := started(t, "", at.realArguments("--signer-socket", socket, "--create", "--submission-timeout", "1m")...)
+	for range 4 {
+		if status, text := post(p.clients, at.submission()); status != 200 {
+			t.Fatalf("%d %s", status, text)
+		}
+	}
+	line, answer := longerHead(t, p.clients), ""
+	testutil.Must(t, as(t, stranger, other, func() (err error) {
+		answer, err = answerTo(socket, line)
+		return err
+	}))
+	if answer != "" {
+		t.Errorf("a stranger asks for a head, and the signer answers %s", answer)
+	}
+	if status, text := post(p.clients, at.submission()); status != 200 {
+		t.Errorf("after a stranger asked: %d %s", status, text)
+	}
+	select {
+	case line := <-lines:
+		if !strings.Contains(line, `"event":"refused-caller"`) || !strings.Contains(line, `"uid":65534`) {
+			t.Errorf("the signer reports %s", line)
+		}
+	case <-time.After(testutil.Longest):
+		t.Error("the signer does not report the stranger")
+	}
+	p.signal(syscall.SIGTERM)
+	if status := p.ends(); status != 0 {
+		t.Errorf("ctserve ended with status %d", status)
+	}
+}
+
+// TestAllowedUsers: a signer answers the users that its setting names, and no others, whoever may open its socket.
+func TestAllowedUsers(t *testing.T) {
+	t.Parallel()
+	at, socket := newPlace(t), filepath.Join(enterable(t, other), "signer")
+	signerAt(t, at, socket, "--allow-users", fmt.Sprint("daemon, ", other))
+	testutil.Must(t, os.Chown(socket, 0, other))
+	for _, user := range []struct {
+		uid     int
+		answers bool
+	}{{0, true}, {other, true}, {1, true}, {other + 1, false}, {stranger, false}} {
+		answer := ""
+		testutil.Must(t, as(t, user.uid, other, func() (err error) {
+			answer, err = answerTo(socket, `{"last":true}`)
+			return err
+		}))
+		if (answer != "") != user.answers {
+			t.Errorf("user %d: %q", user.uid, answer)
+		}
+	}
+}
+
+// TestWrongSignerArguments: wrong arguments of the signer end with status 2 and a message that says what to do.
+func TestWrongSignerArguments(t *testing.T) {
+	t.Parallel()
+	at := newPlace(t)
+	at.write("open.pem", []byte("a key"))
+	testutil.Must(t, os.Chmod(at.path("open.pem"), 0o640))
+	key := []string{"--signing-key", at.path("log.pem")}
+	for _, test := range []struct {
+		arguments []string
+		why       string
+	}{
+		{nil, "--signing-key is missing"},
+		{append(key, "--allow-users", "daemon"), "--allow-users needs --listen"},
+		{append(key, "--listen", "s", "--allow-users", "no-such-user"), `there is no user "no-such-user"`},
+		{append(key, "--listen", "s", "--allow-users", "65534"), "65534 is the user of every process that belongs to nobody"},
+		{append(key, "--guard-state", "etcd://192.0.2.1:2379/log"), "no TLS to another machine: etcd at 192.0.2.1:2379"},
+		{append(key, "other"), "wrong number of arguments"},
+		{[]string{"--signing-key", at.path("open.pem")}, "mode 0640: other users may read or write it (run chmod 600 "},
+	} {
+		var output bytes.Buffer
+		status := runSigner(test.arguments, strings.NewReader(""), &bytes.Buffer{}, &output)
+		if status != 2 || !strings.Contains(output.String(), test.why) {
+			t.Errorf("%q: status %d: %s", test.arguments, status, &output)
+		}
+	}
+}
