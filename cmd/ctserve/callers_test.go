@@ -155,7 +155,8 @@ func TestStrangerCannotSign(t *testing.T) {
 	at, socket := newPlace(t), filepath.Join(enterable(t, other), "signer")
 	lines := signerAt(t, at, socket)
 	testutil.Must(t, os.Chown(socket, 0, other))
-	p := started(t, "", at.realArguments("--signer-socket", socket, "--create", "--submission-timeout", "1m")...)
+	p := started(t, "", at.realArguments("--signer-socket", socket, "--create", "--submission-timeout", "1m",
+		"--shutdown-timeout", "1m")...)
 	for range 4 {
 		if status, text := post(p.clients, at.submission()); status != 200 {
 			t.Fatalf("%d %s", status, text)

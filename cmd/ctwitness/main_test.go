@@ -321,6 +321,8 @@ func TestArguments(t *testing.T) {
 		{"", []string{"--listen", "127.0.0.1:x"}, 1, "listen"},
 		{"", []string{"--operator-listen", "127.0.0.1:x"}, 1, "listen"},
 		{a, []string{"--state", "s3://x/y"}, 1, "a lock is at"},
+		{a, []string{"--state", "etcd://192.0.2.1:2379/w"}, 2, "no TLS to another machine: etcd at 192.0.2.1:2379"},
+		{a, []string{"--state", "etcd://192.0.2.1:2379", "--allow-plaintext"}, 1, "etcd needs a prefix"},
 	} {
 		p.write("settings", string(base)+test.settings+"\n")
 		arguments := p.arguments(test.arguments...)

@@ -103,7 +103,7 @@ func (r Rules) ParseAndValidate(flags *flag.FlagSet, arguments []string, validat
 }
 
 // read sets the flags that the command line did not set, from a file. Each line has a name and a value, which the flag
-// checks. Comments begin with #. If a value has a password, only the file's owner may have the permission to read it.
+// checks. Comments begin with #. If a line has a password, only the file's owner may have the permission to read it.
 func (r Rules) read(flags *flag.FlagSet, path string) error {
 	file, err := os.Open(path)
 	if err != nil {
@@ -115,6 +115,12 @@ func (r Rules) read(flags *flag.FlagSet, path string) error {
 	// seen has the number of the last line with a name.
 	lines, seen := bufio.NewScanner(file), map[string]int{}
 	for number := 1; lines.Scan(); number++ {
+		// Also a comment with a password must not be read by others.
+		if hasPassword.MatchString(lines.Text()) {
+			if err := privatefile.Check(file, fmt.Sprintf("a password in line %d", number)); err != nil {
+				return err
+			}
+		}
 		line, _, _ := strings.Cut(lines.Text(), "#")
 		name, value, _ := strings.Cut(strings.TrimSpace(line), " ")
 		several := has(r.Several, name)
@@ -131,11 +137,6 @@ func (r Rules) read(flags *flag.FlagSet, path string) error {
 			continue
 		}
 		value = strings.TrimSpace(value)
-		if hasPassword.MatchString(value) {
-			if err := privatefile.Check(file, fmt.Sprintf("a password in line %d", number)); err != nil {
-				return err
-			}
-		}
 		if err := flags.Set(name, value); err != nil {
 			return fmt.Errorf("%s, line %d: %s: %s", path, number, name,
 				refused(flags.Lookup(name), value, err.Error(), "%[1]s true, or %[1]s false"))
@@ -144,8 +145,8 @@ func (r Rules) read(flags *flag.FlagSet, path string) error {
 	return lines.Err()
 }
 
-// hasPassword matches the value of a setting with a password in an address: a URL with a user and a password, or with a
-// parameter for the password.
+// hasPassword matches a line with a password in an address: a URL with a user and a password, or with a parameter for
+// the password.
 var hasPassword = regexp.MustCompile(`://[^/@\s]*:[^/\s]*@|[?&]password=`)
 
 // Duration parses a duration. The error names the text and says what to write.
