@@ -6,6 +6,7 @@ import (
 	"crypto/sha256"
 	"encoding/json"
 	"fmt"
+	"io"
 	"net"
 	"os"
 	"os/exec"
@@ -67,8 +68,8 @@ func enterable(t *testing.T, group int) string {
 	return folder
 }
 
-// signerAt starts a signer at a socket, and returns its lines on standard error.
-func signerAt(t *testing.T, at *place, socket string, more ...string) <-chan string {
+// signerAt starts a signer at a socket, and returns its lines on standard error and its process.
+func signerAt(t *testing.T, at *place, socket string, more ...string) (<-chan string, *os.Process) {
 	t.Helper()
 	command := exec.Command(os.Args[0], append([]string{"signer", "--signing-key", at.path("log.pem"), "--guard-state",
 		"file:" + at.path("guard"), "--create", "--listen", socket}, more...)...)
@@ -89,7 +90,7 @@ func signerAt(t *testing.T, at *place, socket string, more ...string) <-chan str
 	})
 	for until := time.Now().Add(testutil.Longest); ; time.Sleep(5 * time.Millisecond) {
 		if isThere(socket) {
-			return lines
+			return lines, command.Process
 		}
 		if time.Now().After(until) {
 			t.Fatal("the signer does not listen")
@@ -153,7 +154,7 @@ func longerHead(t *testing.T, address string) string {
 func TestStrangerCannotSign(t *testing.T) {
 	t.Parallel()
 	at, socket := newPlace(t), filepath.Join(enterable(t, other), "signer")
-	lines := signerAt(t, at, socket)
+	lines, _ := signerAt(t, at, socket)
 	testutil.Must(t, os.Chown(socket, 0, other))
 	p := started(t, "", at.realArguments("--signer-socket", socket, "--create", "--submission-timeout", "1m",
 		"--shutdown-timeout", "1m")...)
@@ -232,5 +233,70 @@ func TestWrongSignerArguments(t *testing.T) {
 		if status != 2 || !strings.Contains(output.String(), test.why) {
 			t.Errorf("%q: status %d: %s", test.arguments, status, &output)
 		}
+	}
+}
+
+// TestSignerUnit: the arguments in the signer's unit are right, and its socket is in a folder that only the user of the
+// unit may enter.
+func TestSignerUnit(t *testing.T) {
+	t.Parallel()
+	text, err := os.ReadFile("../../release/systemd/ctserve-signer@.service")
+	testutil.Must(t, err)
+	value := func(name string) string {
+		_, rest, _ := strings.Cut("\n"+string(text), "\n"+name+"=")
+		line, _, _ := strings.Cut(rest, "\n")
+		return strings.ReplaceAll(line, "%i", "2027h1")
+	}
+	words, s, flags := strings.Fields(value("ExecStart")), &signerSettings{}, commandFlags("signer", "", io.Discard)
+	s.flags(flags)
+	if len(words) < 2 || words[1] != "signer" {
+		t.Fatalf("the unit starts %q", words)
+	}
+	testutil.Must(t, parseFlags(flags, words[2:], 0))
+	testutil.Must(t, s.validate())
+	if folder := "/run/" + value("RuntimeDirectory"); filepath.Dir(s.socket.Path) != folder ||
+		value("RuntimeDirectoryMode") != "0700" || s.socket.Users != nil || !s.guard {
+		t.Errorf("the socket %s is not in %s with the mode %s", s.socket.Path, folder, value("RuntimeDirectoryMode"))
+	}
+	testutil.Says(t, testutil.Page(t, "../../docs/OPERATING.md"), map[string]bool{
+		"signer-socket " + s.socket.Path: true,
+	})
+}
+
+// TestHangingSigner: while a signer does not reply, the log reports a fault, and /readyz answers 503, before the first
+// submission that waits for it gets its answer. After the signer goes on, the log does so too.
+func TestHangingSigner(t *testing.T) {
+	t.Parallel()
+	at := newPlace(t)
+	socket := at.path("signer")
+	_, process := signerAt(t, at, socket)
+	p := started(t, "", at.realArguments("--signer-socket", socket, "--create", "--submission-timeout", "30s")...)
+	if status, text := post(p.clients, at.submission()); status != 200 {
+		t.Fatalf("%d %s", status, text)
+	}
+	testutil.Must(t, process.Signal(syscall.SIGSTOP))
+	answers, body := make(chan int, 1), at.submission()
+	go func() {
+		status, _ := post(p.clients, body)
+		answers <- status
+	}()
+	for {
+		if status, text := get(p.clients, "/readyz"); status == 503 && strings.Contains(text, "fault") {
+			break
+		}
+		select {
+		case status := <-answers:
+			t.Fatalf("a submission is answered by %d, and /readyz reports no fault", status)
+		case <-time.After(10 * time.Millisecond):
+		}
+	}
+	p.shows("ctserve_fault 1")
+	if line := p.until("fault"); !strings.Contains(fmt.Sprint(line["detail"]), "signer: no reply for more than") {
+		t.Errorf("the fault is %v", line)
+	}
+	testutil.Must(t, process.Signal(syscall.SIGCONT))
+	p.shows("ctserve_fault 0")
+	if status, text := post(p.clients, at.submission()); status != 200 {
+		t.Errorf("after the signer goes on: %d %s", status, text)
 	}
 }
