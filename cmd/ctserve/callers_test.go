@@ -168,10 +168,11 @@ func TestStrangerCannotSign(t *testing.T) {
 		answer, err = answerTo(socket, line)
 		return err
 	}))
+	status, text := post(p.clients, at.submission())
 	if answer != "" {
-		t.Errorf("a stranger asks for a head, and the signer answers %s", answer)
+		t.Fatalf("a stranger asks for a head, the signer answers %s, and then the log answers %d %s", answer, status, text)
 	}
-	if status, text := post(p.clients, at.submission()); status != 200 {
+	if status != 200 {
 		t.Errorf("after a stranger asked: %d %s", status, text)
 	}
 	select {
