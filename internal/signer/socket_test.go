@@ -82,6 +82,24 @@ func TestSocketMode(t *testing.T) {
 	}
 }
 
+// TestReportsRefusedCallers: of the callers that are refused within a minute, the first one is reported at once, and the
+// others are counted in the next report.
+func TestReportsRefusedCallers(t *testing.T) {
+	t.Parallel()
+	var reports []string
+	c := &callers{socket: Socket{Refused: func(caller Caller, count int) {
+		reports = append(reports, fmt.Sprint(caller.UID, " ", caller.PID, " ", count))
+	}}}
+	for pid := range int32(3) {
+		c.refuse(Caller{PID: pid, UID: 7})
+	}
+	c.next = time.Now()
+	c.refuse(Caller{PID: 3, UID: 8})
+	if got := strings.Join(reports, ", "); got != "7 0 1, 8 3 3" {
+		t.Errorf("the reports are %s", got)
+	}
+}
+
 // timedSigner is a signer that sends how much time is left for an answer.
 type timedSigner struct {
 	Signer
