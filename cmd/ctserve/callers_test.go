@@ -21,8 +21,9 @@ import (
 	"wagtenib/internal/testutil"
 )
 
-// stranger and other are users that own nothing of a log.
-const stranger, other = 65534, 64321
+// stranger is the id of nobody, who owns nothing of a log. spare is the id of a user and of a group that exist nowhere
+// else.
+const stranger, spare = 65534, 64321
 
 // as calls do in a thread that is another user's, with only this group and no capability. The kernel names the user of
 // the thread as the caller of a connection. The thread ends with do.
@@ -47,8 +48,8 @@ func as(t *testing.T, uid, group int, do func() error) error {
 
 // becomes makes this thread, and no other one, another user's. The functions of package syscall change all threads.
 func becomes(uid, group int) error {
-	user, other := uintptr(uid), uintptr(group)
-	for _, call := range [][4]uintptr{{syscall.SYS_SETGROUPS}, {syscall.SYS_SETRESGID, other, other, other},
+	user, own := uintptr(uid), uintptr(group)
+	for _, call := range [][4]uintptr{{syscall.SYS_SETGROUPS}, {syscall.SYS_SETRESGID, own, own, own},
 		{syscall.SYS_SETRESUID, user, user, user}} {
 		if _, _, errno := syscall.RawSyscall(call[0], call[1], call[2], call[3]); errno != 0 {
 			return fmt.Errorf("call %d: %w", call[0], errno)
@@ -153,9 +154,9 @@ func longerHead(t *testing.T, address string) string {
 // heads of the log. The signer must close the connection, report the caller, and sign for the log as before.
 func TestStrangerCannotSign(t *testing.T) {
 	t.Parallel()
-	at, socket := newPlace(t), filepath.Join(enterable(t, other), "signer")
+	at, socket := newPlace(t), filepath.Join(enterable(t, spare), "signer")
 	lines, _ := signerAt(t, at, socket)
-	testutil.Must(t, os.Chown(socket, 0, other))
+	testutil.Must(t, os.Chown(socket, 0, spare))
 	p := started(t, "", at.realArguments("--signer-socket", socket, "--create", "--submission-timeout", "1m",
 		"--shutdown-timeout", "1m")...)
 	for range 4 {
@@ -164,7 +165,7 @@ func TestStrangerCannotSign(t *testing.T) {
 		}
 	}
 	line, answer := longerHead(t, p.clients), ""
-	testutil.Must(t, as(t, stranger, other, func() (err error) {
+	testutil.Must(t, as(t, stranger, spare, func() (err error) {
 		answer, err = answerTo(socket, line)
 		return err
 	}))
@@ -192,15 +193,15 @@ func TestStrangerCannotSign(t *testing.T) {
 // TestAllowedUsers: a signer answers the users that its setting names, and no others, whoever may open its socket.
 func TestAllowedUsers(t *testing.T) {
 	t.Parallel()
-	at, socket := newPlace(t), filepath.Join(enterable(t, other), "signer")
-	signerAt(t, at, socket, "--allow-users", fmt.Sprint("daemon, ", other))
-	testutil.Must(t, os.Chown(socket, 0, other))
+	at, socket := newPlace(t), filepath.Join(enterable(t, spare), "signer")
+	signerAt(t, at, socket, "--allow-users", fmt.Sprint("daemon, ", spare))
+	testutil.Must(t, os.Chown(socket, 0, spare))
 	for _, user := range []struct {
 		uid     int
 		answers bool
-	}{{0, true}, {other, true}, {1, true}, {other + 1, false}, {stranger, false}} {
+	}{{0, true}, {spare, true}, {1, true}, {spare + 1, false}, {stranger, false}} {
 		answer := ""
-		testutil.Must(t, as(t, user.uid, other, func() (err error) {
+		testutil.Must(t, as(t, user.uid, spare, func() (err error) {
 			answer, err = answerTo(socket, `{"last":true}`)
 			return err
 		}))

@@ -65,7 +65,7 @@ func reads(folder string) (found []string, err error) {
 func TestReadersGroup(t *testing.T) {
 	t.Parallel()
 	at := newPlace(t)
-	at.folder = enterable(t, other)
+	at.folder = enterable(t, spare)
 	testutil.Must(t, os.Chmod(at.folder, 0o751))
 	authority := at.authority
 	at.write("roots.pem", authority.PEM())
@@ -89,8 +89,8 @@ func TestReadersGroup(t *testing.T) {
 			testutil.Must(t, os.Chmod(at.path("log"), 0o750))
 			at.served()
 		}
-		testutil.Must(t, os.Chown(at.path("log"), 0, other))
-		for _, group := range []int{other, other + 1} {
+		testutil.Must(t, os.Chown(at.path("log"), 0, spare))
+		for _, group := range []int{spare, spare + 1} {
 			var found []string
 			testutil.Must(t, as(t, stranger, group, func() (err error) {
 				for _, name := range []string{"log", "log.guard"} {
@@ -109,13 +109,13 @@ func TestReadersGroup(t *testing.T) {
 			}))
 			seen := strings.Join(found, "\n")
 			for _, name := range found {
-				if group != other || !isReadersFile(name) {
+				if group != spare || !isReadersFile(name) {
 					t.Errorf("earlier %t, group %d: another user reads %s", earlier, group, name)
 				}
 			}
 			for _, name := range []string{"log/objects/tile/0/", "log/objects/tile/data/", "log/objects/issuer/",
 				"log/objects/checkpoint", "log/objects/log.v3.json"} {
-				if group == other && !strings.Contains(seen, name) {
+				if group == spare && !strings.Contains(seen, name) {
 					t.Errorf("earlier %t: a web server does not read %s:\n%s", earlier, name, seen)
 				}
 			}
