@@ -5,6 +5,7 @@ import (
 	"errors"
 	"fmt"
 	"io"
+	"io/fs"
 	"os"
 )
 
@@ -18,20 +19,23 @@ func Check(file *os.File, secret string) error {
 	if err != nil {
 		return err
 	}
-	if mode := info.Mode().Perm(); mode&0o077 != 0 {
-		return fmt.Errorf("%s has %s and the mode %04o: %w (run chmod 600 %[1]s)", file.Name(), secret, mode, ErrShared)
-	}
-	return nil
+	return check(info, file.Name(), secret)
 }
 
-// CheckPath returns ErrShared if a file exists and not only its owner may read and write it, as Check says.
+// CheckPath returns the error of Check for the file of this path. It does not open the file.
 func CheckPath(path, secret string) error {
-	file, err := os.Open(path)
+	info, err := os.Stat(path)
 	if err != nil {
 		return err
 	}
-	defer file.Close()
-	return Check(file, secret)
+	return check(info, path, secret)
+}
+
+func check(info fs.FileInfo, path, secret string) error {
+	if mode := info.Mode().Perm(); mode&0o077 != 0 {
+		return fmt.Errorf("%s has %s and the mode %04o: %w (run chmod 600 %[1]s)", path, secret, mode, ErrShared)
+	}
+	return nil
 }
 
 // Read returns the content of a file that only its owner may read and write, at most maxBytes of it.
