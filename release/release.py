@@ -29,7 +29,7 @@ PROGRAMS = {"ctlog": "make demo"}
 # The services that contain the proved code of dist/.
 LINKED = ("ctserve", "ctwatch", "ctwitness")
 SERVICE = ("ctserve", "ctfsck", "ctfollow", "ctload", "ctwitness", "ctwatch")
-UNITS = ("ctserve@.service", "ctwitness@.service")
+UNITS = ("ctserve@.service", "ctserve-signer@.service", "ctwitness@.service")
 WATCH_UNITS = ("ctwatch.service",)
 SHARED = (
     "prometheus/prometheus.yml",
@@ -276,13 +276,13 @@ POSTINST = """#!/bin/sh
 set -e
 if [ "$1" = configure ]; then
   adduser --quiet --system --group --no-create-home --home /var/lib/ctserve ctserve
-  install -d -m 750 -o ctserve -g ctserve /var/lib/ctserve
+  install -d -m 751 -o ctserve -g ctserve /var/lib/ctserve
   adduser --quiet --system --group --no-create-home --home /var/lib/ctwitness ctwitness
   install -d -m 750 -o ctwitness -g ctwitness /var/lib/ctwitness
   if [ -d /run/systemd/system ]; then
     systemctl --system daemon-reload >/dev/null || true
     # (logs that run go on in the new version once they are started again)
-    systemctl try-restart 'ctserve@*' 'ctwitness@*' >/dev/null || true
+    systemctl try-restart 'ctserve-signer@*' 'ctserve@*' 'ctwitness@*' >/dev/null || true
   fi
 fi
 """

@@ -134,7 +134,7 @@ ELSEWHERE = {
     "docs/ARCHIVE.md": {"": BARE},
     "docs/AUDIT.md": {"cat ct-log/leaf.pem": HERE, "curl -s -d @ct-log/chain.json": HERE, "cmd/out/ctwatch audit": HERE},
     "docs/LINES.md": {"crates/ctlog/out/ctlog": HERE},
-    "docs/OPERATING.md": {**dict.fromkeys(("make service", "install ", "adduser "), BY_HAND), "": BARE},
+    "docs/OPERATING.md": {"install -m 600": BARE, **dict.fromkeys(("make service", "install ", "adduser "), BY_HAND), "": BARE},
     "docs/WATCH.md": {"make serve": HERE, "curl -s -d @ct-log/chain.json": HERE, "cmd/out/ctwatch run --once": HERE, "openssl req": HERE, "openssl x509": HERE, "printf": HERE,
                       "curl -s -d @own.json": HERE},
     "examples/README.md": {"examples/pem_lines.py": HERE},

@@ -47,8 +47,9 @@ func TestPagesNameSettings(t *testing.T) {
 		}
 	}
 	// These have a hyphen and are not settings.
-	others := map[string]bool{"list-entry": true, "made-again": true, "root-left-out": true, "read-only": true,
-		"too-often": true, "statement_timeout": true, "pre-vote": true, "auto-compaction-mode=periodic": true}
+	others := map[string]bool{"list-entry": true, "made-again": true, "root-left-out": true, "refused-caller": true,
+		"read-only": true, "too-often": true, "statement_timeout": true, "pre-vote": true,
+		"auto-compaction-mode=periodic": true}
 	for _, refusal := range chains.Refusals {
 		others[string(refusal)] = true
 	}

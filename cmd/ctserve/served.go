@@ -104,14 +104,18 @@ func checkStores(n node) error {
 	return checkEarlierIndex(n)
 }
 
+// folderMode is the mode of a log's new folder. A web server that reads the objects needs the folder's group, in which
+// is no other right (docs/INCIDENTS.md).
+const folderMode = 0o750
+
 // openNode opens a log, and begins to serve it.
 func openNode(ctx context.Context, n node) (of *opened, err error) {
 	if n.makesFolder {
-		if err := stores.MakeFolder(n.folder); err != nil {
+		if err := stores.MakeFolder(n.folder, folderMode); err != nil {
 			return nil, err
 		}
 	}
-	if err := stores.MakeFolder(filepath.Dir(n.latestHead)); err != nil {
+	if err := stores.MakeFolder(filepath.Dir(n.latestHead), 0o755); err != nil {
 		return nil, err
 	}
 	client, err := askSigner(ctx, n)

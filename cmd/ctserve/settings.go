@@ -51,6 +51,7 @@ type node struct {
 	maxQueue, maxBatch, maxProofs    int
 	maxWritten                       int
 	create, makesFolder, isPublic    bool
+	allowPlaintext                   bool
 	peers                            peers
 	witnesses                        []witness.One
 	quorums                          witness.Quorums
@@ -203,6 +204,7 @@ func (n *node) storeFlags(flags *flag.FlagSet) {
 			"file:PATH, etcd://HOST:PORT/PREFIX, postgres://HOST/DATABASE?log=NAME")
 	flags.StringVar(&n.index, "index", "",
 		"`address` of the deduplication index: leveldb:PATH, postgres://HOST/DATABASE?log=NAME")
+	plaintextFlag(flags, &n.allowPlaintext)
 	flags.StringVar(&n.archive, "archive", "",
 		"`folder` of an archive of another log (ctserve archive --help), which is served read-only. "+
 			"The archive has the log's key, origin and last head, so it replaces these settings and the stores")
@@ -215,6 +217,13 @@ func (n *node) storeFlags(flags *flag.FlagSet) {
 	flags.BoolVar(&n.create, "create", false,
 		"create the log if there is none. Without it, ctserve does not start with an empty lock")
 	flags.DurationVar(&n.openWithin, "open-timeout", 30*time.Second, "time within which the stores must open")
+}
+
+// plaintextFlag defines the setting that allows stores on other machines without TLS.
+func plaintextFlag(flags *flag.FlagSet, allow *bool) {
+	flags.BoolVar(allow, "allow-plaintext", false,
+		"call stores on other machines without TLS. Everyone on the way can then read and change what is stored, and "+
+			"the passwords")
 }
 
 // paceFlags defines the settings for the clock, the intervals and the limits of a node.

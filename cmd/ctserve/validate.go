@@ -10,7 +10,9 @@ import (
 	"time"
 
 	"wagtenib/internal/httpserver"
+	"wagtenib/internal/privatefile"
 	"wagtenib/internal/settingsfile"
+	"wagtenib/internal/signer"
 	"wagtenib/internal/stores"
 	"wagtenib/internal/witness"
 )
@@ -19,7 +21,8 @@ import (
 func (s *settings) validate() error {
 	n := &s.node
 	for _, check := range []func() error{s.validateArchive, s.checkNeeded, s.validateAddresses, s.validateRules,
-		s.checkDurations, n.validateMergeDelay, s.validateLimits, n.setDefaultStores, n.validateWitnesses} {
+		s.checkDurations, n.validateMergeDelay, s.validateLimits, n.setDefaultStores, n.validateWitnesses,
+		s.checkSecrets} {
 		if err := check(); err != nil {
 			return err
 		}
@@ -44,6 +47,42 @@ func (s *settings) checkNeeded() error {
 	}
 	if (s.certificate == "") != (s.key == "") {
 		return errors.New("--tls-certificate and --tls-key need each other")
+	}
+	return nil
+}
+
+// named is the value of a setting.
+type named struct{ name, value string }
+
+// checkSecrets returns an error if other users may read a key, or if a password could be read on the way to a store.
+func (s *settings) checkSecrets() error {
+	n := &s.node
+	err := checkKeyFiles(named{"signing-key", n.signingKey}, named{"tls-key", s.key}, named{"nodes-key", n.peers.key})
+	if err != nil || n.allowPlaintext {
+		return err
+	}
+	return checkTLS(named{"store", n.store}, named{"lock", n.lock}, named{"index", n.index},
+		named{"guard-state", n.guardState})
+}
+
+// checkKeyFiles returns an error if not only its owner may read the file of a key. A file that cannot be opened is
+// reported when the key is read.
+func checkKeyFiles(keys ...named) error {
+	for _, key := range keys {
+		err := privatefile.CheckPath(signer.SecretFile(key.value), "a secret")
+		if errors.Is(err, privatefile.ErrShared) {
+			return fmt.Errorf("--%s: %w", key.name, err)
+		}
+	}
+	return nil
+}
+
+// checkTLS returns an error if a store on another machine is called without TLS.
+func checkTLS(addresses ...named) error {
+	for _, address := range addresses {
+		if err := stores.CheckTLS(address.value); err != nil {
+			return fmt.Errorf("--%s: %w", address.name, err)
+		}
 	}
 	return nil
 }

@@ -321,6 +321,8 @@ func TestArguments(t *testing.T) {
 		{"", []string{"--listen", "127.0.0.1:x"}, 1, "listen"},
 		{"", []string{"--operator-listen", "127.0.0.1:x"}, 1, "listen"},
 		{a, []string{"--state", "s3://x/y"}, 1, "a lock is at"},
+		{a, []string{"--state", "etcd://192.0.2.1:2379/w"}, 2, "no TLS to another machine: etcd at 192.0.2.1:2379"},
+		{a, []string{"--state", "etcd://192.0.2.1:2379", "--allow-plaintext"}, 1, "etcd needs a prefix"},
 	} {
 		p.write("settings", string(base)+test.settings+"\n")
 		arguments := p.arguments(test.arguments...)
@@ -342,8 +344,8 @@ func TestArguments(t *testing.T) {
 		must(t, os.Chmod(p.path("key.pem"), mode))
 		var lines bytes.Buffer
 		// With --verifier-key it exits after it read the key.
-		if status := run(p.arguments("--verifier-key"), io.Discard, &lines, nil); status != 1 ||
-			!strings.Contains(lines.String(), "not only its owner") {
+		if status := run(p.arguments("--verifier-key"), io.Discard, &lines, nil); status != 2 ||
+			!strings.Contains(lines.String(), "other users may read or write it (run chmod 600 "+p.path("key.pem")) {
 			t.Errorf("a key of the mode %v: status %d: %s", mode, status, &lines)
 		}
 	}

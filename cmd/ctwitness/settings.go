@@ -6,13 +6,14 @@ import (
 	"fmt"
 	"io"
 	"os"
-	"path/filepath"
 	"strings"
 	"time"
 
 	"golang.org/x/mod/sumdb/note"
 
+	"wagtenib/internal/privatefile"
 	"wagtenib/internal/settingsfile"
+	"wagtenib/internal/stores"
 	"wagtenib/internal/witness"
 )
 
@@ -30,6 +31,7 @@ type settings struct {
 	accepted              map[string]string
 	create                []string
 	verifierKey           bool
+	allowPlaintext        bool
 }
 
 // logSetting is a log's origin and the keys that sign its notes.
@@ -41,8 +43,11 @@ type logSetting struct {
 // errUsage is the error of a wrong command line or settings file.
 var errUsage = errors.New("ctwitness")
 
-// maxKey is the maximum number of bytes that are read from a key file.
-const maxKey = 64 << 10
+// maxKey is the maximum number of bytes that are read from a key file. keySecret says what that file has.
+const (
+	maxKey    = 64 << 10
+	keySecret = "a witness's key"
+)
 
 // parse reads the command line and the settings file that it names. If both have a setting, the command line counts.
 // The logs of both are used.
@@ -61,6 +66,9 @@ func parse(arguments []string, help io.Writer) (*settings, error) {
 	flags.StringVar(&s.state, "state", "",
 		"`address` under which the state of each log is kept: file:PATH, etcd://HOST:PORT/PREFIX, "+
 			"postgres://HOST/DATABASE?log=NAME")
+	flags.BoolVar(&s.allowPlaintext, "allow-plaintext", false,
+		"call a state on another machine without TLS. Everyone on the way can then read and change the state and the "+
+			"password")
 	flags.StringVar(&s.listen, "listen", "127.0.0.1:8640", "`address` for logs")
 	flags.StringVar(&s.operator, "operator-listen", "127.0.0.1:8641",
 		"`address` for /metrics and /healthz. If it is empty, they are not served")
@@ -94,6 +102,12 @@ func (s *settings) validate() error {
 	}
 	if s.state == "" && !s.verifierKey {
 		return errors.New("--state is missing")
+	}
+	if err := privatefile.CheckPath(s.key, keySecret); errors.Is(err, privatefile.ErrShared) {
+		return fmt.Errorf("--key: %w", err)
+	}
+	if err := stores.CheckTLS(s.state); err != nil && !s.allowPlaintext {
+		return fmt.Errorf("--state: %w", err)
 	}
 	for origin := range s.accepted {
 		if _, found := s.log(origin); !found {
@@ -163,22 +177,9 @@ func (s *settings) log(origin string) (logSetting, bool) {
 
 // readKey reads the witness's key from a file that only its owner may read.
 func readKey(path string) (ed25519.PrivateKey, error) {
-	opened, err := os.Open(path)
+	content, err := privatefile.Read(path, keySecret, maxKey)
 	if err != nil {
-		return nil, err
-	}
-	defer opened.Close()
-	info, err := opened.Stat()
-	if err != nil {
-		return nil, err
-	}
-	if info.Mode().Perm()&0o077 != 0 {
-		return nil, fmt.Errorf("%w: not only its owner may read or write %s (run chmod 600)", witness.ErrKey,
-			filepath.Clean(path))
-	}
-	content, err := io.ReadAll(io.LimitReader(opened, maxKey))
-	if err != nil {
-		return nil, err
+		return nil, fmt.Errorf("%w: %w", witness.ErrKey, err)
 	}
 	return witness.ReadKey(content)
 }

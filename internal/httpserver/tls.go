@@ -3,7 +3,10 @@ package httpserver
 import (
 	"crypto/tls"
 	"fmt"
+	"os"
 	"sync/atomic"
+
+	"wagtenib/internal/privatefile"
 )
 
 // Certificate is a certificate and key for TLS from two PEM files, which can be reloaded.
@@ -12,7 +15,10 @@ type Certificate struct {
 	pair             atomic.Pointer[tls.Certificate]
 }
 
-// LoadCertificate reads the files.
+// maxKeyFile is the maximum number of bytes that are read of a key's file.
+const maxKeyFile = 64 << 10
+
+// LoadCertificate reads the files. Only the owner of the key's file may read it.
 func LoadCertificate(certificate, key string) (*Certificate, error) {
 	c := &Certificate{certificate: certificate, key: key}
 	return c, c.Reload()
@@ -20,7 +26,15 @@ func LoadCertificate(certificate, key string) (*Certificate, error) {
 
 // Reload reads the files again. After an error the previous ones stay in use.
 func (c *Certificate) Reload() error {
-	pair, err := tls.LoadX509KeyPair(c.certificate, c.key)
+	certificate, err := os.ReadFile(c.certificate)
+	if err != nil {
+		return fmt.Errorf("web: TLS certificate: %w", err)
+	}
+	key, err := privatefile.Read(c.key, "the key of a TLS certificate", maxKeyFile)
+	if err != nil {
+		return fmt.Errorf("web: TLS certificate: %w", err)
+	}
+	pair, err := tls.X509KeyPair(certificate, key)
 	if err != nil {
 		return fmt.Errorf("web: TLS certificate: %w", err)
 	}

@@ -101,7 +101,7 @@ func openFolder(ctx context.Context, path string, of Log, writing func(string)) 
 
 // open opens the files of the folder. After an error some of them are open.
 func (f *folder) open(ctx context.Context, of Log) (err error) {
-	if err := stores.MakeFolder(f.path); err != nil {
+	if err := stores.MakeFolder(f.path, 0o755); err != nil {
 		return err
 	}
 	if f.lock, err = os.Open(f.path); err != nil {

@@ -2,6 +2,7 @@ package logservice
 
 import (
 	"errors"
+	"fmt"
 	"sync"
 	"sync/atomic"
 	"time"
@@ -152,6 +153,10 @@ func (c *counts) fill(f *loginterface.Metrics) {
 	f.JanitorFailures, f.JanitorFailure = c.failures.count, c.failures.last
 }
 
+// maxSignerWait is the time after which a signer that has not replied yet is a fault. It is half of the time after which
+// the signer is ended and the request fails, so that /readyz says so before clients have waited in vain.
+const maxSignerWait = 15 * time.Second
+
 // Metrics implements loginterface.Log.
 func (l *Log) Metrics() loginterface.Metrics {
 	f := loginterface.Metrics{Queue: l.node.Waiting(), MaxQueue: l.config.Pace.MaxQueue}
@@ -171,6 +176,9 @@ func (l *Log) Metrics() loginterface.Metrics {
 	}
 	if err := l.node.Fault(); err != nil {
 		f.Fault = withKind(err).Error()
+	} else if waiting, ok := l.config.Signer.(interface{ Waiting() time.Duration }); ok &&
+		waiting.Waiting() > maxSignerWait {
+		f.Fault = fmt.Sprintf("signer: no reply for more than %v", maxSignerWait)
 	}
 	report := l.janitor.Report()
 	f.DeletedTiles, f.DeletedHeads, f.DeletedBatches = report.Tiles, report.Heads, report.Staged

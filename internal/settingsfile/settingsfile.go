@@ -13,6 +13,8 @@ import (
 	"strconv"
 	"strings"
 	"time"
+
+	"wagtenib/internal/privatefile"
 )
 
 // Rules are the rules of one program's config file, by the names of its flags.
@@ -101,7 +103,7 @@ func (r Rules) ParseAndValidate(flags *flag.FlagSet, arguments []string, validat
 }
 
 // read sets the flags that the command line did not set, from a file. Each line has a name and a value, which the flag
-// checks. Comments begin with #.
+// checks. Comments begin with #. If a line has a password, only the file's owner may have the permission to read it.
 func (r Rules) read(flags *flag.FlagSet, path string) error {
 	file, err := os.Open(path)
 	if err != nil {
@@ -113,6 +115,12 @@ func (r Rules) read(flags *flag.FlagSet, path string) error {
 	// seen has the number of the last line with a name.
 	lines, seen := bufio.NewScanner(file), map[string]int{}
 	for number := 1; lines.Scan(); number++ {
+		// Also a comment with a password must not be read by others.
+		if hasPassword.MatchString(lines.Text()) {
+			if err := privatefile.Check(file, fmt.Sprintf("a password in line %d", number)); err != nil {
+				return err
+			}
+		}
 		line, _, _ := strings.Cut(lines.Text(), "#")
 		name, value, _ := strings.Cut(strings.TrimSpace(line), " ")
 		several := has(r.Several, name)
@@ -136,6 +144,10 @@ func (r Rules) read(flags *flag.FlagSet, path string) error {
 	}
 	return lines.Err()
 }
+
+// hasPassword matches a line with a password in an address: a URL with a user and a password, or with a parameter for
+// the password.
+var hasPassword = regexp.MustCompile(`://[^/@\s]*:[^/\s]*@|[?&]password=`)
 
 // Duration parses a duration. The error names the text and says what to write.
 func Duration(text string) (time.Duration, error) {

@@ -20,6 +20,8 @@ type asker struct {
 	mu   sync.Mutex
 	// stop ends the running exchange. It is nil before the first exchange.
 	stop context.CancelFunc
+	// began is the time at which the running exchange began, or the zero time if none is running.
+	began time.Time
 }
 
 // newAsker returns an asker of the peer that open returns. The first exchange opens it. limit is the timeout of an
@@ -63,12 +65,15 @@ func (c *asker) ask(ctx context.Context, line []byte, read func(reply []byte) er
 	}
 	exchanging, stop := context.WithCancel(context.Background())
 	c.mu.Lock()
-	c.stop = stop
+	c.stop, c.began = stop, time.Now()
 	c.mu.Unlock()
 	done := make(chan error, 1)
 	go func() {
 		defer stop()
 		left, err := c.askInTurn(exchanging, peer, line, read)
+		c.mu.Lock()
+		c.began = time.Time{}
+		c.mu.Unlock()
 		c.turn <- left
 		done <- err
 	}()
@@ -78,6 +83,16 @@ func (c *asker) ask(ctx context.Context, line []byte, read func(reply []byte) er
 	case <-ctx.Done():
 		return fmt.Errorf("%w: %v", ErrGone, ctx.Err())
 	}
+}
+
+// waiting returns the time since the running exchange began, or 0 if none is running.
+func (c *asker) waiting() time.Duration {
+	c.mu.Lock()
+	defer c.mu.Unlock()
+	if c.began.IsZero() {
+		return 0
+	}
+	return time.Since(c.began)
 }
 
 // askInTurn asks while this goroutine has the turn. It returns the peer for the next exchange, or nil.

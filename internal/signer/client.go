@@ -85,6 +85,9 @@ func (c *Client) Close() error {
 // Starts returns how many times the signer was started, or connected to.
 func (c *Client) Starts() uint64 { return c.asker.opens.Load() }
 
+// Waiting returns how long the signer has not replied to the request that it has. It is 0 if it has none.
+func (c *Client) Waiting() time.Duration { return c.asker.waiting() }
+
 // WrongSignatures returns how many replies of the signer had a wrong signature.
 func (c *Client) WrongSignatures() uint64 { return c.wrong.Load() }
 

@@ -268,7 +268,7 @@ func TestUnreadStates(t *testing.T) {
 	g, err := NewGuarded(ctx, key, Guard{State: state, Create: true})
 	must(t, err)
 	path := filepath.Join(t.TempDir(), "socket")
-	go func() { _ = Listen(ctx, g, path) }()
+	go func() { _ = Listen(ctx, g, Socket{Path: path}) }()
 	var c *Client
 	for c == nil {
 		if c, err = NewClient(ctx, func(ctx context.Context) (*Peer, error) { return Dial(ctx, path) },

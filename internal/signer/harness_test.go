@@ -167,7 +167,7 @@ func inBothProcesses(t *testing.T, test func(t *testing.T, s Signer, key *Key)) 
 		folder, key := t.TempDir(), newKey(t)
 		path, ctx := filepath.Join(folder, "socket"), limited(t)
 		g := guardedIn(t, key, folder)
-		go func() { _ = Listen(ctx, g, path) }()
+		go func() { _ = Listen(ctx, g, Socket{Path: path}) }()
 		for i := 0; ; i++ {
 			if info, err := os.Stat(path); err == nil {
 				if info.Mode().Perm() != 0o660 {
@@ -188,7 +188,7 @@ func inBothProcesses(t *testing.T, test func(t *testing.T, s Signer, key *Key)) 
 func socketClient(ctx context.Context, t *testing.T, s Signer) *Client {
 	t.Helper()
 	path := filepath.Join(t.TempDir(), "socket")
-	listener, err := listenAt(path)
+	listener, err := listenAt(Socket{Path: path})
 	must(t, err)
 	t.Cleanup(func() { listener.Close() })
 	go func() { _ = newServer().serve(ctx, s, listener) }()

@@ -9,13 +9,15 @@ import (
 	"crypto/sha256"
 	"crypto/x509"
 	"encoding/pem"
+	"errors"
 	"fmt"
 	"io"
-	"os"
 	"runtime"
 	"sync/atomic"
 
 	"golang.org/x/sync/errgroup"
+
+	"wagtenib/internal/privatefile"
 )
 
 // maxKeyFile is the maximum size of a key's file in bytes.
@@ -47,7 +49,7 @@ func OpenKey(path string) (*Key, error) {
 	if IsToken(path) {
 		return openToken(path)
 	}
-	content, err := readPrivate(path)
+	content, err := readPrivate(path, "a log's key")
 	if err != nil {
 		return nil, err
 	}
@@ -58,25 +60,15 @@ func OpenKey(path string) (*Key, error) {
 	return FromKey(private)
 }
 
-// readPrivate reads a file that only its owner may read or write.
-func readPrivate(path string) ([]byte, error) {
-	opened, err := os.Open(path)
-	if err != nil {
-		return nil, fmt.Errorf("signer: %w", err)
+// readPrivate reads a file with a secret. An error because other users may read it is ErrKey too.
+func readPrivate(path, secret string) ([]byte, error) {
+	content, err := privatefile.Read(path, secret, maxKeyFile)
+	if errors.Is(err, privatefile.ErrShared) {
+		err = fmt.Errorf("%w: %w", ErrKey, err)
+	} else if err != nil {
+		err = fmt.Errorf("signer: %w", err)
 	}
-	defer opened.Close()
-	info, err := opened.Stat()
-	if err != nil {
-		return nil, fmt.Errorf("signer: %w", err)
-	}
-	if info.Mode().Perm()&0o077 != 0 {
-		return nil, fmt.Errorf("%w: users other than the owner may read or write %s (run chmod 600)", ErrKey, path)
-	}
-	content, err := io.ReadAll(io.LimitReader(opened, maxKeyFile))
-	if err != nil {
-		return nil, fmt.Errorf("signer: %w", err)
-	}
-	return content, nil
+	return content, err
 }
 
 // FromKey returns the Key of a private key of P-256.

@@ -120,7 +120,7 @@ func TestOtherKeyIsClosed(t *testing.T) {
 func TestManyReceipts(t *testing.T) {
 	t.Parallel()
 	ctx, key, path := limited(t), newKey(t), filepath.Join(t.TempDir(), "socket")
-	listener, err := listenAt(path)
+	listener, err := listenAt(Socket{Path: path})
 	must(t, err)
 	defer listener.Close()
 	go func() { _ = newServer().serve(ctx, key, listener) }()
@@ -165,7 +165,7 @@ func TestLongRequest(t *testing.T) {
 func TestRefusalThroughASocket(t *testing.T) {
 	t.Parallel()
 	ctx, key, path := limited(t), newKey(t), filepath.Join(t.TempDir(), "socket")
-	listener, err := listenAt(path)
+	listener, err := listenAt(Socket{Path: path})
 	must(t, err)
 	defer listener.Close()
 	why := Refusal{"inconsistent", "too-few"}
@@ -275,7 +275,7 @@ func TestDeadlines(t *testing.T) {
 func TestRemovesClosedConnections(t *testing.T) {
 	t.Parallel()
 	ctx, path, all := limited(t), filepath.Join(t.TempDir(), "socket"), newServer()
-	listener, err := listenAt(path)
+	listener, err := listenAt(Socket{Path: path})
 	must(t, err)
 	defer listener.Close()
 	go func() { _ = all.serve(ctx, newKey(t), listener) }()
@@ -333,7 +333,7 @@ func TestAdmitsUnderTheLock(t *testing.T) {
 func TestListenFails(t *testing.T) {
 	t.Parallel()
 	folder := t.TempDir()
-	if _, err := listenAt(filepath.Join(folder, strings.Repeat("x", 300))); !errors.Is(err, syscall.ENAMETOOLONG) {
+	if _, err := listenAt(Socket{Path: filepath.Join(folder, strings.Repeat("x", 300))}); !errors.Is(err, syscall.ENAMETOOLONG) {
 		t.Error(err)
 	}
 	if left, err := os.ReadDir(folder); err != nil || len(left) != 0 {
@@ -352,7 +352,7 @@ func TestListenEnds(t *testing.T) {
 	path := filepath.Join(folder, "socket")
 	ctx, cancel := context.WithCancel(limited(t))
 	done := make(chan error, 1)
-	go func() { done <- Listen(ctx, newKey(t), path) }()
+	go func() { done <- Listen(ctx, newKey(t), Socket{Path: path}) }()
 	for {
 		if _, err := os.Stat(path); err == nil {
 			break
@@ -366,7 +366,7 @@ func TestListenEnds(t *testing.T) {
 	case <-limited(t).Done():
 		t.Error("it still listens after its context ended")
 	}
-	if err := Listen(limited(t), newKey(t), filepath.Join(folder, "nowhere", "socket")); !errors.Is(err,
+	if err := Listen(limited(t), newKey(t), Socket{Path: filepath.Join(folder, "nowhere", "socket")}); !errors.Is(err,
 		os.ErrNotExist) {
 		t.Error(err)
 	}

@@ -18,10 +18,11 @@ const (
 	retryDelay = 20 * time.Millisecond
 )
 
-// listenAt listens at a Unix socket that only this user and its group can connect to. It replaces a socket that exists
-// at the path. It binds the socket in a folder of its own first, so that nobody can connect before the socket's mode is
-// set.
-func listenAt(path string) (net.Listener, error) {
+// listenAt listens at a Unix socket that only this user and its group can connect to, and that only the socket's users
+// may use. It replaces a socket that exists at the path. It binds the socket in a folder of its own first, so that
+// nobody can connect before the socket's mode is set.
+func listenAt(socket Socket) (net.Listener, error) {
+	path := socket.Path
 	if info, err := os.Stat(path); err == nil && info.Mode()&os.ModeSocket == 0 {
 		return nil, fmt.Errorf("signer: %s exists and is not a socket", path)
 	}
@@ -43,13 +44,12 @@ func listenAt(path string) (net.Listener, error) {
 		listener.Close()
 		return nil, fmt.Errorf("signer: %w", err)
 	}
-	return listener, nil
+	return &callers{UnixListener: listener, socket: socket}, nil
 }
 
-// Listen serves the clients of a Unix socket: this user and its group. It returns if it cannot listen, or after the
-// context ended.
-func Listen(ctx context.Context, s Signer, path string) error {
-	listener, err := listenAt(path)
+// Listen serves the users of a Unix socket. It returns if it cannot listen, or after the context ended.
+func Listen(ctx context.Context, s Signer, socket Socket) error {
+	listener, err := listenAt(socket)
 	if err != nil {
 		return err
 	}

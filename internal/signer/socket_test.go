@@ -32,7 +32,7 @@ func TestRefusesAnotherKey(t *testing.T) {
 		signers, opened := []Signer{key, other}, 0
 		c, err := NewClient(ctx, func(ctx context.Context) (*Peer, error) {
 			path, next := filepath.Join(t.TempDir(), "socket"), signers[opened%2]
-			go func() { _ = Listen(ctx, next, path) }()
+			go func() { _ = Listen(ctx, next, Socket{Path: path}) }()
 			for {
 				if end, err := Dial(ctx, path); err == nil {
 					opened++
@@ -63,7 +63,7 @@ func TestSocketMode(t *testing.T) {
 	folder := t.TempDir()
 	path, file := filepath.Join(folder, "socket"), filepath.Join(folder, "file")
 	for i := 0; i < 2; i++ {
-		listener, err := listenAt(path)
+		listener, err := listenAt(Socket{Path: path})
 		must(t, err)
 		defer listener.Close()
 		if info, err := os.Stat(path); err != nil || info.Mode() != os.ModeSocket|0o660 {
@@ -71,7 +71,7 @@ func TestSocketMode(t *testing.T) {
 		}
 	}
 	must(t, os.WriteFile(file, []byte("something"), 0o600))
-	if _, err := listenAt(file); err == nil {
+	if _, err := listenAt(Socket{Path: file}); err == nil {
 		t.Error("a file is taken for a socket")
 	}
 	if content, err := os.ReadFile(file); err != nil || string(content) != "something" {
@@ -79,6 +79,24 @@ func TestSocketMode(t *testing.T) {
 	}
 	if left, err := os.ReadDir(folder); err != nil || len(left) != 2 {
 		t.Errorf("%v, %v", left, err)
+	}
+}
+
+// TestReportsRefusedCallers: of the callers that are refused within a minute, the first one is reported at once, and the
+// others are counted in the next report.
+func TestReportsRefusedCallers(t *testing.T) {
+	t.Parallel()
+	var reports []string
+	c := &callers{socket: Socket{Refused: func(caller Caller, count int) {
+		reports = append(reports, fmt.Sprint(caller.UID, " ", caller.PID, " ", count))
+	}}}
+	for pid := range int32(3) {
+		c.refuse(Caller{PID: pid, UID: 7})
+	}
+	c.next = time.Now()
+	c.refuse(Caller{PID: 3, UID: 8})
+	if got := strings.Join(reports, ", "); got != "7 0 1, 8 3 3" {
+		t.Errorf("the reports are %s", got)
 	}
 }
 

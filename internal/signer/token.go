@@ -15,6 +15,19 @@ const tokenScheme = "pkcs11:"
 // IsToken reports whether a key's path is a PKCS#11 URI, and not the path of a file.
 func IsToken(path string) bool { return strings.HasPrefix(path, tokenScheme) }
 
+// SecretFile returns the file with the secret of a key's path: the key itself, or the PIN of its token. It returns "" for
+// an invalid PKCS#11 URI.
+func SecretFile(path string) string {
+	if !IsToken(path) {
+		return path
+	}
+	tok, err := parseToken(path)
+	if err != nil {
+		return ""
+	}
+	return tok.pinFile
+}
+
 // sessionTimeout is the time that a signature waits for a session with the token.
 const sessionTimeout = 10 * time.Second
 
@@ -64,7 +77,7 @@ func openToken(uri string) (*Key, error) {
 	if err != nil {
 		return nil, err
 	}
-	pin, err := readPrivate(tok.pinFile)
+	pin, err := readPrivate(tok.pinFile, "a PIN")
 	if err != nil {
 		return nil, err
 	}

@@ -25,10 +25,10 @@ func Copy(ctx context.Context, from Objects, folder string, exceptPrefixes ...st
 				return count, err
 			}
 			path := filepath.Join(folder, filepath.FromSlash(name))
-			if err := os.MkdirAll(filepath.Dir(path), 0o755); err != nil {
+			if err := os.MkdirAll(filepath.Dir(path), folderMode(name)); err != nil {
 				return count, fmt.Errorf("stores: copy: %w", err)
 			}
-			if err := os.WriteFile(path, content, 0o644); err != nil {
+			if err := os.WriteFile(path, content, fileMode(name)); err != nil {
 				return count, fmt.Errorf("stores: copy: %w", err)
 			}
 			count++

@@ -78,13 +78,13 @@ func (f *folder) Swap(ctx context.Context, name string, old, new []byte) error {
 	case errors.Is(err, ErrTooLong), isThere != (old != nil), !bytes.Equal(stored, old):
 		return fmt.Errorf("stores: swap %s: %w", name, ErrLost)
 	}
-	temporaryPath, err := f.disk.write(new)
+	temporaryPath, err := f.disk.write(new, fileMode(name))
 	if err != nil {
 		return err
 	}
 	// This removes nothing if the file was renamed.
 	defer os.Remove(temporaryPath)
-	if err := MakeFolder(filepath.Dir(f.path(name))); err != nil {
+	if err := MakeFolder(filepath.Dir(f.path(name)), folderMode(name)); err != nil {
 		return err
 	}
 	if err := os.Rename(temporaryPath, f.path(name)); err != nil {

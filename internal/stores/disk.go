@@ -32,14 +32,17 @@ type disk struct {
 	synced map[string]bool
 }
 
-// openDisk makes the folder if it does not exist, and removes the temporary files that killed writers left.
-func openDisk(root string) (*disk, error) {
+// openDisk makes the folder with a mode if it does not exist, and removes the temporary files that killed writers left.
+func openDisk(root string, mode fs.FileMode) (*disk, error) {
 	root, err := filepath.Abs(root)
 	if err != nil {
 		return nil, fmt.Errorf("stores: folder: %w", err)
 	}
 	d := &disk{root: root, synced: map[string]bool{}}
-	if err := MakeFolder(filepath.Join(root, temporary)); err != nil {
+	if err := MakeFolder(root, mode); err != nil {
+		return nil, err
+	}
+	if err := MakeFolder(filepath.Join(root, temporary), publicFolder); err != nil {
 		return nil, err
 	}
 	if err := SyncFolder(filepath.Dir(root)); err != nil {
@@ -51,14 +54,15 @@ func openDisk(root string) (*disk, error) {
 	return d, SyncFolder(root)
 }
 
-// MakeFolder makes a folder and the folders above it if they do not exist. It syncs the names of those that it made.
-func MakeFolder(path string) error {
-	err := os.Mkdir(path, 0o755)
+// MakeFolder makes a folder with a mode, and the folders above it, if they do not exist. It syncs the names of those
+// that it made.
+func MakeFolder(path string, mode fs.FileMode) error {
+	err := os.Mkdir(path, mode)
 	if errors.Is(err, fs.ErrNotExist) {
-		if err := MakeFolder(filepath.Dir(path)); err != nil {
+		if err := MakeFolder(filepath.Dir(path), publicFolder); err != nil {
 			return err
 		}
-		err = os.Mkdir(path, 0o755)
+		err = os.Mkdir(path, mode)
 	}
 	if errors.Is(err, fs.ErrExist) {
 		return nil
@@ -129,17 +133,17 @@ func awaitFreed() {
 	}
 }
 
-// write writes the content to a temporary file, syncs it, and returns its path. If the disk is full, it waits for the
-// files that are being freed, and tries once more.
-func (d *disk) write(content []byte) (path string, err error) {
-	if path, err = d.writeOnce(content); errors.Is(err, syscall.ENOSPC) {
+// write writes the content to a temporary file with a mode, syncs it, and returns its path. If the disk is full, it
+// waits for the files that are being freed, and tries once more.
+func (d *disk) write(content []byte, mode fs.FileMode) (path string, err error) {
+	if path, err = d.writeOnce(content, mode); errors.Is(err, syscall.ENOSPC) {
 		awaitFreed()
-		path, err = d.writeOnce(content)
+		path, err = d.writeOnce(content, mode)
 	}
 	return path, err
 }
 
-func (d *disk) writeOnce(content []byte) (path string, err error) {
+func (d *disk) writeOnce(content []byte, mode fs.FileMode) (path string, err error) {
 	file, err := os.CreateTemp(filepath.Join(d.root, temporary), "file-")
 	if err != nil {
 		return "", fmt.Errorf("stores: write: %w", err)
@@ -155,7 +159,7 @@ func (d *disk) writeOnce(content []byte) (path string, err error) {
 	if _, err := file.Write(content); err != nil {
 		return "", fmt.Errorf("stores: write: %w", err)
 	}
-	if err := file.Chmod(0o644); err != nil {
+	if err := file.Chmod(mode); err != nil {
 		return "", fmt.Errorf("stores: write: %w", err)
 	}
 	if err := fsync(file); err != nil {

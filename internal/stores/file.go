@@ -34,9 +34,13 @@ type file struct {
 	raised Published
 }
 
-// OpenFile opens the lock in a folder. It makes the folder if it does not exist, and does not create a lock in it.
+// OpenFile opens the lock in a folder that only its owner may read. It makes the folder if it does not exist, and does
+// not create a lock in it.
 func OpenFile(root string) (Lock, error) {
-	d, err := openDisk(root)
+	d, err := openDisk(root, privateFolder)
+	if err == nil {
+		err = closeFolder(d.root)
+	}
 	if err != nil {
 		return nil, err
 	}
@@ -151,7 +155,7 @@ func (f *file) noteRaised(published Published) {
 // set replaces the content of a file. The new content is on the disk before the file gets its name. An error after the
 // file has its name is ErrUnknown. An error before that is not, and means that nothing was changed.
 func (f *file) set(name, content string) error {
-	temporaryPath, err := f.disk.write([]byte(content))
+	temporaryPath, err := f.disk.write([]byte(content), privateFile)
 	if err != nil {
 		return err
 	}

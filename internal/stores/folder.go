@@ -23,7 +23,10 @@ type folder struct {
 
 // OpenFolder opens the objects below a folder. It makes the folder if it does not exist.
 func OpenFolder(root string) (Objects, error) {
-	d, err := openDisk(root)
+	d, err := openDisk(root, publicFolder)
+	if err == nil {
+		err = closePrivate(d.root)
+	}
 	if err != nil {
 		return nil, err
 	}
@@ -45,7 +48,7 @@ func (f *folder) Put(ctx context.Context, name string, content []byte) error {
 		return fmt.Errorf("stores: put %s: %w", name, err)
 	}
 	path := f.path(name)
-	temporaryPath, err := f.disk.write(content)
+	temporaryPath, err := f.disk.write(content, fileMode(name))
 	if err != nil {
 		return err
 	}
@@ -55,7 +58,7 @@ func (f *folder) Put(ctx context.Context, name string, content []byte) error {
 	for try := 0; errors.Is(err, fs.ErrNotExist) && try < maxFolderTries; try++ {
 		f.disk.forget(filepath.Dir(path))
 		// MkdirAll also returns ErrExist if a folder is removed while MkdirAll makes it.
-		if err := os.MkdirAll(filepath.Dir(path), 0o755); err != nil && !errors.Is(err, fs.ErrNotExist) &&
+		if err := os.MkdirAll(filepath.Dir(path), folderMode(name)); err != nil && !errors.Is(err, fs.ErrNotExist) &&
 			!errors.Is(err, fs.ErrExist) {
 			return fmt.Errorf("stores: put %s: %w", name, err)
 		}

@@ -90,7 +90,10 @@ func openLevelDB(ctx context.Context, path string, options opt.Options,
 	if err != nil {
 		return nil, fmt.Errorf("stores: index: %w", err)
 	}
-	if err := MakeFolder(path); err != nil {
+	if err := MakeFolder(path, privateFolder); err != nil {
+		return nil, err
+	}
+	if err := closeFolder(path); err != nil {
 		return nil, err
 	}
 	index := &inLevelDB{path: path, options: options, turn: make(chan struct{}, 1)}

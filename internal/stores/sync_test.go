@@ -69,11 +69,11 @@ func TestFolderSyncs(t *testing.T) {
 // folder that exists is not synced.
 func TestMadeFoldersSync(t *testing.T) {
 	root := t.TempDir()
-	folders := func() error { return MakeFolder(filepath.Join(root, "a/b")) }
+	folders := func() error { return MakeFolder(filepath.Join(root, "a/b"), publicFolder) }
 	wantSynced(t, "new folders", syncs(t, root, "none", folders), []string{".", "a"})
 	wantSynced(t, "the same once more", syncs(t, root, "none", folders), nil)
 	must(t, os.WriteFile(filepath.Join(root, "file"), nil, 0o600))
-	if err := MakeFolder(filepath.Join(root, "file/b")); err == nil {
+	if err := MakeFolder(filepath.Join(root, "file/b"), publicFolder); err == nil {
 		t.Error("a folder is made below a file")
 	}
 }

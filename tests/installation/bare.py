@@ -408,7 +408,7 @@ class Trial:
 
     def judge(self):
         """The units, the log's folder with all that was answered, and its entry for a list."""
-        for unit in ("ctserve@.service", "ctwitness@.service", "ctwatch.service"):
+        for unit in ("ctserve@.service", "ctserve-signer@.service", "ctwitness@.service", "ctwatch.service"):
             said = self.bare.run(f"systemd-analyze verify /lib/systemd/system/{unit} 2>&1", quiet=True)
             if unit in said:
                 fail(f"systemd-analyze says {said}")
