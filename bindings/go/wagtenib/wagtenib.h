@@ -140,14 +140,14 @@ enum {
     WAGTENIB_ACCEPTED = 128,         /* the waiting head is that of all leaves that were read, and is accepted */
     WAGTENIB_PENDING = 129,          /* the waiting head has more leaves than were read */
     WAGTENIB_AGAIN = 130,            /* the size and the root of a known head again */
-    WAGTENIB_STALE = 131,            /* fewer leaves than a known head has, and an earlier timestamp: nothing against the log */
+    WAGTENIB_OLDER = 131,            /* fewer leaves than a known head has, and an earlier timestamp: ask for a consistency proof */
     WAGTENIB_SHRUNK = 132,           /* fewer leaves than a known head has, and not an earlier timestamp */
     WAGTENIB_FORKED = 133,           /* the size of a known head, and another root */
     WAGTENIB_HEAD_NOT_LATER = 134,   /* more leaves than a known head has, and not a later timestamp */
     WAGTENIB_OTHER_ROOT = 135,       /* the waiting head has another root than the leaves that were read; both are let go */
     WAGTENIB_GAP = 136,              /* the entries begin elsewhere, or no head waits, or there are no two heads for a proof */
-    WAGTENIB_CONSISTENT = 137,       /* the proof leads from the accepted head to the waiting one */
-    WAGTENIB_INCONSISTENT = 138      /* the proof does not lead there */
+    WAGTENIB_CONSISTENT = 137,       /* the proof leads from the accepted head to the waiting one, or from an older head to a known one */
+    WAGTENIB_INCONSISTENT = 138      /* the proof does not lead there, which accuses nobody: the log did not sign it */
 };
 
 /* out = SHA-256(00 || leaf), the hash of a leaf (RFC 6962 section 2.1). */
@@ -588,29 +588,36 @@ uint32_t wagtenib_witness_cosign(const uint8_t *state, size_t state_length, cons
 uint32_t wagtenib_witness_state(const uint8_t *seen, size_t seen_length, const uint8_t *state, size_t state_length, struct wagtenib_witnessed_tree *last);
 
 /* The monitor judges what a log hands out: tree heads, entries and consistency proofs. Its state is bytes, which belong to the caller, and each call over a state
- * writes the next one. The state has the accepted head, the newer head that waits for its entries, and the roots of the perfect subtrees of the accepted leaves and
- * of all leaves that were read. No leaf is kept. To watch a log:
+ * writes the next one. The state has the accepted head, the newer head that waits for its entries, the earliest and the newest timestamp that each of both was handed
+ * out with, and the roots of the perfect subtrees of the accepted leaves and of all leaves that were read. No leaf is kept. To watch a log:
  *
  *   1. check the signature of a tree head, and hand the head to wagtenib_monitor_head with the state (that of wagtenib_monitor_begin at first, or that of
  *      wagtenib_monitor_start to read a log from its end);
- *   2. while the verdict is 129, hand the entries from the index leaves_read on to wagtenib_monitor_entries;
- *   3. after each call that returns 0, keep the *length bytes of `out` as the state. Before it, or together with it in one write, keep what speaks against the log,
+ *   2. if the verdict is 131, ask the log for a consistency proof from this head to the known one, and hand it to wagtenib_monitor_older: a fork that lags is older
+ *      too;
+ *   3. while the verdict is 129, hand the entries from the index leaves_read on to wagtenib_monitor_entries;
+ *   4. after each call that returns 0, keep the *length bytes of `out` as the state. Before it, or together with it in one write, keep what speaks against the log,
  *      and the entries or what was found in them: entries before leaves_read are not handed out again, so what is kept after the state is lost by a kill between.
  *
  * A call that never came back counts for nothing: the old state still stands. Every head that gets the verdict 128 is that of a beginning of one list of leaves,
- * those that the log handed out and that are accepted after the last call. The verdicts 132, 133, 134, 135 and 138 speak against the log. So does an entry that is
- * later than its head (later_timestamp is not 0, or wagtenib_monitor_entry returns 142), and one of a tiled log that does not name its own index
- * (wagtenib_compare_data_tile returns 150).
+ * those that the log handed out and that are accepted after the last call. So is each older head that gets the verdict 137 beside the accepted head (assuming no
+ * SHA-256 collision). Judge an older head again if it was judged beside the waiting head, after that head is accepted.
  *
- * A state is read only if its parts fit one another and its hash is right. Everything else is refused as 36. A state that a call wrote is never refused. An empty
- * state is never taken for the first one. The calls take memory (malloc), and give it back before they return. 4,259 bytes have room for every state. */
+ * The verdicts 132, 133, 134 and 135 speak against the log. A head gets one of the first three if and only if it and a known head contradict each other, which is two
+ * signatures of the log's key. Known are the heads of the accepted and of the waiting tree, with their earliest and their newest timestamp. An entry that is later than
+ * its head speaks against the log (later_timestamp is not 0, or wagtenib_monitor_entry returns 142), and so does one of a tiled log that does not name its own index
+ * (wagtenib_compare_data_tile returns 150). The verdict 138 does not: keep both heads, and compare the smaller one with the root that the log's tiles or entries give.
+ *
+ * A state is read only if its parts fit one another and its hash is right. Everything else is refused as 36. A state that a call wrote is never refused, and neither is
+ * one that begins with the byte 1, which has no newest timestamps (its heads count as handed out once). An empty state is never taken for the first one. The calls take memory (malloc), and give it back before
+ * they return. 4,275 bytes have room for every state. */
 
 /* What a call says. A number that the verdict does not name is 0. */
 struct wagtenib_monitor_verdict {
     uint64_t leaves_accepted;    /* leaves of the accepted head */
     uint64_t leaves_read;        /* leaves that were read: the index of the next one that is wanted */
     uint64_t leaves_wanted;      /* leaves of the waiting head, or leaves_read if no head waits */
-    struct wagtenib_head known;  /* 133 and 134: the known head */
+    struct wagtenib_head known;  /* 131 to 134: the known head; its earliest timestamp, or its newest with 134 */
     uint8_t root[32];            /* 135: the root of the leaves that were read */
     uint32_t verdict;            /* 128 to 138 */
     uint32_t fault;              /* 138: the fault of the proof, as of wagtenib_verify_consistency */
@@ -639,8 +646,9 @@ uint32_t wagtenib_monitor_begin(uint8_t *out, size_t room, uint64_t *length);
  * wagtenib_monitor_begin, and nothing is written with 140 and 4. */
 uint32_t wagtenib_monitor_start(const struct wagtenib_head *head, const uint8_t *subtrees, size_t count, uint8_t *out, size_t room, uint64_t *length);
 
-/* The verdict on a tree head. It is compared with the accepted head and the waiting one: 130 to 134. If it is larger and later than both, it waits from then on
- * (unless another head waits already), and is compared with the leaves that were read: 128, 129 or 135. 0: the verdict is in `verdict`, and `out` begins with the
+/* The verdict on a tree head. It is compared with the accepted head and the waiting one: 130 to 134; 132, 133 and 134 come before the others, and the accepted head
+ * before the waiting one. With 130 the next state has its timestamp. If it is larger and later than both, it waits from then on (unless another head waits already),
+ * and is compared with the leaves that were read: 128, 129 or 135. 0: the verdict is in `verdict`, and `out` begins with the
  * next state, which has *length bytes; the rest of `out` is unchanged. 9: that state has *length bytes, and `out` has no room for them; nothing else is written.
  * 36: `state` is no state. 8: malloc refused. Nothing is written with 36 and 8. */
 uint32_t wagtenib_monitor_head(const uint8_t *state, size_t state_length, const struct wagtenib_head *head, struct wagtenib_monitor_verdict *verdict, uint8_t *out,
@@ -658,6 +666,16 @@ uint32_t wagtenib_monitor_entries(const uint8_t *state, size_t state_length, uin
  * Otherwise as wagtenib_monitor_head. */
 uint32_t wagtenib_monitor_proof(const uint8_t *state, size_t state_length, const uint8_t *path, size_t path_length, struct wagtenib_monitor_verdict *verdict,
                                 uint8_t *out, size_t room, uint64_t *length);
+
+/* The verdict on a consistency proof from an older head, which got the verdict 131, to the accepted head if that has more leaves, otherwise to the waiting one: 137 or
+ * 138, or 136 if neither has more leaves. A head of no leaves needs no proof: it is judged by its root alone. The state stays the same. Otherwise as
+ * wagtenib_monitor_head. */
+uint32_t wagtenib_monitor_older(const uint8_t *state, size_t state_length, const struct wagtenib_head *head, const uint8_t *path, size_t path_length,
+                                struct wagtenib_monitor_verdict *verdict, uint8_t *out, size_t room, uint64_t *length);
+
+/* Compares two tree heads of one log by their numbers. 0: `head` has more leaves than `known`, and is later. 130: the same size and root. 131: it has fewer leaves and
+ * is earlier. After 0 and 131 a consistency proof decides (wagtenib_verify_consistency). 132, 133 and 134: the two heads contradict each other (RFC 6962 section 3.5). */
+uint32_t wagtenib_compare_heads(const struct wagtenib_head *known, const struct wagtenib_head *head);
 
 /* The verdict on one leaf (MerkleTreeLeaf, RFC 6962 section 3.4) beside a tree head with this timestamp, both in milliseconds. A report has only the first entries
  * that are later or no leaf; with its head_timestamp, this call says it of each entry that was read. 0: it is no later than the head. 142: it is later, which speaks
