@@ -129,6 +129,8 @@ __attribute__((destructor)) static void tell(void) {
     const char *path = getenv("REFUSALS");
     FILE *file = path != NULL ? fopen(path, "a") : NULL;
     if (file == NULL) return;
+    /* (several programs write at the same time, each all of it at once) */
+    setvbuf(file, NULL, _IOFBF, 1 << 16);
     for (size_t i = 0; i < sizeof all_counts / sizeof *all_counts; i++) {
         const struct counts *c = all_counts[i];
         fprintf(file, "%s %llu %llu %llu %llu %llu %llu %llu\n", c->function.name, (unsigned long long)c->calls, (unsigned long long)c->refused, (unsigned long long)c->wrong,

@@ -8,6 +8,7 @@ OUT_OF_MEMORY then. After every call all memory must be given back, and no call 
 memory. Each function must be called, and each that takes memory must have been refused some. Without gcc for this processor it says so.
 """
 import fnmatch
+import os
 import pathlib
 import platform
 import re
@@ -74,7 +75,7 @@ def main():
     with tempfile.TemporaryDirectory(prefix="wagtenib-refusals-") as folder:
         folder = pathlib.Path(folder)
         library, report = library_in(folder), folder / "report"
-        signatures.run_over(library, "tests/library/refusals.py", ["large.py"], REFUSALS=str(report))
+        signatures.run_over(library, "tests/library/refusals.py", ["large.py"], at_a_time=len(os.sched_getaffinity(0)), REFUSALS=str(report))
         told = {}
         for line in report.read_text().splitlines():
             name, *numbers = line.split()

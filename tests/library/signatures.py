@@ -1,5 +1,6 @@
 """The parameters of each function of include/wagtenib.h, for what calls every function alike: the programs in C of this folder, and comparing.py. Runs the comparisons
 of this folder over a library whose functions such a program wraps, for refusals.py and replays.py."""
+import concurrent.futures
 import os
 import pathlib
 import re
@@ -73,11 +74,15 @@ COMPARISONS = [
 ]
 
 
-def run_over(library, script, more=(), **variables):
+def run_over(library, script, more=(), at_a_time=1, **variables):
     """Runs the comparisons, and more scripts of this folder, over a library. If one fails, it says so in the name of `script`, and ends the program."""
     surroundings = {**os.environ, "WAGTENIB_LIBRARY": str(library), "PYTHONDONTWRITEBYTECODE": "1", **variables}
-    for line in [*COMPARISONS, *more]:
+
+    def run(line):
         name, *words = line.split()
         ran = subprocess.run([sys.executable, HERE / name, *words], env=surroundings, stdout=subprocess.PIPE, stderr=subprocess.STDOUT, text=True)
         if ran.returncode:
             sys.exit(f"{ran.stdout}{script}: {name} fails")
+
+    with concurrent.futures.ThreadPoolExecutor(at_a_time) as pool:
+        list(pool.map(run, [*COMPARISONS, *more]))
