@@ -55,7 +55,8 @@ var judges = map[string]func(*evidence) (string, error){
 	"no leaf": (*evidence).noLeaf, "damaged tile": (*evidence).damagedTile, "old head": (*evidence).oldHead, "bad " +
 		"signature": (*evidence).badSignature,
 	"broken promise": (*evidence).brokenPromise, "two views": (*evidence).twoViews, "few " +
-		"cosignatures": (*evidence).fewCosigned, "entry": (*evidence).logged,
+		"cosignatures": (*evidence).fewCosigned, "entry": (*evidence).logged, "future promise": (*evidence).futurePromise,
+	"overdue promise": (*evidence).overduePromise, "withheld entries": (*evidence).withheld,
 }
 
 // Evidence checks a folder of evidence against a log (evidence.json, head-1, head-2, leaf, tile, proof.json) by the
@@ -292,6 +293,34 @@ func (e *evidence) oldHead() (string, error) {
 	}
 	return fmt.Sprintf("the log signed its head at %d. It must be believed that this was its newest head at %s, "+
 		"and that its maximum merge delay is %d ms", second.timestamp, e.Time, e.MaxMergeDelay), nil
+}
+
+// withheld judges a head whose entries the log did not hand out.
+func (e *evidence) withheld() (string, error) {
+	second, err := e.head("head-2")
+	if err != nil {
+		return "", err
+	}
+	seen, err := e.seen()
+	if err != nil {
+		return "", err
+	}
+	if seen < second.timestamp || seen-second.timestamp <= e.MaxMergeDelay {
+		return "", notShown("the head was signed at %d and seen at %d, and the maximum merge delay is %d ms",
+			second.timestamp, seen, e.MaxMergeDelay)
+	}
+	return fmt.Sprintf("the log signed its head of %d leaves at %d. It must be believed that it did not hand out all of "+
+		"them until %s, and that its maximum merge delay is %d ms: ask for the last one", second.size, second.timestamp,
+		e.Time, e.MaxMergeDelay), nil
+}
+
+// seen returns the time of evidence.json in milliseconds.
+func (e *evidence) seen() (uint64, error) {
+	at, err := time.Parse(time.RFC3339, e.Time)
+	if err != nil || at.UnixMilli() < 0 {
+		return 0, notShown("evidence.json has no time")
+	}
+	return uint64(at.UnixMilli()), nil
 }
 
 func (e *evidence) badSignature() (string, error) {

@@ -68,7 +68,8 @@ func checkEvidence(t *testing.T, k *keeper, log watch.Log) {
 // strongVerdicts are the verdicts that the files of evidence show without this monitor, and an unknown one.
 var strongVerdicts = []string{watch.VerdictFork, watch.VerdictShrunk, watch.VerdictNotLater, watch.VerdictLateMerge,
 	watch.VerdictLaterEntry, watch.VerdictWrongIndex, watch.VerdictNoLeaf, watch.VerdictDamagedTile, watch.VerdictSigner,
-	watch.VerdictInconsistent, watch.VerdictPromise, watch.VerdictFewCosigned, "no such verdict"}
+	watch.VerdictInconsistent, watch.VerdictPromise, watch.VerdictFewCosigned, watch.VerdictFuture, watch.VerdictOverdue,
+	"no such verdict"}
 
 // checkNoOtherVerdict checks that the judge refuses the files of evidence under every other verdict.
 func checkNoOtherVerdict(t *testing.T, folder string, evidence watch.Evidence, key []byte) {

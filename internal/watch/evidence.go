@@ -31,7 +31,13 @@ const (
 	// a head that fewer witnesses cosigned than the policy requires (C2SP tlog-cosignature)
 	VerdictFewCosigned = "few cosignatures"
 	VerdictPromise     = "broken promise" // the log does not have an entry that an SCT promised (RFC 6962, section 3)
-	VerdictTwoViews    = "two views"      // the log showed others a head that is not consistent with this one
+	// an SCT that is later than the time at which it was seen
+	VerdictFuture = "future promise"
+	// the deadline of an SCT is over, and the log shows only a head from before it, which is too old
+	VerdictOverdue = "overdue promise"
+	// a log signed a head, and did not hand out the entries that it covers within the maximum merge delay
+	VerdictWithheld = "withheld entries"
+	VerdictTwoViews = "two views" // the log showed others a head that is not consistent with this one
 	// This is not a fault: the log has an entry. The owner of a name can show others that a certificate was logged.
 	VerdictEntry = "entry"
 )

@@ -28,6 +28,8 @@ type Options struct {
 	Policy func(head Head) error
 	// Mirror returns the mirror of a tiled log. Mirror may be nil, and may return nil: the log then has no mirror.
 	Mirror func(log Log) (Mirror, error)
+
+	times *Times // of all logs that are followed; nil for one log
 }
 
 // A Mirror stores a copy of a tiled log that can be served.
@@ -46,6 +48,7 @@ type Follower struct {
 	options Options
 	clock   logclient.Clock
 	mirror  Mirror
+	times   *Times
 	state   *State // nil if it must be loaded
 	// each data tile is compared with the hash tiles before its entries are stored
 	comparesTiles bool
@@ -90,6 +93,9 @@ func NewFollower(log Log, keeper Keeper, options Options) (*Follower, error) {
 	if f.clock == nil {
 		f.clock = logclient.MachineClock{}
 	}
+	if f.times = options.times; f.times == nil {
+		f.times = NewTimes([]Log{log})
+	}
 	if options.Mirror != nil && log.IsTiled() {
 		if f.mirror, err = options.Mirror(log); err != nil {
 			return nil, fmt.Errorf("watch: %s: %w", log.Name, err)
@@ -131,6 +137,7 @@ func (f *Follower) pass(ctx context.Context) error {
 		return f.headError(head, err)
 	}
 	f.progress.Answered, f.progress.Head = f.clock.Now(), head.TreeHead
+	f.times.Add(f.log.ID, head.Timestamp)
 	if err := f.judgePolicy(head); err != nil {
 		return err
 	}
@@ -141,7 +148,7 @@ func (f *Follower) pass(ctx context.Context) error {
 	}
 	old := f.judgeAge(head)
 	var accused *AccusedError
-	if old != nil && !errors.As(old, &accused) {
+	if old != nil && !errors.As(old, &accused) && !errors.Is(old, errUnconfirmed) {
 		return old
 	}
 	if err := f.follow(ctx, head); err != nil {
@@ -285,17 +292,24 @@ func (f *Follower) begin(ctx context.Context, head Head) error {
 var frozenStates = map[string]bool{"readonly": true, "retired": true, "rejected": true}
 
 // judgeAge accuses a log whose newest head is older than its maximum merge delay. RFC 6962, section 3.5, requires a
-// newer one on demand.
+// newer one on demand. The head must be that old by the machine's clock and by the newest head of the other logs. The
+// error wraps errUnconfirmed if no other log has signed a head yet.
 func (f *Follower) judgeAge(head Head) error {
-	if f.log.MaxMergeDelay <= 0 || frozenStates[f.log.State] {
+	now := f.clock.Now().Truncate(time.Second) // as in evidence
+	if f.log.MaxMergeDelay <= 0 || frozenStates[f.log.State] || now.Sub(timeOf(head.Timestamp)) <= f.log.MaxMergeDelay {
 		return nil
 	}
-	age := f.clock.Now().Sub(time.UnixMilli(int64(min(head.Timestamp, 1<<62))))
+	passed, isKnown := f.times.Passed(f.log.ID, now)
+	if !isKnown {
+		return fmt.Errorf("%w: %s: its newest head is %v old", errUnconfirmed, f.log.Name,
+			now.Sub(timeOf(head.Timestamp)).Round(time.Second))
+	}
+	age := passed.Sub(timeOf(head.Timestamp))
 	if age <= f.log.MaxMergeDelay {
 		return nil
 	}
-	text := fmt.Sprintf("the newest head is %v old by this machine's clock, and the maximum merge delay is %v",
-		age.Round(time.Second), f.log.MaxMergeDelay)
+	text := fmt.Sprintf("the newest head is %v old by this machine's clock and the heads of other logs, and the maximum "+
+		"merge delay is %v", age.Round(time.Second), f.log.MaxMergeDelay)
 	return f.accuse(*f.state, VerdictOldHead, text, map[string][]byte{FileHead: head.Signed})
 }
 

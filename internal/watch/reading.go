@@ -5,6 +5,7 @@ import (
 	"encoding/json"
 	"errors"
 	"fmt"
+	"time"
 
 	"golang.org/x/mod/sumdb/tlog"
 
@@ -29,6 +30,7 @@ func (f *Follower) readWaiting(ctx context.Context) error {
 	if err := f.judgeProof(ctx); err != nil {
 		return err
 	}
+	before := f.state.Read
 	var pending batch
 	var batchErr error // of processBatch, and not of the source
 	flush := func() error {
@@ -56,13 +58,41 @@ func (f *Follower) readWaiting(ctx context.Context) error {
 	switch {
 	case batchErr != nil:
 		return batchErr
-	case err != nil:
-		return fmt.Errorf("watch: %s: %w", f.log.Name, err)
-	case f.isWaiting():
-		return fmt.Errorf("watch: %s: %w: the log gave %d entries, and its head has %d", f.log.Name, errDamaged,
-			f.state.Read, f.state.Waiting.TreeSize)
+	case err == nil && f.isWaiting():
+		err = fmt.Errorf("%w: the log gave %d entries, and its head has %d", errDamaged, f.state.Read,
+			f.state.Waiting.TreeSize)
 	}
-	return nil
+	if err == nil {
+		return nil
+	}
+	err = fmt.Errorf("watch: %s: %w", f.log.Name, err)
+	if ctx.Err() != nil || f.state.Read > before {
+		return err
+	}
+	return f.judgeWithheld(err)
+}
+
+// judgeWithheld accuses a log that has not handed out the next entry of the waiting head within its maximum merge delay,
+// since it was first asked for it and since it signed the head. Otherwise, it returns why the entry could not be read.
+// The first failure is stored, so that a restart does not begin a new delay.
+func (f *Follower) judgeWithheld(why error) error {
+	now, isKnown := f.times.Passed(f.log.ID, f.clock.Now())
+	if f.log.MaxMergeDelay <= 0 || !isKnown {
+		return why
+	}
+	now = now.Truncate(time.Second) // as in evidence
+	if f.state.Withheld.IsZero() {
+		next := *f.state
+		next.Withheld = now
+		return errors.Join(why, f.keep(next, nil))
+	}
+	head := f.state.Waiting
+	if now.Sub(f.state.Withheld) <= f.log.MaxMergeDelay || now.Sub(timeOf(head.Timestamp)) <= f.log.MaxMergeDelay {
+		return why
+	}
+	text := fmt.Sprintf("the log signed a head of %d leaves at %s, and gave no entry from %d on since %s (%v)", head.TreeSize,
+		timeOf(head.Timestamp).UTC().Format(time.RFC3339), f.state.Read, f.state.Withheld.UTC().Format(time.RFC3339), why)
+	return f.accuse(*f.state, VerdictWithheld, text, map[string][]byte{FileHead: head.Signed})
 }
 
 // judgeProof judges a consistency proof from the accepted head to the waiting one. The proof shows a rewritten history
@@ -134,7 +164,7 @@ func (f *Follower) processBatch(ctx context.Context, b batch) error {
 	}
 	f.stage(b)
 	next := *f.state
-	next.Monitor, next.Read = monitor, found.Read
+	next.Monitor, next.Read, next.Withheld = monitor, found.Read, time.Time{}
 	switch found.Verdict {
 	case wagtenib.VerdictPending:
 		return f.keep(next, b.entries)

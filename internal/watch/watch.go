@@ -56,6 +56,8 @@ type State struct {
 	Waiting  Head   // the head whose entries are being read
 	Read     uint64 // the index of the entry that is read next
 	Start    uint64 // the index at which reading began: 0, or the size of the log when the log was added
+	// Withheld is when the log first failed to hand out the next entry of the waiting head. It is zero after an entry.
+	Withheld time.Time
 }
 
 // Evidence shows that a log did something wrong. Others can check it without this monitor.

@@ -14,9 +14,16 @@ import (
 // maxHeads is the maximum number of accepted heads that are stored of a log. The oldest are deleted.
 const maxHeads = 1000
 
+// waitingTree is the waiting tree as it is stored in JSON. A store of an earlier ctwatch has only the head.
+type waitingTree struct {
+	watch.Head
+	Withheld time.Time
+}
+
 // Load returns the stored state of a log. It is the zero State if there is none.
 func (s *Store) Load(id watch.LogID) (watch.State, error) {
 	var state watch.State
+	var tree waitingTree
 	var accepted, waiting string
 	var read, start int64
 	row := s.db.QueryRow("select monitor, accepted, waiting, read, start from states where log = ?", id[:])
@@ -29,9 +36,10 @@ func (s *Store) Load(id watch.LogID) (watch.State, error) {
 	}
 	state.Read, state.Start = uint64(read), uint64(start)
 	if err := errors.Join(json.Unmarshal([]byte(accepted), &state.Accepted), json.Unmarshal([]byte(waiting),
-		&state.Waiting)); err != nil {
+		&tree)); err != nil {
 		return watch.State{}, s.describe(fmt.Errorf("%w: the state of log %x: %w", ErrDamaged, id, err))
 	}
+	state.Waiting, state.Withheld = tree.Head, tree.Withheld
 	return state, nil
 }
 
@@ -129,7 +137,7 @@ func (s *Store) keepState(w *writer, log watch.Log, next watch.State) error {
 	if err != nil {
 		return err
 	}
-	waiting, err := json.Marshal(next.Waiting)
+	waiting, err := json.Marshal(waitingTree{next.Waiting, next.Withheld})
 	if err != nil {
 		return err
 	}
