@@ -51,6 +51,12 @@ func newTestLog(t *testing.T, size int) *testlog.Log {
 // returns the file with the certificate and its issuer, and the promised entry.
 func promised(t *testing.T, log *testlog.Log, index uint64) (file string, entry testlog.Entry) {
 	t.Helper()
+	return promisedAt(t, log, index, 2000)
+}
+
+// promisedAt is promised with the timestamp of the promise, in milliseconds.
+func promisedAt(t *testing.T, log *testlog.Log, index, timestamp uint64) (file string, entry testlog.Entry) {
+	t.Helper()
 	key, err := ecdsa.GenerateKey(elliptic.P256(), rand.Reader)
 	must(t, err)
 	root := &x509.Certificate{SerialNumber: big.NewInt(1), Subject: pkix.Name{CommonName: "Test CA"}, IsCA: true,
@@ -70,7 +76,7 @@ func promised(t *testing.T, log *testlog.Log, index uint64) (file string, entry 
 		return cert
 	}
 	hash := sha256.Sum256(issuer.RawSubjectPublicKeyInfo)
-	entry = testlog.Entry{Timestamp: 2000, Certificate: issue().RawTBSCertificate, IssuerKeyHash: hash[:]}
+	entry = testlog.Entry{Timestamp: timestamp, Certificate: issue().RawTBSCertificate, IssuerKeyHash: hash[:]}
 	sct := log.SCT(entry, index)
 	list := append(binary.BigEndian.AppendUint16(nil, uint16(len(sct))), sct...)
 	value, err := asn1.Marshal(append(binary.BigEndian.AppendUint16(nil, uint16(len(list))), list...))
@@ -114,6 +120,36 @@ func TestAuditsACertificate(t *testing.T) {
 	})
 	if status, out, _ = ctwatch(t, arguments...); status != statusUnread || !strings.Contains(out, "NO ANSWER") {
 		t.Errorf("a log that refuses: status %d: %s", status, out)
+	}
+}
+
+// TestAuditsByTheTime: the command accuses a log of a timestamp in the future, of an entry that is later than its head,
+// and of a deadline that is over under an old head. ctfsck confirms the evidence.
+func TestAuditsByTheTime(t *testing.T) {
+	now := uint64(time.Now().UnixMilli())
+	const hour = 3_600_000
+	for expected, times := range map[string]struct {
+		promise, head uint64
+		isIncluded    bool
+	}{
+		": FUTURE: the timestamp is ":          {now + hour, now, false},
+		": LATER ENTRY: the leaf is at 300 of": {now, now - 1, true},
+		": OVERDUE: the deadline was ":         {now - 50*hour, now - 49*hour, false},
+	} {
+		log := newTestLog(t, 300)
+		file, entry := promisedAt(t, log, 300, times.promise)
+		if times.isIncluded {
+			log.Add(entry)
+		}
+		log.Publish(log.Size(), times.head)
+		evidence := filepath.Join(t.TempDir(), "evidence")
+		status, out, faults := ctwatch(t, append([]string{"audit", file, "--evidence", evidence}, logArguments(t, log)...)...)
+		if status != statusAccused || !strings.Contains(out, expected) {
+			t.Errorf("%q: status %d: %s%s", expected, status, out, faults)
+		}
+		if _, err := logcheck.Evidence(filepath.Join(evidence, "1"), log.PublicKey()); err != nil {
+			t.Errorf("%q: %v", expected, err)
+		}
 	}
 }
 
