@@ -191,7 +191,7 @@ func TestComparesHeads(t *testing.T) {
 	must(t, os.WriteFile(filepath.Join(folder, "earlier"), earlier.Checkpoint(), 0o600))
 	arguments := append([]string{"compare", folder}, logArguments(t, log)...)
 	if status, out, faults := ctwatch(t, arguments...); status != 0 || !strings.HasPrefix(out,
-		"1 heads are consistent with their logs, 0 are not, and 0 are signed by no log") {
+		"1 heads are consistent with their logs, 0 are not, 0 are not proved, and 0 are signed by no log") {
 		t.Errorf("status %d: %s%s", status, out, faults)
 	}
 	must(t, os.WriteFile(filepath.Join(folder, "other"), newTestLog(t, 1).Checkpoint(), 0o600))
@@ -199,7 +199,7 @@ func TestComparesHeads(t *testing.T) {
 	evidence := filepath.Join(t.TempDir(), "evidence")
 	status, out, _ := ctwatch(t, append(arguments, "--evidence", evidence)...)
 	if status != statusAccused || !strings.Contains(out, "two roots of 300 leaves") ||
-		!strings.Contains(out, "1 are not, and 1 are signed by no log") {
+		!strings.Contains(out, "1 are not, 0 are not proved, and 1 are signed by no log") {
 		t.Errorf("status %d: %s", status, out)
 	}
 	if _, err := logcheck.Evidence(filepath.Join(evidence, "1"), log.PublicKey()); err != nil {

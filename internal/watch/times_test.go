@@ -3,6 +3,7 @@ package watch_test
 import (
 	"context"
 	"errors"
+	"fmt"
 	"net/http"
 	"slices"
 	"strings"
@@ -126,15 +127,16 @@ func TestAccusesNoLogThatIsReadSlowly(t *testing.T) {
 		s := newScene(t, kind, time.Hour)
 		grow(s.log, 600)
 		for at := int64(epoch + 900_000); ; at += hour {
-			// Each pass gets one tile or page, and then a refusal.
-			var given atomic.Bool
+			// Each pass gets the next tile or page, and a refusal for the others.
+			read := s.keeper.states[s.watched.ID].Read
 			s.log.Intercept(func(w http.ResponseWriter, r *http.Request) bool {
-				isEntries := strings.Contains(r.URL.Path, "/data/") || strings.HasSuffix(r.URL.Path, "get-entries")
-				if isEntries && given.Swap(true) {
+				isOther := strings.Contains(r.URL.Path, "/data/") && !strings.Contains(r.URL.Path,
+					fmt.Sprintf("/data/%03d", read/256)) || strings.HasSuffix(r.URL.Path, "get-entries") &&
+					r.URL.Query().Get("start") != fmt.Sprint(read)
+				if isOther {
 					w.WriteHeader(http.StatusForbidden)
-					return true
 				}
-				return false
+				return isOther
 			})
 			s.clock.now.Store(at)
 			s.log.Publish(900, uint64(at))
