@@ -62,7 +62,7 @@ func TestWritesNoHeadThatTheStoreRefuses(t *testing.T) {
 	must(t, err)
 	log := watch.Log{ID: watch.LogID{1}, Origin: "log.example"}
 	head := watch.Head{TreeHead: wagtenib.TreeHead{TreeSize: 1, Timestamp: 1}, Signed: []byte("a checkpoint")}
-	if err := keeper.Keep(log, watch.State{Accepted: head}, nil); err == nil {
+	if err := keeper.Keep(log, watch.State{Accepted: watch.Tree{Head: head}}, nil); err == nil {
 		t.Error("the store's fault is not reported")
 	}
 	if files, err := os.ReadDir(folder); err != nil || len(files) != 0 {

@@ -29,7 +29,8 @@ const (
 // auditStatuses holds the exit status for each outcome.
 var auditStatuses = map[audit.Outcome]int{audit.Included: 0, audit.NotYet: statusNotYet,
 	audit.UnknownLog: statusUnknownLog, audit.NoAnswer: statusUnread,
-	audit.Unreadable: statusFault, audit.Never: statusAccused}
+	audit.Unreadable: statusFault, audit.Overdue: statusAccused, audit.Future: statusAccused,
+	audit.LaterEntry: statusAccused, audit.Never: statusAccused}
 
 // maxCertificateFile is the maximum number of bytes of a file with certificates or timestamps.
 const maxCertificateFile = 16 << 20

@@ -51,6 +51,12 @@ func newTestLog(t *testing.T, size int) *testlog.Log {
 // returns the file with the certificate and its issuer, and the promised entry.
 func promised(t *testing.T, log *testlog.Log, index uint64) (file string, entry testlog.Entry) {
 	t.Helper()
+	return promisedAt(t, log, index, 2000)
+}
+
+// promisedAt is promised with the timestamp of the promise, in milliseconds.
+func promisedAt(t *testing.T, log *testlog.Log, index, timestamp uint64) (file string, entry testlog.Entry) {
+	t.Helper()
 	key, err := ecdsa.GenerateKey(elliptic.P256(), rand.Reader)
 	must(t, err)
 	root := &x509.Certificate{SerialNumber: big.NewInt(1), Subject: pkix.Name{CommonName: "Test CA"}, IsCA: true,
@@ -70,7 +76,7 @@ func promised(t *testing.T, log *testlog.Log, index uint64) (file string, entry 
 		return cert
 	}
 	hash := sha256.Sum256(issuer.RawSubjectPublicKeyInfo)
-	entry = testlog.Entry{Timestamp: 2000, Certificate: issue().RawTBSCertificate, IssuerKeyHash: hash[:]}
+	entry = testlog.Entry{Timestamp: timestamp, Certificate: issue().RawTBSCertificate, IssuerKeyHash: hash[:]}
 	sct := log.SCT(entry, index)
 	list := append(binary.BigEndian.AppendUint16(nil, uint16(len(sct))), sct...)
 	value, err := asn1.Marshal(append(binary.BigEndian.AppendUint16(nil, uint16(len(list))), list...))
@@ -117,6 +123,36 @@ func TestAuditsACertificate(t *testing.T) {
 	}
 }
 
+// TestAuditsByTheTime: the command accuses a log of a timestamp in the future, of an entry that is later than its head,
+// and of a deadline that is over under an old head. ctfsck confirms the evidence.
+func TestAuditsByTheTime(t *testing.T) {
+	now := uint64(time.Now().UnixMilli())
+	const hour = 3_600_000
+	for expected, times := range map[string]struct {
+		promise, head uint64
+		isIncluded    bool
+	}{
+		": FUTURE: the timestamp is ":          {now + hour, now, false},
+		": LATER ENTRY: the leaf is at 300 of": {now, now - 1, true},
+		": OVERDUE: the deadline was ":         {now - 50*hour, now - 49*hour, false},
+	} {
+		log := newTestLog(t, 300)
+		file, entry := promisedAt(t, log, 300, times.promise)
+		if times.isIncluded {
+			log.Add(entry)
+		}
+		log.Publish(log.Size(), times.head)
+		evidence := filepath.Join(t.TempDir(), "evidence")
+		status, out, faults := ctwatch(t, append([]string{"audit", file, "--evidence", evidence}, logArguments(t, log)...)...)
+		if status != statusAccused || !strings.Contains(out, expected) {
+			t.Errorf("%q: status %d: %s%s", expected, status, out, faults)
+		}
+		if _, err := logcheck.Evidence(filepath.Join(evidence, "1"), log.PublicKey()); err != nil {
+			t.Errorf("%q: %v", expected, err)
+		}
+	}
+}
+
 // TestRefusesToAudit: audit refuses files and log lists that it cannot use, and says why.
 func TestRefusesToAudit(t *testing.T) {
 	log := newTestLog(t, 1)
@@ -155,7 +191,7 @@ func TestComparesHeads(t *testing.T) {
 	must(t, os.WriteFile(filepath.Join(folder, "earlier"), earlier.Checkpoint(), 0o600))
 	arguments := append([]string{"compare", folder}, logArguments(t, log)...)
 	if status, out, faults := ctwatch(t, arguments...); status != 0 || !strings.HasPrefix(out,
-		"1 heads are consistent with their logs, 0 are not, and 0 are signed by no log") {
+		"1 heads are consistent with their logs, 0 are not, 0 are not proved, and 0 are signed by no log") {
 		t.Errorf("status %d: %s%s", status, out, faults)
 	}
 	must(t, os.WriteFile(filepath.Join(folder, "other"), newTestLog(t, 1).Checkpoint(), 0o600))
@@ -163,7 +199,7 @@ func TestComparesHeads(t *testing.T) {
 	evidence := filepath.Join(t.TempDir(), "evidence")
 	status, out, _ := ctwatch(t, append(arguments, "--evidence", evidence)...)
 	if status != statusAccused || !strings.Contains(out, "two roots of 300 leaves") ||
-		!strings.Contains(out, "1 are not, and 1 are signed by no log") {
+		!strings.Contains(out, "1 are not, 0 are not proved, and 1 are signed by no log") {
 		t.Errorf("status %d: %s", status, out)
 	}
 	if _, err := logcheck.Evidence(filepath.Join(evidence, "1"), log.PublicKey()); err != nil {

@@ -55,6 +55,7 @@ type comparison struct {
 	left         map[string][][]byte // the heads for which no signing log was found yet, by their file or address
 	consistent   int                 // the number of heads that are consistent with their log
 	inconsistent int                 // the number of heads that show a fault of a log
+	notProved    int                 // the number of heads for which their log gives no proof
 	faults       []error
 }
 
@@ -93,8 +94,12 @@ func (c *comparison) compare(ctx context.Context, log watch.Log) error {
 				view.Head.TreeSize))
 			continue
 		}
-		c.inconsistent++
-		if err := c.s.writeEvidence(fmt.Sprint(c.inconsistent), view.Evidence); err != nil {
+		if view.Evidence.Verdict == watch.VerdictNotProved {
+			c.notProved++
+		} else {
+			c.inconsistent++
+		}
+		if err := c.s.writeEvidence(fmt.Sprint(c.inconsistent+c.notProved), view.Evidence); err != nil {
 			return err
 		}
 	}
@@ -107,12 +112,15 @@ func (c *comparison) end() error {
 	for _, heads := range c.left {
 		unknown += len(heads)
 	}
-	fmt.Fprintf(c.out, "%d heads are consistent with their logs, %d are not, and %d are signed by no log that was "+
-		"given\n", c.consistent, c.inconsistent, unknown)
+	fmt.Fprintf(c.out, "%d heads are consistent with their logs, %d are not, %d are not proved, and %d are signed by no "+
+		"log that was given\n", c.consistent, c.inconsistent, c.notProved, unknown)
 	switch {
 	case c.inconsistent > 0:
-		return &statusError{statusAccused, "ctwatch: a log showed others another history (--evidence FOLDER keeps the " +
-			"evidence)"}
+		return &statusError{statusAccused, "ctwatch: a log signed heads that contradict each other (--evidence FOLDER " +
+			"keeps the evidence)"}
+	case c.notProved > 0:
+		return &statusError{statusUnread, "ctwatch: a log gave no proof for a head that others saw, which is no accusation " +
+			"(ask again, and keep the head)"}
 	case len(c.faults) > 0:
 		return &statusError{statusUnread, errors.Join(c.faults...).Error()}
 	case c.consistent == 0:

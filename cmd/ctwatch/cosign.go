@@ -88,5 +88,5 @@ func acceptedHead(folder string, log watch.Log) (head watch.Head, err error) {
 		return head, fmt.Errorf("ctwatch: no head of %s is accepted yet (ctwatch run must have read it whole)",
 			alert.Safe(log.Name))
 	}
-	return state.Accepted, nil
+	return state.Accepted.Head, nil
 }

@@ -68,6 +68,9 @@ func healthStatus(health watchstore.Health, silent time.Duration) error {
 			"(check its address and the network; it is tried again)"}
 	case len(health.Silent) > 0:
 		return &statusError{statusUnread, "ctwatch: some logs cannot be read (the page of ctwatch run says why)"}
+	case health.Unproved > 0:
+		return &statusError{statusUnread, "ctwatch: a log gave no proof for a head that it signed, which is no accusation " +
+			"(ctwatch evidence NUMBER FOLDER writes its files)"}
 	case len(health.Outputs) > 0:
 		return &statusError{statusFault, "ctwatch: some alerts could not be sent (the lines of ctwatch run say why)"}
 	}

@@ -148,6 +148,10 @@ func newFollower(settings logSettings, keeper watch.Keeper, lines *httpserver.Li
 	if err != nil {
 		return nil, err
 	}
+	heads, err := newOthersHeads(settings, client, lines)
+	if err != nil {
+		return nil, err
+	}
 	if settings.once {
 		client.Retrying = firstOfEach(func(address string, fault error) {
 			lines.Warn("retry", "address", address, "fault", fault, "next", triedAgain)
@@ -155,7 +159,7 @@ func newFollower(settings logSettings, keeper watch.Keeper, lines *httpserver.Li
 	}
 	f := &follower{settings: settings, lines: lines, listed: listStatus{since: time.Now()}}
 	f.group = watch.NewGroup(keeper, watch.Options{FromStart: settings.fromStart, Pause: settings.pause, Client: client,
-		Policy: policy, Mirror: mirrors(settings.mirror, client)})
+		Policy: policy, Mirror: mirrors(settings.mirror, client), Heads: heads})
 	if settings.list == "" {
 		return f, nil
 	}

@@ -27,6 +27,7 @@ var (
 	descUnread   = desc("unread_certificates", "Number of certificates in the store whose names cannot be read.")
 	descAlerts   = desc("alerts", "Number of alerts that were stored.")
 	descEvidence = desc("evidence", "Number of stored pieces of evidence against logs.")
+	descUnproved = desc("unproved_heads", "Number of signed heads without a proof that nobody has looked at.")
 	descWaiting  = desc("alerts_waiting", "Number of alerts that an output did not send yet.", "output")
 	descFailing  = desc("output_failing", "1 if the last sending of an output failed, and 0 if it did not.", "output")
 	descSize     = desc("log_size", "Number of entries of a log according to its newest tree head.", "log", "id")
@@ -44,7 +45,7 @@ var (
 // Describe sends the descriptions of all metrics.
 func (c collector) Describe(descriptions chan<- *prometheus.Desc) {
 	for _, one := range []*prometheus.Desc{descBuild, descIssuances, descUnread, descAlerts, descEvidence,
-		descWaiting, descFailing, descSize,
+		descUnproved, descWaiting, descFailing, descSize,
 		descRead, descAccepted, descHead, descAnswered, descFault} {
 		descriptions <- one
 	}
@@ -65,6 +66,7 @@ func (c collector) Collect(metrics chan<- prometheus.Metric) {
 	gauge(descUnread, float64(counts.Unread))
 	gauge(descAlerts, float64(counts.Alerts))
 	gauge(descEvidence, float64(counts.Evidence))
+	gauge(descUnproved, float64(counts.NewUnproved))
 	outputs, err := c.store.Outputs()
 	if err != nil {
 		metrics <- prometheus.NewInvalidMetric(descWaiting, err)

@@ -9,7 +9,10 @@ import (
 	"html/template"
 	"net"
 	"net/http"
+	"net/netip"
+	"slices"
 	"strconv"
+	"strings"
 	"time"
 
 	"github.com/prometheus/client_golang/prometheus"
@@ -66,7 +69,8 @@ func listen(settings serveSettings, store *watchstore.Store, listed *listStatus,
 		return nil, fmt.Errorf("%w (write another --listen, or --listen '' for no page)", err)
 	}
 	p := &pageServer{listener: listener, failed: make(chan error, 1)}
-	p.server = &http.Server{Handler: pageHandler(store, listed, lines), ReadTimeout: pageTimeout,
+	handler := onlyHosts(pageHandler(store, listed, lines), settings.hosts)
+	p.server = &http.Server{Handler: handler, ReadTimeout: pageTimeout,
 		WriteTimeout: pageTimeout, IdleTimeout: pageTimeout, MaxHeaderBytes: maxHeader}
 	go func() { p.failed <- p.server.Serve(listener) }()
 	return p, nil
@@ -92,6 +96,25 @@ func (p *pageServer) close() error {
 		err = errors.Join(err, failed)
 	}
 	return err
+}
+
+// onlyHosts returns a handler that answers requests whose Host is an address, localhost or one of these names. A page of
+// a stranger can have its own name resolve to this machine (DNS rebinding), and would otherwise read the watched names
+// in the browser of their owner. Its requests have its name as their Host.
+func onlyHosts(next http.Handler, names []string) http.Handler {
+	return http.HandlerFunc(func(w http.ResponseWriter, r *http.Request) {
+		host := strings.Trim(r.Host, "[]")
+		if name, _, err := net.SplitHostPort(r.Host); err == nil {
+			host = name
+		}
+		host = strings.ToLower(strings.TrimSuffix(host, "."))
+		if _, err := netip.ParseAddr(host); err != nil && host != "localhost" && !slices.Contains(names, host) {
+			http.Error(w, fmt.Sprintf("ctwatch does not answer for the host %.100q: use its address, or name this host in "+
+				"the settings (page-host)", host), http.StatusMisdirectedRequest)
+			return
+		}
+		next.ServeHTTP(w, r)
+	})
 }
 
 // pageHandler returns the handler of the page, of /metrics and of /healthz.

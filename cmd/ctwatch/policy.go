@@ -9,10 +9,11 @@ import (
 	"wagtenib/internal/watch/audit"
 )
 
-// policyFlags holds the values of the flags for a policy of witnesses.
+// policyFlags holds the values of the flags for what others say of a log: a policy of witnesses, and heads that they saw.
 type policyFlags struct {
 	file   string
 	quorum int
+	heads  string // a file, a folder or a URL; empty for none
 }
 
 func (p *policyFlags) define(flags *flag.FlagSet) {
@@ -20,6 +21,8 @@ func (p *policyFlags) define(flags *flag.FlagSet) {
 		"`file` with the verifier keys of witnesses, one a line. A tiled log whose head too few of them cosigned is "+
 			"accused, and the head is not read")
 	flags.IntVar(&p.quorum, "quorum", 0, "`number` of the witnesses that must have cosigned a head")
+	flags.StringVar(&p.heads, "heads", "", "`file`, folder or URL with signed heads that others saw: checkpoints, or answers "+
+		"to get-sth. Each is compared with what the log says, and read again after each --pause")
 }
 
 // policy returns the function that checks heads, or nil if there is no policy.

@@ -21,7 +21,7 @@ import (
 var fileRules = settingsfile.Rules{
 	Only: []string{"config", "once"},
 	Several: []string{"name", "names", "certspotter-watchlist", "log", "mail", "webhook", "command", "expect-key",
-		"expect-issuer"},
+		"expect-issuer", "page-host"},
 }
 
 // defaultList is the log list of browsers.
@@ -55,10 +55,11 @@ type logSettings struct {
 	policy    policyFlags
 }
 
-// serveSettings holds the address of the local page, and the path of the config file.
+// serveSettings holds the address of the local page, the names of its host, and the path of the config file.
 type serveSettings struct {
 	listen string
-	config string // empty if all settings are flags
+	hosts  []string // in lower case
+	config string   // empty if all settings are flags
 }
 
 // parse reads the command line, and the config file that it names. If both have a setting, the command line counts. If
@@ -124,6 +125,8 @@ func (s *settings) define(flags *flag.FlagSet) {
 		"time after which a log or a log list that cannot be read causes an alert; at least 1m")
 	flags.StringVar(&s.serve.listen, "listen", "127.0.0.1:8650",
 		"`address` of the local page, /metrics and /healthz. If it is empty, they are not served")
+	flags.Func("page-host", "`name` in addresses of the page, such as that of a proxy. Requests for other names than "+
+		"these and localhost are refused. May be given several times", s.addHost)
 }
 
 // appendTo returns a function that appends the value of a flag to a list.
@@ -160,6 +163,16 @@ func (s *settings) validate() error {
 	if s.logs.listKey != nil && s.logs.list == "" {
 		return errors.New("--log-list-key needs --log-list")
 	}
+	return nil
+}
+
+// addHost adds a name of the page's host.
+func (s *settings) addHost(text string) error {
+	name := strings.ToLower(strings.TrimSuffix(strings.TrimSpace(text), "."))
+	if name == "" || strings.ContainsAny(name, ":/ *") {
+		return fmt.Errorf("%.100q is no host name (write it without a scheme, a port and a path: watch.example.org)", text)
+	}
+	s.serve.hosts = append(s.serve.hosts, name)
 	return nil
 }
 

@@ -162,11 +162,9 @@ func (e *evidence) damagedTile() (string, error) {
 // signed after the entry's maximum merge delay. If proof.json shows another leaf at the index in the timestamp, nothing
 // else must be believed.
 func (e *evidence) brokenPromise() (string, error) {
-	timestamp, extensions, ok := timestampOf(e.files["leaf"])
-	sct := e.files["sct"]
-	at := 1 + sha256.Size + 8 + 2 + len(extensions)
-	if !ok || len(sct) < at || !e.verify(e.files["leaf"], sct[at:]) {
-		return "", notShown("the log's key did not sign the timestamp over the leaf")
+	timestamp, extensions, err := e.promised()
+	if err != nil {
+		return "", err
 	}
 	if len(e.files["proof.json"]) == 0 {
 		second, err := e.head("head-2")
@@ -192,6 +190,58 @@ func (e *evidence) brokenPromise() (string, error) {
 	}
 	return fmt.Sprintf("the log promised an entry at the index %d, and another one is there. Nothing else must be "+
 		"believed", of.Index), nil
+}
+
+// promised returns the timestamp and the extensions of the files leaf and sct, which the log's key signed.
+func (e *evidence) promised() (timestamp uint64, extensions []byte, err error) {
+	timestamp, extensions, ok := timestampOf(e.files["leaf"])
+	sct := e.files["sct"]
+	at := 1 + sha256.Size + 8 + 2 + len(extensions)
+	if !ok || len(sct) < at || !e.verify(e.files["leaf"], sct[at:]) {
+		return 0, nil, notShown("the log's key did not sign the timestamp over the leaf")
+	}
+	return timestamp, extensions, nil
+}
+
+// futurePromise judges a timestamp that the log signed over an entry before its time.
+func (e *evidence) futurePromise() (string, error) {
+	timestamp, _, err := e.promised()
+	if err != nil {
+		return "", err
+	}
+	seen, err := e.seen()
+	if err != nil {
+		return "", err
+	}
+	if timestamp <= seen {
+		return "", notShown("the timestamp is %d, and it was seen at %d", timestamp, seen)
+	}
+	return fmt.Sprintf("the log signed the timestamp %d. It must be believed that it was seen at %s, before its time",
+		timestamp, e.Time), nil
+}
+
+// overduePromise judges a promise whose deadline is over, beside the newest head that the log showed, which is older
+// than the maximum merge delay.
+func (e *evidence) overduePromise() (string, error) {
+	timestamp, _, err := e.promised()
+	if err != nil {
+		return "", err
+	}
+	second, err := e.head("head-2")
+	if err != nil {
+		return "", err
+	}
+	seen, err := e.seen()
+	if err != nil {
+		return "", err
+	}
+	if last := max(timestamp, second.timestamp); seen < last || seen-last <= e.MaxMergeDelay {
+		return "", notShown("the timestamp is %d, the head was signed at %d, and both were seen at %d", timestamp,
+			second.timestamp, seen)
+	}
+	return fmt.Sprintf("the log promised an entry at %d, and signed a head of %d leaves at %d. It must be believed that this "+
+		"was its newest head at %s, that its leaves lack the entry, and that its maximum merge delay is %d ms", timestamp,
+		second.size, second.timestamp, e.Time, e.MaxMergeDelay), nil
 }
 
 // rootBy returns the root to which an audit path leads from a leaf hash (RFC 6962, section 2.1.1). ok is false if the

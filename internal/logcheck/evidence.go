@@ -48,14 +48,15 @@ const maxEvidenceFile = 64 << 20
 
 // judges maps each verdict in evidence.json to the function that checks it.
 var judges = map[string]func(*evidence) (string, error){
-	"fork": (*evidence).fork, "shrunk": (*evidence).shrunk, "not later": (*evidence).notLater, "inconsistent " +
-		"proof": (*evidence).inconsistent,
+	"fork": (*evidence).fork, "shrunk": (*evidence).shrunk, "not later": (*evidence).notLater,
+	"other history": (*evidence).otherHistory, "not proved": (*evidence).notProved,
 	"other root": (*evidence).otherRoot, "late merge": (*evidence).lateMerge, "later " +
 		"entry": (*evidence).laterEntry, "wrong index": (*evidence).wrongIndex,
 	"no leaf": (*evidence).noLeaf, "damaged tile": (*evidence).damagedTile, "old head": (*evidence).oldHead, "bad " +
 		"signature": (*evidence).badSignature,
-	"broken promise": (*evidence).brokenPromise, "two views": (*evidence).twoViews, "few " +
-		"cosignatures": (*evidence).fewCosigned, "entry": (*evidence).logged,
+	"broken promise": (*evidence).brokenPromise, "few " +
+		"cosignatures": (*evidence).fewCosigned, "entry": (*evidence).logged, "future promise": (*evidence).futurePromise,
+	"overdue promise": (*evidence).overduePromise, "withheld entries": (*evidence).withheld,
 }
 
 // Evidence checks a folder of evidence against a log (evidence.json, head-1, head-2, leaf, tile, proof.json) by the
@@ -233,40 +234,67 @@ func (e *evidence) notLater() (string, error) {
 		"believed", first.size, first.timestamp, second.size, second.timestamp), nil
 }
 
-// twoViews judges two heads of one log that different observers saw. If the proof does not lead from one to the other,
-// neither tree is the beginning of the other one.
-func (e *evidence) twoViews() (string, error) {
-	first, second, err := e.heads()
-	if err != nil {
-		return "", err
-	}
-	if first.size == second.size {
-		return e.fork()
-	}
-	return e.inconsistent()
+// consistency is the content of proof.json for two heads: a log's answer to get-sth-consistency, and the root from which
+// it leads to that of head-2, if that is not the root of head-1.
+type consistency struct {
+	Proof     *[][]byte `json:"consistency"` // another answer has no such field, and must not be taken for an empty proof
+	FirstRoot []byte    `json:"first_root"`
 }
 
-func (e *evidence) inconsistent() (string, error) {
-	first, second, err := e.heads()
+// otherHistory judges a signed head and a proof that another root of as many leaves leads to a second signed head. So
+// the second tree does not begin with the first one, assuming no hash collision.
+func (e *evidence) otherHistory() (string, error) {
+	second, err := e.head("head-2")
 	if err != nil {
 		return "", err
 	}
-	// Another answer has no such field, and must not be taken for an empty proof.
-	var answer struct {
-		Consistency *[][]byte `json:"consistency"`
+	if second.size == 0 {
+		if second.root == sha256.Sum256(nil) {
+			return "", notShown("head-2 is that of the empty tree")
+		}
+		return fmt.Sprintf("the log signed the root %x of no leaves, which is not that of the empty tree. Nothing else must be "+
+			"believed", second.root), nil
 	}
-	if err := json.Unmarshal(e.files["proof.json"], &answer); err != nil || answer.Consistency == nil {
-		return "", notShown("proof.json is not an answer to get-sth-consistency")
+	first, err := e.head("head-1")
+	if err != nil {
+		return "", err
+	}
+	var answer consistency
+	if err := json.Unmarshal(e.files["proof.json"], &answer); err != nil || answer.Proof == nil ||
+		len(answer.FirstRoot) != sha256.Size {
+		return "", notShown("proof.json has no proof with another root")
+	}
+	other := head{size: first.size, root: hash(answer.FirstRoot)}
+	if first.size == 0 || first.size >= second.size || other.root == first.root || !leads(other, second, *answer.Proof) {
+		return "", notShown("the proof does not lead from another root of %d leaves to head-2", first.size)
+	}
+	return fmt.Sprintf("the log signed the root %x of %d leaves, and a tree of %d leaves whose first %d leaves have the root "+
+		"%x. Nothing else must be believed", first.root, first.size, second.size, first.size, other.root), nil
+}
+
+// notProved judges two heads between which the log gave no proof, or one that does not lead from one to the other. This
+// accuses nobody.
+func (e *evidence) notProved() (string, error) {
+	first, second, err := e.heads()
+	if err != nil {
+		return "", err
 	}
 	if first.size == 0 || first.size >= second.size {
 		return "", notShown("there is no proof between %d and %d leaves", first.size, second.size)
 	}
-	if leads(first, second, *answer.Consistency) {
-		return "", notShown("the proof leads from head-1 to head-2")
+	said := "gave no proof"
+	if content, ok := e.files["proof.json"]; ok {
+		var answer consistency
+		if err := json.Unmarshal(content, &answer); err != nil || answer.Proof == nil || answer.FirstRoot != nil {
+			return "", notShown("proof.json is not an answer to get-sth-consistency")
+		}
+		if leads(first, second, *answer.Proof) {
+			return "", notShown("the proof leads from head-1 to head-2")
+		}
+		said = "gave this proof, which does not lead from one to the other"
 	}
-	return fmt.Sprintf("the log signed heads of %d and %d leaves, and the proof does not lead from one to the "+
-		"other. It must be believed that the log gave this proof: ask it again",
-		first.size, second.size), nil
+	return fmt.Sprintf("this is no accusation: the log signed heads of %d and %d leaves. It must be believed that it %s: ask it "+
+		"again", first.size, second.size, said), nil
 }
 
 func (e *evidence) otherRoot() (string, error) {
@@ -292,6 +320,34 @@ func (e *evidence) oldHead() (string, error) {
 	}
 	return fmt.Sprintf("the log signed its head at %d. It must be believed that this was its newest head at %s, "+
 		"and that its maximum merge delay is %d ms", second.timestamp, e.Time, e.MaxMergeDelay), nil
+}
+
+// withheld judges a head whose entries the log did not hand out.
+func (e *evidence) withheld() (string, error) {
+	second, err := e.head("head-2")
+	if err != nil {
+		return "", err
+	}
+	seen, err := e.seen()
+	if err != nil {
+		return "", err
+	}
+	if seen < second.timestamp || seen-second.timestamp <= e.MaxMergeDelay {
+		return "", notShown("the head was signed at %d and seen at %d, and the maximum merge delay is %d ms",
+			second.timestamp, seen, e.MaxMergeDelay)
+	}
+	return fmt.Sprintf("the log signed its head of %d leaves at %d. It must be believed that it did not hand out all of "+
+		"them until %s, and that its maximum merge delay is %d ms: ask for the last one", second.size, second.timestamp,
+		e.Time, e.MaxMergeDelay), nil
+}
+
+// seen returns the time of evidence.json in milliseconds.
+func (e *evidence) seen() (uint64, error) {
+	at, err := time.Parse(time.RFC3339, e.Time)
+	if err != nil || at.UnixMilli() < 0 {
+		return 0, notShown("evidence.json has no time")
+	}
+	return uint64(at.UnixMilli()), nil
 }
 
 func (e *evidence) badSignature() (string, error) {

@@ -232,6 +232,13 @@ func (l *Log) Checkpoint() []byte {
 	return append([]byte(nil), l.published.checkpoint...)
 }
 
+// STH returns the published answer to get-sth.
+func (l *Log) STH() []byte {
+	l.mutex.Lock()
+	defer l.mutex.Unlock()
+	return append([]byte(nil), l.published.sth...)
+}
+
 // SetCheckpoint makes the log answer with these bytes as its checkpoint.
 func (l *Log) SetCheckpoint(content []byte) {
 	l.mutex.Lock()

@@ -68,7 +68,9 @@ func checkEvidence(t *testing.T, k *keeper, log watch.Log) {
 // strongVerdicts are the verdicts that the files of evidence show without this monitor, and an unknown one.
 var strongVerdicts = []string{watch.VerdictFork, watch.VerdictShrunk, watch.VerdictNotLater, watch.VerdictLateMerge,
 	watch.VerdictLaterEntry, watch.VerdictWrongIndex, watch.VerdictNoLeaf, watch.VerdictDamagedTile, watch.VerdictSigner,
-	watch.VerdictInconsistent, watch.VerdictPromise, watch.VerdictFewCosigned, "no such verdict"}
+	watch.VerdictOtherHistory, watch.VerdictPromise, watch.VerdictFewCosigned, watch.VerdictFuture,
+	watch.VerdictOverdue,
+	"no such verdict"}
 
 // checkNoOtherVerdict checks that the judge refuses the files of evidence under every other verdict.
 func checkNoOtherVerdict(t *testing.T, folder string, evidence watch.Evidence, key []byte) {
@@ -199,7 +201,7 @@ func TestAccusesRewrittenHistory(t *testing.T) {
 			s.watched.URL = server.URL
 			s.follower = newFollower(t, s.watched, s.keeper, s.options())
 			s.checkAccused(t, watch.VerdictOtherRoot)
-			checkVerdicts(t, s.keeper, s.watched.ID, watch.VerdictInconsistent, watch.VerdictOtherRoot)
+			checkVerdicts(t, s.keeper, s.watched.ID, watch.VerdictOtherHistory, watch.VerdictOtherRoot)
 			checkEvidence(t, s.keeper, s.watched)
 			// All entries that the log gave were searched, including those of the last batch.
 			if found := s.keeper.indexes(s.watched.ID); found[len(found)-1] != 3199 {

@@ -14,11 +14,12 @@ import (
 
 // The verdicts of evidence. `ctfsck evidence FOLDER` checks the files of each (wagtenib/internal/logcheck).
 const (
-	VerdictFork         = "fork"               // two roots of one size
-	VerdictShrunk       = "shrunk"             // fewer leaves, and no earlier timestamp
-	VerdictNotLater     = "not later"          // more leaves, and no later timestamp (RFC 6962, section 3.5)
-	VerdictOtherRoot    = "other root"         // the leaves that were read have another root than the head
-	VerdictInconsistent = "inconsistent proof" // the log's proof does not lead from one head to the next
+	VerdictFork      = "fork"       // two roots of one size
+	VerdictShrunk    = "shrunk"     // fewer leaves, and no earlier timestamp
+	VerdictNotLater  = "not later"  // more leaves, and no later timestamp (RFC 6962, section 3.5)
+	VerdictOtherRoot = "other root" // the leaves that were read have another root than the head
+	// a signed tree does not begin with the smaller tree that the log signed too
+	VerdictOtherHistory = "other history"
 	// a head that was signed after the entry's maximum merge delay does not cover the entry
 	VerdictLateMerge   = "late merge"
 	VerdictLaterEntry  = "later entry"  // an entry is later than the head that covers it (RFC 6962, section 3.5)
@@ -31,7 +32,14 @@ const (
 	// a head that fewer witnesses cosigned than the policy requires (C2SP tlog-cosignature)
 	VerdictFewCosigned = "few cosignatures"
 	VerdictPromise     = "broken promise" // the log does not have an entry that an SCT promised (RFC 6962, section 3)
-	VerdictTwoViews    = "two views"      // the log showed others a head that is not consistent with this one
+	// an SCT that is later than the time at which it was seen
+	VerdictFuture = "future promise"
+	// the deadline of an SCT is over, and the log shows only a head from before it, which is too old
+	VerdictOverdue = "overdue promise"
+	// a log signed a head, and did not hand out the entries that it covers within the maximum merge delay
+	VerdictWithheld = "withheld entries"
+	// This is no accusation: the log gave no proof that leads from one signed head to another one.
+	VerdictNotProved = "not proved"
 	// This is not a fault: the log has an entry. The owner of a name can show others that a certificate was logged.
 	VerdictEntry = "entry"
 )
@@ -78,9 +86,11 @@ type Inclusion struct {
 	AuditPath [][]byte `json:"audit_path"`
 }
 
-// Consistency holds the content of proof.json for two heads: the proof that the log gave (RFC 6962, section 4.4).
+// Consistency holds the content of proof.json for two heads: the proof that the log gave (RFC 6962, section 4.4), and
+// the root from which it leads to that of head-2, if that is not the root of head-1.
 type Consistency struct {
 	Consistency [][]byte `json:"consistency"`
+	FirstRoot   []byte   `json:"first_root,omitempty"`
 }
 
 // AccusedError is the error of a pass in which the log did something wrong. The Keeper has the evidence.
@@ -106,11 +116,11 @@ func NewEvidence(log Log, found time.Time, verdict, text string, files map[strin
 // Key returns a hash of the verdict and of all files except evidence.json. Two pieces of evidence against one log show
 // the same if they have the same key. Of a head, only the origin, size and root count, because a log that did wrong
 // signs them again and again. Only an old head counts with all its bytes, because a log can stop more than once at the
-// same size.
+// same size. If a head is not proved, only that head counts, because the known head grows.
 func (e Evidence) Key() [sha256.Size]byte {
 	names := make([]string, 0, len(e.Files))
 	for name := range e.Files {
-		if name != FileAbout {
+		if name != FileAbout && (name == FileFirst || e.Verdict != VerdictNotProved) {
 			names = append(names, name)
 		}
 	}

@@ -28,6 +28,9 @@ type Options struct {
 	Policy func(head Head) error
 	// Mirror returns the mirror of a tiled log. Mirror may be nil, and may return nil: the log then has no mirror.
 	Mirror func(log Log) (Mirror, error)
+	// Heads returns signed heads that others saw, of any logs. Heads may be nil.
+	Heads func(ctx context.Context) [][]byte
+	times *Times // of all logs that are followed; nil for one log
 }
 
 // A Mirror stores a copy of a tiled log that can be served.
@@ -49,7 +52,7 @@ type Follower struct {
 	state   *State // nil if it must be loaded
 	// each data tile is compared with the hash tiles before its entries are stored
 	comparesTiles bool
-	accused       accusations
+	memory        memory
 	progress      progress
 }
 
@@ -62,10 +65,13 @@ type progress struct {
 // reportInterval is the minimum time between two reports during one pass. A first pass over a large log takes hours.
 const reportInterval = 10 * time.Second
 
-// accusations hold the keys of the evidence since the start of the program, and the number for each verdict.
-type accusations struct {
-	seen  map[[sha256.Size]byte]bool
-	count map[string]int
+// memory holds what a follower remembers since the start of the program.
+type memory struct {
+	accused map[[sha256.Size]byte]bool // the keys of the evidence
+	count   map[string]int             // the number of pieces of evidence for each verdict
+	placed  map[[sha256.Size]byte]Head // the heads that were judged, except those of State.Unplaced
+	asked   map[[sha256.Size]byte]bool // the heads for which a proof was asked in this pass
+	foreign map[[sha256.Size]byte]bool // the hashes of heads that others saw and this log did not sign
 }
 
 // maxAccusations is the maximum number of accusations of one log with one verdict. A dishonest log must not fill the
@@ -86,9 +92,14 @@ func NewFollower(log Log, keeper Keeper, options Options) (*Follower, error) {
 		return nil, fmt.Errorf("watch: %s: %w", log.Name, err)
 	}
 	f := &Follower{log: log, source: newSource(log, client), keeper: keeper, options: options, clock: options.Client.Clock,
-		accused: accusations{map[[sha256.Size]byte]bool{}, map[string]int{}}, progress: progress{Status: Status{Log: log}}}
+		memory: memory{accused: map[[sha256.Size]byte]bool{}, count: map[string]int{}, placed: map[[sha256.Size]byte]Head{},
+			foreign: map[[sha256.Size]byte]bool{}},
+		progress: progress{Status: Status{Log: log}}}
 	if f.clock == nil {
 		f.clock = logclient.MachineClock{}
+	}
+	if f.options.times == nil {
+		f.options.times = NewTimes([]Log{log})
 	}
 	if options.Mirror != nil && log.IsTiled() {
 		if f.mirror, err = options.Mirror(log); err != nil {
@@ -126,11 +137,13 @@ func (f *Follower) pass(ctx context.Context) error {
 	if err := f.load(); err != nil {
 		return err
 	}
+	f.memory.asked = map[[sha256.Size]byte]bool{}
 	head, err := f.source.head(ctx)
 	if err != nil {
 		return f.headError(head, err)
 	}
 	f.progress.Answered, f.progress.Head = f.clock.Now(), head.TreeHead
+	f.options.times.Add(f.log.ID, head.Timestamp)
 	if err := f.judgePolicy(head); err != nil {
 		return err
 	}
@@ -141,14 +154,19 @@ func (f *Follower) pass(ctx context.Context) error {
 	}
 	old := f.judgeAge(head)
 	var accused *AccusedError
-	if old != nil && !errors.As(old, &accused) {
+	if old != nil && !errors.As(old, &accused) && !errors.Is(old, errUnconfirmed) {
 		return old
 	}
-	if err := f.follow(ctx, head); err != nil {
+	err = f.follow(ctx, head)
+	// The entries are read before other heads accuse the log: it must not prevent the search by signing one of them.
+	if found := f.judgeOthers(ctx, head); err == nil || errors.As(found, &accused) {
+		err = found
+	}
+	if err != nil {
 		return err
 	}
 	if f.mirror != nil && len(f.state.Accepted.Signed) > 0 {
-		if err := f.mirror.Accept(ctx, f.state.Accepted); err != nil {
+		if err := f.mirror.Accept(ctx, f.state.Accepted.Head); err != nil {
 			return fmt.Errorf("watch: %s: mirror: %w", f.log.Name, err)
 		}
 	}
@@ -160,7 +178,7 @@ func (f *Follower) pass(ctx context.Context) error {
 func (f *Follower) follow(ctx context.Context, head Head) error {
 	for {
 		waited := f.isWaiting()
-		if err := f.judgeHead(head); err != nil {
+		if err := f.judgeHead(ctx, head); err != nil {
 			return err
 		}
 		if !f.isWaiting() {
@@ -215,7 +233,7 @@ func (f *Follower) accuse(next State, verdict, text string, files map[string][]b
 		return err
 	}
 	key := evidence.Key()
-	if f.accused.seen[key] || f.accused.count[verdict] >= maxAccusations {
+	if f.memory.accused[key] || f.memory.count[verdict] >= maxAccusations {
 		if !bytes.Equal(next.Monitor, f.state.Monitor) {
 			if err := f.keep(next, nil); err != nil {
 				return err
@@ -226,8 +244,8 @@ func (f *Follower) accuse(next State, verdict, text string, files map[string][]b
 	if err := f.keeper.Accuse(f.log, next, evidence); err != nil {
 		return fmt.Errorf("watch: %s: %w", f.log.Name, err)
 	}
-	f.accused.seen[key] = true
-	f.accused.count[verdict]++
+	f.memory.accused[key] = true
+	f.memory.count[verdict]++
 	f.state = &next
 	f.progress.Read, f.progress.Accepted = next.Read, next.Accepted.TreeSize
 	return &AccusedError{verdict, text}
@@ -278,29 +296,36 @@ func (f *Follower) begin(ctx context.Context, head Head) error {
 	if err != nil {
 		return fmt.Errorf("watch: %s: %w: the right edge of the tree: %v", f.log.Name, errDamaged, err)
 	}
-	return f.keep(State{Monitor: monitor, Accepted: head, Read: head.TreeSize, Start: head.TreeSize}, nil)
+	return f.keep(State{Monitor: monitor, Accepted: newTree(head), Read: head.TreeSize, Start: head.TreeSize}, nil)
 }
 
 // frozenStates holds the states in a log list in which a log need not sign new heads.
 var frozenStates = map[string]bool{"readonly": true, "retired": true, "rejected": true}
 
 // judgeAge accuses a log whose newest head is older than its maximum merge delay. RFC 6962, section 3.5, requires a
-// newer one on demand.
+// newer one on demand. The head must be that old by the machine's clock and by the newest head of the other logs. The
+// error wraps errUnconfirmed if no other log has signed a head yet.
 func (f *Follower) judgeAge(head Head) error {
-	if f.log.MaxMergeDelay <= 0 || frozenStates[f.log.State] {
+	now := f.clock.Now().Truncate(time.Second) // as in evidence
+	if f.log.MaxMergeDelay <= 0 || frozenStates[f.log.State] || now.Sub(timeOf(head.Timestamp)) <= f.log.MaxMergeDelay {
 		return nil
 	}
-	age := f.clock.Now().Sub(time.UnixMilli(int64(min(head.Timestamp, 1<<62))))
+	passed, isKnown := f.options.times.Passed(f.log.ID, now)
+	if !isKnown {
+		return fmt.Errorf("%w: %s: its newest head is %v old", errUnconfirmed, f.log.Name,
+			now.Sub(timeOf(head.Timestamp)).Round(time.Second))
+	}
+	age := passed.Sub(timeOf(head.Timestamp))
 	if age <= f.log.MaxMergeDelay {
 		return nil
 	}
-	text := fmt.Sprintf("the newest head is %v old by this machine's clock, and the maximum merge delay is %v",
-		age.Round(time.Second), f.log.MaxMergeDelay)
+	text := fmt.Sprintf("the newest head is %v old by this machine's clock and the heads of other logs, and the maximum "+
+		"merge delay is %v", age.Round(time.Second), f.log.MaxMergeDelay)
 	return f.accuse(*f.state, VerdictOldHead, text, map[string][]byte{FileHead: head.Signed})
 }
 
-// judgeHead judges a head. By the verdict, it stores the next state or accuses the log.
-func (f *Follower) judgeHead(head Head) error {
+// judgeHead judges the newest head. By the verdict, it stores the next state or accuses the log.
+func (f *Follower) judgeHead(ctx context.Context, head Head) error {
 	found, monitor, err := wagtenib.MonitorHead(f.state.Monitor, head.TreeHead)
 	if err != nil {
 		return f.stateError(err)
@@ -309,59 +334,79 @@ func (f *Follower) judgeHead(head Head) error {
 	next.Monitor, next.Read = monitor, found.Read
 	switch found.Verdict {
 	case wagtenib.VerdictPending:
-		if !f.isWaiting() {
-			next.Waiting = head
-			return f.keep(next, nil)
-		}
-		return nil
-	case wagtenib.VerdictAccepted:
 		if f.isWaiting() {
-			head = f.state.Waiting
+			return f.keepLater(head)
 		}
-		next.Accepted, next.Waiting = head, Head{}
+		next.Waiting = newTree(head)
+		return f.keep(next, nil)
+	case wagtenib.VerdictAccepted:
+		next.Accepted, next.Waiting = newTree(head), Tree{}
+		if f.isWaiting() {
+			next.Accepted = f.state.Waiting
+		}
 		return f.keep(next, nil)
 	case wagtenib.VerdictAgain:
-		if accepted := f.state.Accepted; head.TreeSize == accepted.TreeSize && head.Timestamp > accepted.Timestamp &&
-			len(accepted.Signed) > 0 {
-			next.Accepted = head
-			return f.keep(next, nil)
-		}
-		return nil
-	case wagtenib.VerdictStale:
-		return nil
+		return f.remember(monitor, head)
+	case wagtenib.VerdictOlder:
+		return f.judgeOlder(ctx, head)
 	}
 	return f.accuseHead(next, head, found)
 }
 
-// accuseHead accuses a log of a head that contradicts the one that was known before.
+// remember stores the timestamp of one more head of a known tree. It stores nothing if the tree's earliest and newest
+// heads stay the same.
+func (f *Follower) remember(monitor []byte, head Head) error {
+	next := *f.state
+	next.Monitor = monitor
+	if isOf(head, next.Accepted) {
+		next.Accepted = next.Accepted.with(head)
+	} else {
+		next.Waiting = next.Waiting.with(head)
+	}
+	if bytes.Equal(monitor, f.state.Monitor) && next.Accepted.isSame(f.state.Accepted) &&
+		next.Waiting.isSame(f.state.Waiting) {
+		return nil
+	}
+	if err := f.keep(next, nil); err != nil {
+		return err
+	}
+	return f.judgePlaced(head)
+}
+
+// isOf reports whether a head is one of a tree.
+func isOf(head Head, tree Tree) bool { return head.TreeSize == tree.TreeSize && head.Root == tree.Root }
+
+// accuseHead accuses a log of a head that contradicts one that was known before.
 func (f *Follower) accuseHead(next State, head Head, found wagtenib.Judgement) error {
-	known := f.state.Accepted
-	if f.isWaiting() && (found.Known == f.state.Waiting.TreeHead || found.Verdict == wagtenib.VerdictShrunk &&
-		head.TreeSize >= known.TreeSize) {
-		known = f.state.Waiting
+	if found.Verdict == wagtenib.VerdictOtherRoot {
+		next.Waiting = Tree{}
+		files := map[string][]byte{FileHead: head.Signed}
+		if len(f.state.Accepted.Signed) > 0 {
+			files[FileFirst] = f.state.Accepted.Signed
+		}
+		return f.accuse(next, VerdictOtherRoot, fmt.Sprintf("the %d leaves that were read have the root %x, and the log "+
+			"signed %x", head.TreeSize, found.Root, head.Root), files)
 	}
-	files := map[string][]byte{FileHead: head.Signed}
-	if len(known.Signed) > 0 {
-		files[FileFirst] = known.Signed
+	if !found.Verdict.Accuses() {
+		return fmt.Errorf("watch: %s: the library has an unexpected verdict on a head: %v", f.log.Name, found.Verdict)
 	}
-	switch found.Verdict {
-	case wagtenib.VerdictForked:
-		return f.accuse(next, VerdictFork, fmt.Sprintf("the log signed two roots of %d leaves: %x and %x", head.TreeSize,
-			known.Root, head.Root), files)
-	case wagtenib.VerdictShrunk:
-		return f.accuse(next, VerdictShrunk, fmt.Sprintf("the log signed %d leaves at %d, and %d leaves at %d before",
-			head.TreeSize, head.Timestamp, known.TreeSize, known.Timestamp), files)
-	case wagtenib.VerdictNotLater:
-		return f.accuse(next, VerdictNotLater, fmt.Sprintf("the log signed %d leaves at %d, and %d leaves at %d, which is "+
-			"not earlier",
-			head.TreeSize, head.Timestamp, known.TreeSize, known.Timestamp), files)
-	case wagtenib.VerdictOtherRoot:
-		next.Waiting = Head{}
-		return f.accuse(next, VerdictOtherRoot,
-			fmt.Sprintf("the %d leaves that were read have the root %x, and the log signed %x", head.TreeSize, found.Root,
-				head.Root), files)
+	// The library names the head that is contradicted. Only the store of an earlier ctwatch may not have its bytes. Then
+	// another head of a known tree may contradict this one too.
+	var shown *Contradiction
+	for _, known := range []Head{f.state.Accepted.earliest(), f.state.Accepted.Head, f.state.Waiting.earliest(),
+		f.state.Waiting.Head} {
+		if len(known.Signed) == 0 {
+			continue
+		}
+		if one := Contradict(known, head); one != nil && (shown == nil || known.TreeHead == found.Known) {
+			shown = one
+		}
 	}
-	return fmt.Errorf("watch: %s: the library has an unexpected verdict on a head: %v", f.log.Name, found.Verdict)
+	if shown == nil {
+		return fmt.Errorf("watch: %s: the head of %d leaves contradicts one of %d leaves, which the store does not have as the "+
+			"log signed it", f.log.Name, head.TreeSize, found.Known.TreeSize)
+	}
+	return f.accuse(next, shown.Verdict, shown.Text, shown.Files)
 }
 
 // stateError returns the error for a failed call of the library with the state.

@@ -98,7 +98,7 @@ func FuzzLogAnswers(f *testing.F) {
 				states[kind] = k.states[id]
 			}
 			accepted := heads[kind]
-			accepted[size/after] = k.states[id].Accepted
+			accepted[size/after] = k.states[id].Accepted.Head
 			heads[kind] = accepted
 		}
 	}

@@ -44,6 +44,7 @@ func NewGroup(keeper Keeper, options Options) *Group {
 	if options.Client.Clock == nil {
 		options.Client.Clock = logclient.MachineClock{}
 	}
+	options.times = NewTimes(nil)
 	return &Group{keeper: keeper, options: options, running: map[LogID]*member{}}
 }
 
@@ -54,6 +55,7 @@ func NewGroup(keeper Keeper, options Options) *Group {
 func (g *Group) Follow(ctx context.Context, logs []Log) {
 	g.mutex.Lock()
 	defer g.mutex.Unlock()
+	g.options.times.setLogs(logs)
 	wanted := map[LogID]Log{}
 	for _, log := range logs {
 		wanted[log.ID] = log
@@ -146,7 +148,22 @@ func (g *Group) Wait() { g.ended.Wait() }
 // Once makes one pass over each of these logs, all at once, and returns the result of Follower.Pass for each: nil if
 // the log's newest head is accepted. It is for a program that a timer starts. The context ends the passes too.
 func (g *Group) Once(ctx context.Context, logs []Log) map[LogID]error {
+	g.options.times.setLogs(logs)
 	results := make(map[LogID]error, len(logs))
+	g.passes(ctx, logs, results)
+	// A log that the clock accuses is judged again, after all other logs were asked for their heads.
+	var unconfirmed []Log
+	for _, log := range logs {
+		if errors.Is(results[log.ID], errUnconfirmed) {
+			unconfirmed = append(unconfirmed, log)
+		}
+	}
+	g.passes(ctx, unconfirmed, results)
+	return results
+}
+
+// passes makes one pass over each of these logs, all at once, and stores the results.
+func (g *Group) passes(ctx context.Context, logs []Log, results map[LogID]error) {
 	var mutex sync.Mutex
 	var running sync.WaitGroup
 	seen := map[LogID]bool{}
@@ -170,5 +187,4 @@ func (g *Group) Once(ctx context.Context, logs []Log) map[LogID]error {
 		}()
 	}
 	running.Wait()
-	return results
 }

@@ -107,11 +107,7 @@ func (r *Reader) Root(ctx context.Context, head Head, size uint64) (wagtenib.Has
 	if !ok || size < 1 || size > head.TreeSize {
 		return wagtenib.Hash{}, ErrAbsent
 	}
-	root, err := tlog.TreeHash(int64(size), log.hashes(ctx, head.TreeHead))
-	if err != nil {
-		return wagtenib.Hash{}, fmt.Errorf("%w: %v", errDamaged, err)
-	}
-	return wagtenib.Hash(root), nil
+	return log.beginning(ctx, size, head.TreeHead)
 }
 
 // OpenHead reads a head of the log that was kept or seen elsewhere: a checkpoint, or an answer to get-sth. The error

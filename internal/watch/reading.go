@@ -5,6 +5,7 @@ import (
 	"encoding/json"
 	"errors"
 	"fmt"
+	"time"
 
 	"golang.org/x/mod/sumdb/tlog"
 
@@ -29,6 +30,7 @@ func (f *Follower) readWaiting(ctx context.Context) error {
 	if err := f.judgeProof(ctx); err != nil {
 		return err
 	}
+	before := f.state.Read
 	var pending batch
 	var batchErr error // of processBatch, and not of the source
 	flush := func() error {
@@ -56,19 +58,47 @@ func (f *Follower) readWaiting(ctx context.Context) error {
 	switch {
 	case batchErr != nil:
 		return batchErr
-	case err != nil:
-		return fmt.Errorf("watch: %s: %w", f.log.Name, err)
-	case f.isWaiting():
-		return fmt.Errorf("watch: %s: %w: the log gave %d entries, and its head has %d", f.log.Name, errDamaged,
-			f.state.Read, f.state.Waiting.TreeSize)
+	case err == nil && f.isWaiting():
+		err = fmt.Errorf("%w: the log gave %d entries, and its head has %d", errDamaged, f.state.Read,
+			f.state.Waiting.TreeSize)
 	}
-	return nil
+	if err == nil {
+		return nil
+	}
+	err = fmt.Errorf("watch: %s: %w", f.log.Name, err)
+	if ctx.Err() != nil || f.state.Read > before {
+		return err
+	}
+	return f.judgeWithheld(err)
+}
+
+// judgeWithheld accuses a log that has not handed out the next entry of the waiting head within its maximum merge delay,
+// since it was first asked for it and since it signed the head. Otherwise, it returns why the entry could not be read.
+// The first failure is stored, so that a restart does not begin a new delay.
+func (f *Follower) judgeWithheld(why error) error {
+	now, isKnown := f.options.times.Passed(f.log.ID, f.clock.Now())
+	if f.log.MaxMergeDelay <= 0 || !isKnown {
+		return why
+	}
+	now = now.Truncate(time.Second) // as in evidence
+	if f.state.Withheld.IsZero() {
+		next := *f.state
+		next.Withheld = now
+		return errors.Join(why, f.keep(next, nil))
+	}
+	head := f.state.Waiting.earliest()
+	if now.Sub(f.state.Withheld) <= f.log.MaxMergeDelay || now.Sub(timeOf(head.Timestamp)) <= f.log.MaxMergeDelay {
+		return why
+	}
+	text := fmt.Sprintf("the log signed a head of %d leaves at %s, and gave no entry from %d on since %s (%v)", head.TreeSize,
+		timeOf(head.Timestamp).UTC().Format(time.RFC3339), f.state.Read, f.state.Withheld.UTC().Format(time.RFC3339), why)
+	return f.accuse(*f.state, VerdictWithheld, text, map[string][]byte{FileHead: head.Signed})
 }
 
 // judgeProof judges a consistency proof from the accepted head to the waiting one. The proof shows a rewritten history
-// before the entries are read.
+// before the entries are read. A wrong proof accuses the log only if it shows such a history.
 func (f *Follower) judgeProof(ctx context.Context) error {
-	first, second := f.state.Accepted, f.state.Waiting
+	first, second := f.state.Accepted.Head, f.state.Waiting.Head
 	if first.TreeSize == 0 || f.state.Read != first.TreeSize || second.TreeSize-first.TreeSize < minProofEntries {
 		return nil
 	}
@@ -77,24 +107,21 @@ func (f *Follower) judgeProof(ctx context.Context) error {
 		// A log must not prevent the search of its entries by giving no proof. The entries decide without it.
 		return ctx.Err()
 	}
-	found, monitor, err := wagtenib.MonitorProof(f.state.Monitor, proof)
+	found, _, err := wagtenib.MonitorProof(f.state.Monitor, proof)
 	if err != nil {
 		return f.stateError(err)
 	}
 	if found.Verdict != wagtenib.VerdictInconsistent {
 		return nil
 	}
-	content, err := json.Marshal(Consistency{bytesOf(proof)})
-	if err != nil {
-		return err
+	shown := otherHistory(ctx, f.source, first, second, proof)
+	if shown == nil {
+		if shown, err = notProved(first, second, proof, found.Fault); err != nil {
+			return err
+		}
 	}
-	next := *f.state
-	next.Monitor = monitor
-	text := fmt.Sprintf("the log's proof does not lead from its head of %d leaves to its head of %d: %v", first.TreeSize,
-		second.TreeSize, found.Fault)
-	files := map[string][]byte{FileFirst: first.Signed, FileHead: second.Signed, FileProof: content}
 	var accused *AccusedError
-	if err := f.accuse(next, VerdictInconsistent, text, files); !errors.As(err, &accused) {
+	if err := f.accuse(*f.state, shown.Verdict, shown.Text, shown.Files); !errors.As(err, &accused) {
 		return err
 	}
 	// The entries decide. If the history was rewritten, their root differs too.
@@ -134,12 +161,12 @@ func (f *Follower) processBatch(ctx context.Context, b batch) error {
 	}
 	f.stage(b)
 	next := *f.state
-	next.Monitor, next.Read = monitor, found.Read
+	next.Monitor, next.Read, next.Withheld = monitor, found.Read, time.Time{}
 	switch found.Verdict {
 	case wagtenib.VerdictPending:
 		return f.keep(next, b.entries)
 	case wagtenib.VerdictAccepted:
-		next.Accepted, next.Waiting = f.state.Waiting, Head{}
+		next.Accepted, next.Waiting = f.state.Waiting, Tree{}
 		if err := f.keep(next, b.entries); err != nil {
 			return err
 		}
@@ -152,7 +179,7 @@ func (f *Follower) processBatch(ctx context.Context, b batch) error {
 		return err
 	}
 	f.comparesTiles = f.log.IsTiled()
-	next.Waiting = Head{}
+	next.Waiting = Tree{}
 	waiting := f.state.Waiting
 	text := fmt.Sprintf("the %d leaves that were read have the root %x, and the log signed %x", waiting.TreeSize,
 		found.Root, waiting.Root)
@@ -213,10 +240,13 @@ func (f *Follower) firstLate(b batch) (index uint64, ok bool) {
 // accuseEntry accuses the log of an entry. The evidence has the entry's audit path if the log gives one that leads to
 // the waiting head. The state stays the same. It returns nil after it has accused the log, so that reading continues.
 func (f *Follower) accuseEntry(ctx context.Context, b batch, index uint64, verdict, text string) error {
-	if f.accused.count[verdict] >= maxAccusations {
+	if f.memory.count[verdict] >= maxAccusations {
 		return nil
 	}
-	leaf, head := b.entries[index-b.start].Leaf, f.state.Waiting
+	leaf, head := b.entries[index-b.start].Leaf, f.state.Waiting.Head
+	if verdict == VerdictLaterEntry {
+		head = f.state.Waiting.earliest()
+	}
 	files := map[string][]byte{FileHead: head.Signed, FileLeaf: leaf}
 	if verdict == VerdictLateMerge {
 		files[FileFirst] = f.state.Accepted.Signed

@@ -55,6 +55,9 @@ type source interface {
 	consistency(ctx context.Context, first, second uint64) ([]wagtenib.Hash, error)
 	// subtrees returns the roots of the perfect subtrees of a head's tree, the largest first.
 	subtrees(ctx context.Context, head wagtenib.TreeHead) ([]wagtenib.Hash, error)
+	// beginning returns the root of the first leaves, at least one, of a tree of this head. The caller must check it by a
+	// consistency proof.
+	beginning(ctx context.Context, size uint64, head wagtenib.TreeHead) (wagtenib.Hash, error)
 	// inclusion returns the audit path of a leaf.
 	inclusion(ctx context.Context, index, size uint64, leafHash wagtenib.Hash) ([]wagtenib.Hash, error)
 }
@@ -175,6 +178,15 @@ func (c *calls) subtrees(ctx context.Context, head wagtenib.TreeHead) ([]wagteni
 			"grown)", errDamaged, index, last)
 	}
 	return wagtenib.LastSubtrees(root, head.TreeSize, path)
+}
+
+// beginning returns the root by the last leaf and its audit path.
+func (c *calls) beginning(ctx context.Context, size uint64, _ wagtenib.TreeHead) (wagtenib.Hash, error) {
+	subtrees, err := c.subtrees(ctx, wagtenib.TreeHead{TreeSize: size})
+	if err != nil {
+		return wagtenib.Hash{}, err
+	}
+	return wagtenib.SubtreesRoot(subtrees), nil
 }
 
 func (c *calls) inclusion(ctx context.Context, index, size uint64, leafHash wagtenib.Hash) ([]wagtenib.Hash, error) {

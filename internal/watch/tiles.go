@@ -153,6 +153,15 @@ func (t *tiles) inclusion(ctx context.Context, index, size uint64, _ wagtenib.Ha
 	return wagtenib.PathOfTiles(index, size, contents)
 }
 
+// beginning returns the root by hash tiles that lead to the root of the head.
+func (t *tiles) beginning(ctx context.Context, size uint64, head wagtenib.TreeHead) (wagtenib.Hash, error) {
+	root, err := tlog.TreeHash(int64(size), t.hashes(ctx, head))
+	if err != nil {
+		return wagtenib.Hash{}, fmt.Errorf("%w: %v", errDamaged, err)
+	}
+	return wagtenib.Hash(root), nil
+}
+
 // subtrees returns the roots in the audit path of the last leaf. They are not checked: wagtenib.MonitorStart compares
 // them with the head's root.
 func (t *tiles) subtrees(ctx context.Context, head wagtenib.TreeHead) ([]wagtenib.Hash, error) {

@@ -35,6 +35,45 @@ type Head struct {
 	Signed []byte // the signed note of a tiled log, or the JSON answer of get-sth, as received
 }
 
+// Tree holds the signed heads of one tree, which has one size and one root.
+type Tree struct {
+	Head          // the newest that was seen
+	Earliest Head // the earliest that was seen; it has no bytes in the store of an earlier ctwatch
+}
+
+// newTree returns a tree of which one head was seen.
+func newTree(head Head) Tree { return Tree{head, head} }
+
+// earliest returns the earliest head of the tree.
+func (t Tree) earliest() Head {
+	if len(t.Earliest.Signed) == 0 {
+		return t.Head
+	}
+	return t.Earliest
+}
+
+// with returns the tree after one more of its heads was seen.
+func (t Tree) with(head Head) Tree {
+	if t.Earliest = t.earliest(); head.Timestamp < t.Earliest.Timestamp {
+		t.Earliest = head
+	}
+	if head.Timestamp > t.Timestamp {
+		t.Head = head
+	}
+	return t
+}
+
+// isSame reports whether two trees have the same heads.
+func (t Tree) isSame(other Tree) bool {
+	return t.TreeHead == other.TreeHead && t.Earliest.TreeHead == other.Earliest.TreeHead
+}
+
+// Unplaced is a signed head that the log did not show to be consistent with the known trees.
+type Unplaced struct {
+	Head
+	Since time.Time // when it was first seen
+}
+
 // Entry is an entry of a log.
 type Entry struct {
 	Index          uint64
@@ -51,11 +90,14 @@ type Entry struct {
 // State describes how far a log was read and judged. It is stored together with what was found in the entries up to it,
 // so that a monitor that is killed continues there.
 type State struct {
-	Monitor  []byte // the state of the library's monitor
-	Accepted Head   // the newest head whose leaves were all read and have its root
-	Waiting  Head   // the head whose entries are being read
-	Read     uint64 // the index of the entry that is read next
-	Start    uint64 // the index at which reading began: 0, or the size of the log when the log was added
+	Monitor  []byte     // the state of the library's monitor
+	Accepted Tree       // the newest tree whose leaves were all read and have its root
+	Waiting  Tree       // the tree whose entries are being read
+	Unplaced []Unplaced // the oldest first
+	Read     uint64     // the index of the entry that is read next
+	Start    uint64     // the index at which reading began: 0, or the size of the log when the log was added
+	// Withheld is when the log first failed to hand out the next entry of the waiting head. It is zero after an entry.
+	Withheld time.Time
 }
 
 // Evidence shows that a log did something wrong. Others can check it without this monitor.

@@ -23,6 +23,7 @@ const (
 	Found    Kind = "found"    // a certificate has a watched name
 	Unread   Kind = "unread"   // the names of a certificate cannot be read
 	Evidence Kind = "evidence" // a log did something wrong, and the evidence is stored
+	Unproved Kind = "unproved" // a log did not prove that a signed head belongs to its history, which is no accusation
 	Silent   Kind = "silent"   // a log, or the log list, could not be read for too long
 )
 
@@ -33,7 +34,7 @@ type Alert struct {
 	Time        time.Time    `json:"time"`            // when it was found
 	Again       bool         `json:"again,omitempty"` // it may have been sent before
 	Certificate *Certificate `json:"certificate,omitempty"`
-	Log         *Log         `json:"log,omitempty"` // only set for the kinds evidence and silent
+	Log         *Log         `json:"log,omitempty"` // only set for the kinds evidence, unproved and silent
 }
 
 // Certificate is an issuance: a certificate, or its precertificate, in any number of logs.
@@ -77,7 +78,7 @@ type Sighting struct {
 	Type      string    `json:"type"` // certificate or precertificate
 }
 
-// Log describes a log that did something wrong or does not answer, or the log list.
+// Log describes a log that did something wrong, gave no proof or does not answer, or the log list.
 type Log struct {
 	Name    string `json:"name"`
 	URL     string `json:"url"`

@@ -10,6 +10,7 @@ import (
 	"mime"
 	"mime/quotedprintable"
 	"net/mail"
+	"os"
 	"os/exec"
 	"strings"
 	"time"
@@ -134,8 +135,19 @@ func bySendmail(path string) func(context.Context, string, []string, []byte) err
 		stderr := &bounded{left: maxStderr}
 		command.Stderr, command.WaitDelay = stderr, waitDelay
 		if err := command.Run(); err != nil {
-			return fmt.Errorf("%s: %w: %s", path, err, Safe(stderr.text.String()))
+			return fmt.Errorf("%s: %w: %s%s", path, err, Safe(stderr.text.String()), sandboxHint())
 		}
 		return nil
 	}
+}
+
+// sandboxHint returns a text for the failure of a sendmail that may need another group or user, which the process must
+// not take (NoNewPrivileges). It returns "" if the process may.
+func sandboxHint() string {
+	status, err := os.ReadFile("/proc/self/status")
+	if err != nil || !bytes.Contains(status, []byte("\nNoNewPrivs:\t1\n")) {
+		return ""
+	}
+	return " (the sandbox keeps sendmail from its group or user: write sendmail smtp://HOST:25, or add the drop-in of " +
+		"docs/WATCH.md)"
 }

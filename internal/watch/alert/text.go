@@ -24,6 +24,8 @@ func Line(a Alert) string {
 			a.Certificate.Fault, Describe(a.Certificate))
 	case Evidence:
 		return fmt.Sprintf("LOG%s %s: %s: %s; %s", again, a.Log.Name, a.Log.Verdict, a.Log.Text, a.Log.Kept)
+	case Unproved:
+		return fmt.Sprintf("UNPROVED%s %s: %s; %s", again, a.Log.Name, a.Log.Text, a.Log.Kept)
 	}
 	return fmt.Sprintf("SILENT%s %s: %s", again, a.Log.Name, a.Log.Text)
 }

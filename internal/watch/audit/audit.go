@@ -4,7 +4,6 @@ import (
 	"context"
 	"crypto/sha256"
 	"crypto/x509"
-	"encoding/json"
 	"errors"
 	"fmt"
 	"sync"
@@ -27,12 +26,16 @@ const (
 	UnknownLog                // none of the given logs has this key
 	NoAnswer                  // the log gives no answer, or a wrong one
 	Unreadable                // the certificate or the timestamp cannot be read
+	Overdue                   // the deadline is over, and the newest head, which is too old, was signed before it
+	Future                    // the timestamp is later than the time at which it was seen
+	LaterEntry                // the log has the leaf, which is later than the head that covers it
 	Never                     // the log broke its promise, or did not sign it
 )
 
 // String returns the name of an outcome.
 func (o Outcome) String() string {
-	return [...]string{"included", "not yet", "unknown log", "no answer", "unreadable", "never"}[o]
+	return [...]string{"included", "not yet", "unknown log", "no answer", "unreadable", "overdue", "future", "later entry",
+		"never"}[o]
 }
 
 // Result holds the outcome of the audit of one timestamp.
@@ -48,13 +51,15 @@ type Result struct {
 
 // Auditor audits the timestamps of logs.
 type Auditor struct {
-	logs    map[watch.LogID]watch.Log
-	options logclient.Options
+	logs      map[watch.LogID]watch.Log
+	options   logclient.Options
+	times     *watch.Times
+	readTimes sync.Once // reads the newest heads of all logs
 }
 
 // New returns an auditor of these logs.
 func New(logs []watch.Log, options logclient.Options) *Auditor {
-	a := &Auditor{map[watch.LogID]watch.Log{}, options}
+	a := &Auditor{logs: map[watch.LogID]watch.Log{}, options: options, times: watch.NewTimes(logs)}
 	for _, log := range logs {
 		a.logs[log.ID] = log
 	}
@@ -158,84 +163,19 @@ func (a *Auditor) one(ctx context.Context, sct SCT, leafOf func(SCT) ([]byte, er
 		return finish(NoAnswer, "%v", err)
 	}
 	result.TreeSize = head.TreeSize
-	found := promise{reader, sct, leaf, head}
-	outcome, index, text, files := found.judge(ctx)
-	result.Index = index
-	if files != nil {
-		evidence, err := watch.NewEvidence(result.Log, a.options.Clock.Now(), watch.VerdictPromise, text, files)
+	a.times.Add(result.Log.ID, head.Timestamp)
+	found := promise{reader: reader, sct: sct, leaf: leaf, head: head}
+	judged := found.judge(ctx)
+	if judged.outcome == Included || judged.outcome == NotYet {
+		judged = a.judgeTime(ctx, found, judged)
+	}
+	result.Index = judged.index
+	if judged.files != nil {
+		evidence, err := watch.NewEvidence(result.Log, a.options.Clock.Now(), judged.verdict, judged.text, judged.files)
 		if err != nil {
 			return finish(NoAnswer, "%v", err)
 		}
 		result.Evidence = &evidence
 	}
-	return finish(outcome, "%s", text)
-}
-
-// promise holds a timestamp that a log signed, the leaf that it promises, and the log's newest head.
-type promise struct {
-	reader *watch.Reader
-	sct    SCT
-	leaf   []byte
-	head   watch.Head
-}
-
-// judge decides whether the log keeps its promise. If it does not, and this can be shown to others, it returns the
-// files of evidence.
-func (p promise) judge(ctx context.Context) (outcome Outcome, index uint64, text string, files map[string][]byte) {
-	named, isNamed := p.sct.Index()
-	if p.reader.Log.IsTiled() && !isNamed {
-		return Never, 0, "the timestamp of a tiled log names no index (leaf_index)", nil
-	}
-	hash := wagtenib.LeafHash(p.leaf)
-	index, path, err := p.reader.FindLeaf(ctx, p.head, hash, named)
-	switch {
-	case errors.Is(err, watch.ErrAbsent):
-		delay := uint64(p.reader.Log.MaxMergeDelay.Milliseconds())
-		if p.head.Timestamp <= p.sct.Timestamp || p.head.Timestamp-p.sct.Timestamp <= delay {
-			return NotYet, 0, fmt.Sprintf("the leaf is not among %d", p.head.TreeSize), nil
-		}
-		text := fmt.Sprintf("the leaf is not among the %d of the head of %d, past the maximum merge delay of %v",
-			p.head.TreeSize, p.head.Timestamp, p.reader.Log.MaxMergeDelay)
-		return Never, 0, text, p.files()
-	case err != nil:
-		return NoAnswer, 0, err.Error(), nil
-	}
-	if err := wagtenib.VerifyInclusion(hash, index, p.head.TreeSize, path, p.head.Root); err != nil {
-		return p.judgeOther(ctx, index, err)
-	}
-	if isNamed && index != named {
-		return Never, index, fmt.Sprintf("the leaf is at %d, and the timestamp names %d", index, named), nil
-	}
-	return Included, index, fmt.Sprintf("the leaf is at %d of %d", index, p.head.TreeSize), nil
-}
-
-// judgeOther judges a promise after the log's path did not lead from the leaf to the root. For a tiled log, its files
-// show that another leaf is at the index.
-func (p promise) judgeOther(ctx context.Context, index uint64, why error) (Outcome, uint64, string, map[string][]byte) {
-	text := fmt.Sprintf("the log's path does not lead from the leaf at %d to the root of %d: %v", index, p.head.TreeSize,
-		why)
-	if !p.reader.Log.IsTiled() {
-		return Never, index, text, nil
-	}
-	other, err := p.reader.LeafHash(ctx, p.head, index)
-	if err != nil {
-		return NoAnswer, index, err.Error(), nil
-	}
-	_, path, err := p.reader.FindLeaf(ctx, p.head, other, index)
-	if err != nil {
-		return NoAnswer, index, err.Error(), nil
-	}
-	proof := watch.Inclusion{LeafIndex: index, TreeSize: p.head.TreeSize, LeafHash: other[:]}
-	for i := range path {
-		proof.AuditPath = append(proof.AuditPath, path[i][:])
-	}
-	files := p.files()
-	if files[watch.FileProof], err = json.Marshal(proof); err != nil {
-		return NoAnswer, index, err.Error(), nil
-	}
-	return Never, index, fmt.Sprintf("another leaf is at %d of %d", index, p.head.TreeSize), files
-}
-
-func (p promise) files() map[string][]byte {
-	return map[string][]byte{watch.FileLeaf: p.leaf, watch.FileSCT: p.sct.Raw, watch.FileHead: p.head.Signed}
+	return finish(judged.outcome, "%s", judged.text)
 }

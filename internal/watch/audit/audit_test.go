@@ -134,8 +134,20 @@ func serve(t testing.TB, log *testlog.Log, kind string) watch.Log {
 	return watched
 }
 
-// quick holds client options with one attempt, so that a test does not wait for a log that fails.
-var quick = logclient.Options{Limits: logclient.Limits{Attempts: 1}}
+// quick holds client options with one attempt, so that a test does not wait for a log that fails. Its clock says epoch.
+var quick = quickAt(epoch)
+
+// quickAt returns client options with one attempt and a clock that says this time, in milliseconds.
+func quickAt(now int64) logclient.Options {
+	return logclient.Options{Limits: logclient.Limits{Attempts: 1}, Clock: clock(now)}
+}
+
+// clock is a clock that stands still. Nothing in these tests waits.
+type clock int64
+
+func (c clock) Now() time.Time { return time.UnixMilli(int64(c)) }
+
+func (clock) Wait(ctx context.Context, _ time.Duration) error { return ctx.Err() }
 
 // checkEvidence checks that the independent judge confirms evidence, and refuses it without the head.
 func checkEvidence(t *testing.T, evidence *watch.Evidence, key []byte) {
@@ -153,11 +165,21 @@ func checkEvidence(t *testing.T, evidence *watch.Evidence, key []byte) {
 	if _, err := logcheck.Evidence(folder, key); err != nil {
 		t.Error(err)
 	}
-	if err := os.Remove(filepath.Join(folder, watch.FileHead)); err != nil {
-		t.Fatal(err)
-	}
-	if _, err := logcheck.Evidence(folder, key); !errors.Is(err, logcheck.ErrEvidence) {
-		t.Errorf("without the head the judge says %v", err)
+	// Without any of its files it shows nothing. Only a broken promise is shown without an audit path too.
+	for name, content := range evidence.Files {
+		if name == watch.FileAbout || name == watch.FileProof && evidence.Verdict == watch.VerdictPromise {
+			continue
+		}
+		path := filepath.Join(folder, name)
+		if err := os.Remove(path); err != nil {
+			t.Fatal(err)
+		}
+		if _, err := logcheck.Evidence(folder, key); !errors.Is(err, logcheck.ErrEvidence) {
+			t.Errorf("without %s the judge says %v", name, err)
+		}
+		if err := os.WriteFile(path, content, 0o600); err != nil {
+			t.Fatal(err)
+		}
 	}
 }
 

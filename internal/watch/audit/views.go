@@ -2,14 +2,13 @@ package audit
 
 import (
 	"context"
-	"encoding/json"
 	"fmt"
 	"io"
 	"os"
 	"path/filepath"
 	"strings"
+	"time"
 
-	"wagtenib/bindings/go/wagtenib"
 	"wagtenib/internal/logclient"
 	"wagtenib/internal/watch"
 )
@@ -24,7 +23,7 @@ const (
 type View struct {
 	Head     watch.Head
 	Where    string // the file or address of the head
-	Err      error  // why the head cannot be compared, or shows a fault of the log; nil if both are consistent
+	Err      error  // why the head cannot be compared, or is not consistent with the log's; nil if both are consistent
 	Evidence *watch.Evidence
 }
 
@@ -89,8 +88,8 @@ func readFile(name string) ([]byte, error) {
 }
 
 // CompareViews compares a head of a log, which was accepted or which the log just returned, with the heads that others
-// saw, by their files or addresses. The view of a head that the log's key did not sign has an error. Two roots of one
-// size, and a proof of the log that does not lead from one head to the other, are evidence.
+// saw, by their files or addresses. The view of a head that the log's key did not sign has an error. Two heads that
+// contradict each other are evidence. So are heads between which the log gives no proof, which accuses nobody.
 func CompareViews(ctx context.Context, reader *watch.Reader, mine watch.Head, seen map[string][][]byte,
 	options logclient.Options) (views []View) {
 	clock := options.Clock
@@ -101,15 +100,7 @@ func CompareViews(ctx context.Context, reader *watch.Reader, mine watch.Head, se
 		for _, signed := range heads {
 			view := View{Where: where}
 			if view.Head, view.Err = reader.OpenHead(signed); view.Err == nil {
-				var text string
-				var files map[string][]byte
-				if text, files, view.Err = compare(ctx, reader, mine, view.Head); files != nil {
-					evidence, err := watch.NewEvidence(reader.Log, clock.Now(), watch.VerdictTwoViews, text, files)
-					if view.Err = err; err == nil {
-						view.Evidence = &evidence
-						view.Err = &watch.AccusedError{Verdict: watch.VerdictTwoViews, Text: text}
-					}
-				}
+				view.compare(ctx, reader, mine, clock.Now())
 			}
 			views = append(views, view)
 		}
@@ -117,37 +108,15 @@ func CompareViews(ctx context.Context, reader *watch.Reader, mine watch.Head, se
 	return views
 }
 
-// compare compares two heads of a log. If they do not belong to one history, it returns the files of evidence.
-func compare(ctx context.Context, reader *watch.Reader, a, b watch.Head) (text string, files map[string][]byte,
-	err error) {
-	if a.TreeSize > b.TreeSize {
-		a, b = b, a
+// compare compares the head of a view with another one of its log.
+func (v *View) compare(ctx context.Context, reader *watch.Reader, mine watch.Head, now time.Time) {
+	found, err := reader.Compare(ctx, mine, v.Head)
+	if v.Err = err; found == nil {
+		return
 	}
-	files = map[string][]byte{watch.FileFirst: a.Signed, watch.FileHead: b.Signed}
-	if a.TreeSize == b.TreeSize {
-		if a.Root == b.Root {
-			return "", nil, nil
-		}
-		return fmt.Sprintf("the log signed two roots of %d leaves: %x and %x", a.TreeSize, a.Root, b.Root), files, nil
+	evidence, err := watch.NewEvidence(reader.Log, now, found.Verdict, found.Text, found.Files)
+	if v.Err = err; err == nil {
+		v.Evidence = &evidence
+		v.Err = &watch.AccusedError{Verdict: found.Verdict, Text: found.Text}
 	}
-	if a.TreeSize == 0 {
-		return "", nil, nil // Every tree begins with the empty one.
-	}
-	proof, err := reader.Consistency(ctx, a.TreeSize, b.TreeSize)
-	if err != nil {
-		return "", nil, err
-	}
-	fault := wagtenib.VerifyConsistency(a.TreeSize, b.TreeSize, a.Root, b.Root, proof)
-	if fault == nil {
-		return "", nil, nil
-	}
-	answer := watch.Consistency{Consistency: [][]byte{}}
-	for i := range proof {
-		answer.Consistency = append(answer.Consistency, proof[i][:])
-	}
-	if files[watch.FileProof], err = json.Marshal(answer); err != nil {
-		return "", nil, err
-	}
-	return fmt.Sprintf("the log's proof does not lead from its head of %d leaves to its head of %d: %v", a.TreeSize,
-		b.TreeSize, fault), files, nil
 }

@@ -336,3 +336,59 @@ func addCheckpoint(t *testing.T, w http.ResponseWriter, r *http.Request, last ui
 	}
 	fmt.Fprint(w, signer.line(note))
 }
+
+// Two heads are compared in both directions. The evidence shows a contradiction to others. A refusal is none.
+func TestComparesBothDirections(t *testing.T) {
+	for _, kind := range kinds {
+		log := newLog(t, others(500), epoch+500)
+		watched := serve(t, log, kind)
+		reader, err := watch.NewReader(watched, quick)
+		if err != nil {
+			t.Fatal(err)
+		}
+		mine, err := reader.Head(context.Background())
+		if err != nil {
+			t.Fatal(err)
+		}
+		forked := log.Fork(300)
+		forked.Add(others(50)...)
+		for what, test := range map[string]struct {
+			seen    *testlog.Log
+			size    uint64
+			at      uint64
+			root    []byte
+			verdict string
+		}{
+			"smaller and earlier":       {log.Fork(300), 300, epoch + 300, nil, ""},
+			"the same, signed again":    {log.Fork(500), 500, epoch + 900, nil, ""},
+			"smaller and later":         {log.Fork(300), 300, epoch + 501, nil, watch.VerdictShrunk},
+			"smaller at the same time":  {log.Fork(300), 300, epoch + 500, nil, watch.VerdictShrunk},
+			"larger and earlier":        {forked, 510, epoch + 400, []byte{1}, watch.VerdictNotLater},
+			"another root":              {log.Fork(500), 500, epoch + 1, []byte{1}, watch.VerdictFork},
+			"a fork that lags":          {forked, 350, epoch + 350, nil, watch.VerdictOtherHistory},
+			"another root that lags":    {log.Fork(256), 256, epoch + 256, []byte{1}, watch.VerdictOtherHistory},
+			"the empty tree":            {log.Fork(0), 0, epoch, nil, ""},
+			"no leaves, another root":   {log.Fork(0), 0, epoch, []byte{1}, watch.VerdictOtherHistory},
+			"no leaves, and later":      {log.Fork(0), 0, epoch + 501, nil, watch.VerdictShrunk},
+			"larger than the log shows": {forked, 600, epoch + 900, []byte{1}, watch.VerdictNotProved},
+		} {
+			if test.root == nil {
+				test.seen.Publish(test.size, test.at)
+			} else {
+				test.seen.PublishRoot(test.size, test.at, [32]byte(append(test.root, make([]byte, 31)...)))
+			}
+			seen := map[string][][]byte{what: {head(t, test.seen, kind)()}}
+			views := audit.CompareViews(context.Background(), reader, mine, seen, quick)
+			if len(views) != 1 || (views[0].Evidence != nil) != (test.verdict != "") {
+				t.Errorf("%s %s: %+v", kind, what, views)
+				continue
+			}
+			if view := views[0]; test.verdict == "" && view.Err != nil || test.verdict != "" &&
+				view.Evidence.Verdict != test.verdict {
+				t.Errorf("%s %s: %v, and %q is expected", kind, what, view.Err, test.verdict)
+			} else if test.verdict != "" {
+				checkEvidence(t, view.Evidence, log.PublicKey())
+			}
+		}
+	}
+}

@@ -14,8 +14,12 @@ import (
 	"wagtenib/bindings/go/wagtenib"
 )
 
-// anyLabel replaces a label that cannot be read, and matches any label. Some CAs once hid labels in this way.
+// anyLabel is a label of a certificate that matches any label. Some CAs once hid labels in this way.
 const anyLabel = "?"
+
+// noLabel replaces a label whose letters have no form in DNS. It matches no label: DNS cannot have such a name. The
+// letters of UTF-8, read as Latin-1, often are such a label.
+const noLabel = "\ufffd"
 
 // maxReading is the maximum number of bytes of a name for which readings are made. A longer name is not a host, and its
 // readings could take long.
@@ -135,7 +139,7 @@ func beforeAny(text, characters string) string {
 	return text
 }
 
-// normal returns a host in lower case and in the form of DNS. A label without such a form becomes anyLabel.
+// normal returns a host in lower case and in the form of DNS. A label without such a form becomes noLabel.
 func normal(host string) string {
 	labels := strings.Split(strings.TrimSuffix(strings.ToLower(host), "."), ".")
 	for i, label := range labels {
@@ -145,7 +149,7 @@ func normal(host string) string {
 		if mapped, err := toUnicode.ToASCII(label); err == nil {
 			labels[i] = mapped
 		} else {
-			labels[i] = anyLabel
+			labels[i] = noLabel
 		}
 	}
 	return strings.Join(labels, ".")

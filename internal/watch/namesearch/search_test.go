@@ -401,3 +401,36 @@ func FuzzSearch(f *testing.F) {
 		}
 	})
 }
+
+// TestDecomposedLettersAreOneName: a name in decomposed letters is found as the watched name with these letters, and as
+// no other one. Its bytes, read as Latin-1, are no name of DNS.
+func TestDecomposedLettersAreOneName(t *testing.T) {
+	authority := testcert.NewAuthority(t)
+	watched := parseAll(t, "straße.example", "bücher.example", "=a.bücher.example", "=example.org")
+	const decomposed = "bu\u0308cher.example"
+	for what, test := range map[string]struct {
+		name  string
+		found []namesearch.Name
+	}{
+		"decomposed":                     {decomposed, watched[1:2]},
+		"capitals":                       {strings.ToUpper(decomposed), watched[1:2]},
+		"below":                          {"a." + decomposed, watched[1:3]},
+		"letters that no name has":       {"\u0308\u0308.example", nil},
+		"a label below that no name has": {"\u0308\u0308.bu\u0308cher.example", watched[1:2]},
+		"bytes that are no letters":      {"b\x81\x82.example", nil},
+		"a label that is hidden":         {"?.example", watched[:2]},
+	} {
+		one := authority.IssueNames(pkix.Name{}, dns(test.name)...)
+		result, err := namesearch.NewSearcher(watched).Search(wagtenib.X509Entry, one.Certificate.Raw)
+		if err != nil {
+			t.Fatal(err)
+		}
+		var found []namesearch.Name
+		for _, match := range result.Matches {
+			found = append(found, match.Name)
+		}
+		if !slices.Equal(found, test.found) {
+			t.Errorf("%s: %q is found as %q, and %q is expected", what, test.name, found, test.found)
+		}
+	}
+}

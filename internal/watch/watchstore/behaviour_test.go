@@ -7,6 +7,7 @@ import (
 	"encoding/hex"
 	"errors"
 	"fmt"
+	"reflect"
 	"slices"
 	"strings"
 	"testing"
@@ -185,7 +186,8 @@ func TestKeepsStatesAndHeads(t *testing.T) {
 	for i := range uint64(1005) {
 		head := watch.Head{TreeHead: wagtenib.TreeHead{TreeSize: i, Timestamp: 1000 + i, Root: [32]byte{byte(i)}},
 			Signed: fmt.Append(nil, "signed ", i)}
-		state = watch.State{Monitor: fmt.Append(nil, "monitor ", i), Accepted: head, Waiting: head, Read: 1<<63 + i,
+		state = watch.State{Monitor: fmt.Append(nil, "monitor ", i), Accepted: watch.Tree{Head: head, Earliest: head},
+			Waiting: watch.Tree{Head: head}, Unplaced: []watch.Unplaced{{Head: head, Since: time.Unix(7, 0).UTC()}}, Withheld: time.UnixMilli(int64(i)).UTC(), Read: 1<<63 + i,
 			Start: i}
 		must(t, store.Keep(logOf(0), state, nil))
 	}
@@ -194,7 +196,8 @@ func TestKeepsStatesAndHeads(t *testing.T) {
 	got, err := store.Load(logOf(0).ID)
 	if err != nil || !bytes.Equal(got.Monitor, state.Monitor) || got.Read != state.Read ||
 		got.Start != state.Start || got.Accepted.TreeHead != state.Accepted.TreeHead ||
-		!bytes.Equal(got.Waiting.Signed, state.Waiting.Signed) {
+		!reflect.DeepEqual(got.Waiting, state.Waiting) || !reflect.DeepEqual(got.Unplaced, state.Unplaced) ||
+		!reflect.DeepEqual(got.Accepted, state.Accepted) || !got.Withheld.Equal(state.Withheld) {
 		t.Errorf("%+v, and not %+v: %v", got, state, err)
 	}
 	heads, err := store.Heads(logOf(0).ID, 2000)

@@ -13,6 +13,7 @@ type Health struct {
 	Logs     int       // the number of watched logs
 	Silent   []string  // the names of the logs of which nothing could be read for too long
 	Evidence int64     // the number of pieces of evidence against logs that nobody has looked at
+	Unproved int64     // the number of signed heads without a proof that nobody has looked at
 	Waiting  int64     // the number of unsent alerts of outputs whose last sending failed
 	Outputs  []string  // the names of those outputs
 	Reported time.Time // the time of the newest status of a log
@@ -56,7 +57,7 @@ func (s *Store) Health(silentAfter time.Duration) (Health, error) {
 	if err != nil {
 		return h, err
 	}
-	h.Evidence = counts.NewEvidence
+	h.Evidence, h.Unproved = counts.NewEvidence, counts.NewUnproved
 	list, err := s.List()
 	if list.Fault != "" {
 		h.setList(list)
@@ -95,6 +96,9 @@ func (h Health) String() string {
 	}
 	if h.Evidence > 0 {
 		parts = append(parts, fmt.Sprintf("%d EVIDENCE against logs", h.Evidence))
+	}
+	if h.Unproved > 0 {
+		parts = append(parts, fmt.Sprintf("%s UNPROVED", alert.Count(h.Unproved, "head")))
 	}
 	if len(h.Outputs) > 0 {
 		parts = append(parts, fmt.Sprintf("%s NOT SENT: %s", alert.Count(h.Waiting, "alert"), strings.Join(h.Outputs, ", ")))

@@ -14,9 +14,18 @@ import (
 // maxHeads is the maximum number of accepted heads that are stored of a log. The oldest are deleted.
 const maxHeads = 1000
 
+// waitingText is the text of the waiting tree in JSON, with what belongs to the state of a log and has no column. The
+// text of an earlier ctwatch has only the head.
+type waitingText struct {
+	watch.Tree
+	Withheld time.Time
+	Unplaced []watch.Unplaced
+}
+
 // Load returns the stored state of a log. It is the zero State if there is none.
 func (s *Store) Load(id watch.LogID) (watch.State, error) {
 	var state watch.State
+	var text waitingText
 	var accepted, waiting string
 	var read, start int64
 	row := s.db.QueryRow("select monitor, accepted, waiting, read, start from states where log = ?", id[:])
@@ -29,9 +38,10 @@ func (s *Store) Load(id watch.LogID) (watch.State, error) {
 	}
 	state.Read, state.Start = uint64(read), uint64(start)
 	if err := errors.Join(json.Unmarshal([]byte(accepted), &state.Accepted), json.Unmarshal([]byte(waiting),
-		&state.Waiting)); err != nil {
+		&text)); err != nil {
 		return watch.State{}, s.describe(fmt.Errorf("%w: the state of log %x: %w", ErrDamaged, id, err))
 	}
+	state.Waiting, state.Withheld, state.Unplaced = text.Tree, text.Withheld, text.Unplaced
 	return state, nil
 }
 
@@ -85,7 +95,11 @@ func (s *Store) Accuse(log watch.Log, next watch.State, evidence watch.Evidence)
 				return err
 			}
 		}
-		return s.addAlert(w, alert.Evidence, nil, id, log.ID[:], "")
+		kind := alert.Evidence
+		if evidence.Verdict == watch.VerdictNotProved {
+			kind = alert.Unproved
+		}
+		return s.addAlert(w, kind, nil, id, log.ID[:], "")
 	})
 }
 
@@ -129,7 +143,7 @@ func (s *Store) keepState(w *writer, log watch.Log, next watch.State) error {
 	if err != nil {
 		return err
 	}
-	waiting, err := json.Marshal(next.Waiting)
+	waiting, err := json.Marshal(waitingText{next.Waiting, next.Withheld, next.Unplaced})
 	if err != nil {
 		return err
 	}

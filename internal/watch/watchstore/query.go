@@ -174,15 +174,18 @@ func (s *Store) Timeline(limit int) ([]Day, error) {
 type Counts struct {
 	Issuances, Unread, Alerts, Evidence int64
 	NewEvidence                         int64 // evidence that nobody has looked at
+	NewUnproved                         int64 // heads without a proof that nobody has looked at; they are no evidence
 }
 
-// Counts returns the numbers of issuances, of issuances with unreadable names, of alerts and of pieces of evidence.
+// Counts returns the numbers of issuances, of issuances with unreadable names, of alerts, of pieces of evidence, and of
+// heads without a proof.
 func (s *Store) Counts() (Counts, error) {
 	var c Counts
 	err := s.db.QueryRow(`select (select count(*) from issuances), (select count(*) from issuances where fault != ''),
-		(select count(*) from alerts), (select count(*) from evidence),
-		(select count(*) from evidence where not is_seen)`).
-		Scan(&c.Issuances, &c.Unread, &c.Alerts, &c.Evidence, &c.NewEvidence)
+		(select count(*) from alerts), (select count(*) from evidence where verdict <> ?1),
+		(select count(*) from evidence where not is_seen and verdict <> ?1),
+		(select count(*) from evidence where not is_seen and verdict = ?1)`, watch.VerdictNotProved).
+		Scan(&c.Issuances, &c.Unread, &c.Alerts, &c.Evidence, &c.NewEvidence, &c.NewUnproved)
 	if err != nil {
 		return c, s.describe(err)
 	}
