@@ -647,8 +647,8 @@ uint32_t wagtenib_monitor_begin(uint8_t *out, size_t room, uint64_t *length);
 uint32_t wagtenib_monitor_start(const struct wagtenib_head *head, const uint8_t *subtrees, size_t count, uint8_t *out, size_t room, uint64_t *length);
 
 /* The verdict on a tree head. It is compared with the accepted head and the waiting one: 130 to 134; 132, 133 and 134 come before the others, and the accepted head
- * before the waiting one. With 130 the next state has its timestamp. If it is larger and later than both, it waits from then on (unless another head waits already),
- * and is compared with the leaves that were read: 128, 129 or 135. 0: the verdict is in `verdict`, and `out` begins with the
+ * before the waiting one. With 130 the next state has its timestamp. If it is larger and later than both, it waits from then on, and is compared with the leaves that
+ * were read: 128, 129 or 135. While another head waits, a larger one gets the verdict on that head, 129, and is not kept: hand it in again later. 0: the verdict is in `verdict`, and `out` begins with the
  * next state, which has *length bytes; the rest of `out` is unchanged. 9: that state has *length bytes, and `out` has no room for them; nothing else is written.
  * 36: `state` is no state. 8: malloc refused. Nothing is written with 36 and 8. */
 uint32_t wagtenib_monitor_head(const uint8_t *state, size_t state_length, const struct wagtenib_head *head, struct wagtenib_monitor_verdict *verdict, uint8_t *out,
@@ -668,7 +668,7 @@ uint32_t wagtenib_monitor_proof(const uint8_t *state, size_t state_length, const
                                 uint8_t *out, size_t room, uint64_t *length);
 
 /* The verdict on a consistency proof from an older head, which got the verdict 131, to the accepted head if that has more leaves, otherwise to the waiting one: 137 or
- * 138, or 136 if neither has more leaves. A head of no leaves needs no proof: it is judged by its root alone. The state stays the same. Otherwise as
+ * 138, or 136 if neither has more leaves. A head of no leaves needs no proof: it is judged by its root alone. Timestamps are not compared. The state stays the same. Otherwise as
  * wagtenib_monitor_head. */
 uint32_t wagtenib_monitor_older(const uint8_t *state, size_t state_length, const struct wagtenib_head *head, const uint8_t *path, size_t path_length,
                                 struct wagtenib_monitor_verdict *verdict, uint8_t *out, size_t room, uint64_t *length);
