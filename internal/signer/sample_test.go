@@ -4,6 +4,8 @@ import (
 	"sync/atomic"
 	"testing"
 	"time"
+
+	"wagtenib/internal/testutil"
 )
 
 // erringClient returns a client of a signer whose signatures have these indexes wrong in each reply, from first to last.
@@ -105,6 +107,14 @@ func TestSamplesTimestampsAboveLoad(t *testing.T) {
 			t.Errorf("%s: after a wrong signature %d were verified, and %d were not", what, verified, unverified)
 		}
 	}
+}
+
+// TestPageSaysBounds checks that docs/GUARD.md states how many timestamps a node verifies.
+func TestPageSaysBounds(t *testing.T) {
+	t.Parallel()
+	testutil.Says(t, testutil.Page(t, "../../docs/GUARD.md"), map[string]bool{
+		"- It verifies all SCTs, up to 1,024 a second for each processor.": maxVerified == 1024,
+	})
 }
 
 // TestBudget takes from a budget of ten a second.
