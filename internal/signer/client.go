@@ -11,8 +11,8 @@ import (
 	"time"
 )
 
-// maxVerified is how many timestamps a node verifies in a second, for each processor. Verifying one takes less than
-// 0.1 ms, so this takes less than a tenth of the processors' time.
+// maxVerified is how many timestamps a node verifies in a second, for each processor. Verifying one takes about 0.1 ms,
+// so this takes about a tenth of the processors' time.
 const maxVerified = 1024
 
 // Client is a Signer that asks a signer in another process.
