@@ -58,6 +58,7 @@ func TestMetricsAndHealth(t *testing.T) {
 		`ctserve_step_seconds_count{phase="stage"} 17`, "ctserve_deleted_batches_total 11", "ctserve_staged_batches 12",
 		"ctserve_janitor_failures_total 13", "ctserve_damaged_issuers 9", "ctserve_repaired_objects_total 10",
 		"ctserve_signer_starts_total 7", "ctserve_wrong_signatures_total 22", "ctserve_queued_bytes 0",
+		`ctserve_sct_signatures_total{verified="true"} 23`, `ctserve_sct_signatures_total{verified="false"} 24`,
 		"ctserve_response_bytes 0",
 		`ctserve_connections_refused_total{bound="address"} 0`,
 		"ctserve_unpublished_entries 18", "ctserve_round_age_seconds 2.5", "ctserve_partial_tiles_deleted_to 512",

@@ -117,6 +117,9 @@ var (
 		"Number of times that the signer was started or connected to.")
 	descWrongSignatures = described("ctserve_wrong_signatures_total",
 		"Replies of the signer that had a wrong signature, and were refused.")
+	descSCTs = prometheus.NewDesc("ctserve_sct_signatures_total",
+		"SCT signatures of the signer that were used. Those with verified=\"true\" were verified before.",
+		[]string{"verified"}, nil)
 	descDeletedTiles = described("ctserve_deleted_tiles_total",
 		"Partial tiles that were deleted after their full tile was stored.")
 	descDeletedHeads = described("ctserve_deleted_heads_total", "Heads that were deleted after a later one was published.")
@@ -218,6 +221,8 @@ func (s metricSink) work(f loginterface.Metrics) {
 	s.count(descForwarded, f.Forwarded)
 	s.count(descSignerStarts, f.SignerStarts)
 	s.count(descWrongSignatures, f.WrongSignatures)
+	s.count(descSCTs, f.VerifiedSCTs, "true")
+	s.count(descSCTs, f.UnverifiedSCTs, "false")
 	s.count(descWritten, f.WrittenBytes)
 	for _, phase := range f.Phases {
 		s.to <- prometheus.MustNewConstSummary(descPhase, phase.Count, phase.Duration.Seconds(), nil, phase.Name)

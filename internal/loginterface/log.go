@@ -97,8 +97,8 @@ type Answers struct {
 	// submissions that another node answered.
 	Duplicates, ResumedSteps, Forwarded uint64
 	// SignerStarts counts how often the signer was started or connected to, and WrongSignatures how many of its replies
-	// had a wrong signature.
-	SignerStarts, WrongSignatures uint64
+	// had a wrong signature. VerifiedSCTs and UnverifiedSCTs count the SCT signatures of the signer that were used.
+	SignerStarts, WrongSignatures, VerifiedSCTs, UnverifiedSCTs uint64
 }
 
 // Janitor are the metrics of the janitor, which deletes objects and reads old ones again.

@@ -163,8 +163,12 @@ func (l *Log) Metrics() loginterface.Metrics {
 	if counted, ok := l.config.Signer.(interface{ Starts() uint64 }); ok {
 		f.SignerStarts = counted.Starts()
 	}
-	if verifying, ok := l.config.Signer.(interface{ WrongSignatures() uint64 }); ok {
+	if verifying, ok := l.config.Signer.(interface {
+		WrongSignatures() uint64
+		Timestamps() (verified, unverified uint64)
+	}); ok {
 		f.WrongSignatures = verifying.WrongSignatures()
+		f.VerifiedSCTs, f.UnverifiedSCTs = verifying.Timestamps()
 	}
 	l.counts.fill(&f)
 	if head := l.node.Known(); head != nil {

@@ -6,15 +6,14 @@ import (
 	"errors"
 	"fmt"
 	"math/rand/v2"
+	"runtime"
 	"sync/atomic"
 	"time"
 )
 
-// A node verifies the signature of each head that its signer returns. It verifies only a sample of the timestamps,
-// because verifying one costs as much as everything else that a signer does for it. After a signer was opened, its
-// first fullyVerified timestamps are all verified. After them, one timestamp of each sampleWidth is verified, at
-// random.
-const fullyVerified, sampleWidth = 256, 32
+// maxVerified is how many timestamps a node verifies in a second, for each processor. Verifying one takes about 0.1 ms,
+// so this takes about a tenth of the processors' time.
+const maxVerified = 1024
 
 // Client is a Signer that asks a signer in another process.
 type Client struct {
@@ -23,16 +22,16 @@ type Client struct {
 	guarded bool
 	// wrong counts the replies that had a wrong signature.
 	wrong atomic.Uint64
-	// opening is the number of the opening of the signer that returned the last timestamps. verifyNext is how many of
-	// its next timestamps are all verified. Only the goroutine that has the asker's turn may use them.
-	opening    uint64
-	verifyNext int
+	// verified and unverified count the timestamps that the node got.
+	verified, unverified atomic.Uint64
+	// budget bounds how many timestamps are verified. Only the goroutine that has the asker's turn may use it.
+	budget budget
 }
 
 // NewClient returns a client of the signer that open (Start or Dial) finds. If the signer is opened again later, it
 // must have the same key. The timeout is for one request.
 func NewClient(ctx context.Context, open func(context.Context) (*Peer, error), timeout time.Duration) (*Client, error) {
-	c := &Client{}
+	c := &Client{budget: budget{perSecond: maxVerified * float64(runtime.GOMAXPROCS(0))}}
 	c.asker = newAsker(func(ctx context.Context) (*Peer, error) {
 		peer, err := open(ctx)
 		if err != nil {
@@ -90,6 +89,12 @@ func (c *Client) Waiting() time.Duration { return c.asker.waiting() }
 
 // WrongSignatures returns how many replies of the signer had a wrong signature.
 func (c *Client) WrongSignatures() uint64 { return c.wrong.Load() }
+
+// Timestamps returns how many signatures of timestamps the signer returned that were used. The verified ones were
+// verified before that.
+func (c *Client) Timestamps() (verified, unverified uint64) {
+	return c.verified.Load(), c.unverified.Load()
+}
 
 // exchange sends a request, and calls check with its reply.
 func (c *Client) exchange(ctx context.Context, req request, check func(reply) error) error {
@@ -183,20 +188,14 @@ func (c *Client) verify(ctx context.Context, signatures, messages [][]byte, inde
 	return err
 }
 
-// sample returns the indexes of the timestamps that must be verified among the next count ones.
-func (c *Client) sample(count int) (indexes []int) {
-	if opening := c.asker.opens.Load(); c.opening != opening {
-		c.opening, c.verifyNext = opening, fullyVerified
+// sample returns the indexes of the timestamps that must be verified among the next count ones: as many as the budget
+// has, at random, and at least one. After a wrong signature they are all verified, because the signer may err again.
+func (c *Client) sample(count int) []int {
+	indexes := rand.Perm(count)
+	if c.wrong.Load() > 0 {
+		return indexes
 	}
-	all := min(c.verifyNext, count)
-	c.verifyNext -= all
-	for at := range all {
-		indexes = append(indexes, at)
-	}
-	for from := all; from < count; from += sampleWidth {
-		indexes = append(indexes, from+rand.IntN(min(sampleWidth, count-from)))
-	}
-	return indexes
+	return indexes[:min(count, max(1, c.budget.take(count, time.Now())))]
 }
 
 // SignStep returns the signatures of a step's timestamps, as Signer says.
@@ -208,7 +207,13 @@ func (c *Client) SignStep(ctx context.Context, step Step) ([][]byte, error) {
 func (c *Client) signTimestamps(ctx context.Context, line []byte, messages [][]byte) (signatures [][]byte, err error) {
 	err = c.exchangeLine(ctx, line, func(rep reply) error {
 		signatures = rep.Signatures
-		return c.verify(ctx, signatures, messages, c.sample(len(messages)))
+		indexes := c.sample(len(messages))
+		if err := c.verify(ctx, signatures, messages, indexes); err != nil {
+			return err
+		}
+		c.verified.Add(uint64(len(indexes)))
+		c.unverified.Add(uint64(len(messages) - len(indexes)))
+		return nil
 	})
 	if err != nil {
 		return nil, err

@@ -359,7 +359,7 @@ func (l *Log) Metrics() loginterface.Metrics {
 		Rounds: loginterface.Rounds{LostSwaps: 3, Unpublished: 18, SinceRound: 2500 * time.Millisecond, WrittenBytes: 16,
 			Phases:  []loginterface.Phase{{Name: "stage", Count: 17, Duration: 1500 * time.Millisecond}},
 			Batches: loginterface.Batches{Steps: 20, Submissions: 21, UpTo: map[int]uint64{1: 18, 8: 20}}},
-		Answers: loginterface.Answers{SignerStarts: 7, WrongSignatures: 22},
+		Answers: loginterface.Answers{SignerStarts: 7, WrongSignatures: 22, VerifiedSCTs: 23, UnverifiedSCTs: 24},
 		Janitor: loginterface.Janitor{DeletedTiles: 4, DeletedHeads: 8, RereadTiles: 5, DeletedBatches: 11,
 			StagedBatches: 12, JanitorFailures: 13, JanitorFailure: "nothing is deleted", DeletedTo: 512, ReadNext: 19},
 		Damages:  loginterface.Damages{Damaged: 6, Damage: l.Damage, DamagedIssuers: 9, Repaired: 10, LastRepaired: "issuer/07"},
