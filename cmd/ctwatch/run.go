@@ -24,7 +24,7 @@ import (
 
 var _ = addCommand("run", "follows logs, and sends alerts about certificates for the watched names", runWatch)
 
-// checkInterval is the time between two checks for silent logs.
+// checkInterval is the time between two checks for silent logs and for renewals.
 const checkInterval = time.Minute
 
 // watching holds the state of one run with the same settings.
@@ -185,7 +185,7 @@ func (w *watching) serve(ctx context.Context) error {
 	running.Add(1)
 	go func() {
 		defer running.Done()
-		w.checkSilence(sending)
+		w.check(sending)
 	}()
 	w.lines.Info("watching", "names", len(w.settings.names), "logs", len(w.settings.logs.only), "list",
 		w.settings.logs.list, "folder", w.settings.folder, "page", page.address())
@@ -226,9 +226,17 @@ func (w *watching) report(output alert.Output) func(error) {
 	}
 }
 
-// checkSilence checks at intervals, until the context ends, whether a log or the log list cannot be read. It also
-// reports the health to systemd.
-func (w *watching) checkSilence(ctx context.Context) {
+// checkRenewals looks for certificates that were not renewed in time, if the settings name a time.
+func (w *watching) checkRenewals() error {
+	if w.settings.times.renewals == 0 {
+		return nil
+	}
+	return w.store.CheckRenewals(w.settings.times.renewals)
+}
+
+// check checks at intervals, until the context ends, whether a log or the log list cannot be read, and whether
+// certificates were renewed. It also reports the health to systemd.
+func (w *watching) check(ctx context.Context) {
 	ticker := time.NewTicker(checkInterval)
 	defer ticker.Stop()
 	for {
@@ -237,15 +245,18 @@ func (w *watching) checkSilence(ctx context.Context) {
 			return
 		case <-ticker.C:
 		}
-		if err := w.store.CheckSilent(w.settings.silent); err != nil {
+		if err := w.store.CheckSilent(w.settings.times.silent); err != nil {
 			w.lines.Error("store", "fault", err)
 		}
-		if reason := w.follower.listed.silence(time.Now(), w.settings.silent); reason != "" {
+		if err := w.checkRenewals(); err != nil {
+			w.lines.Error("store", "fault", err)
+		}
+		if reason := w.follower.listed.silence(time.Now(), w.settings.times.silent); reason != "" {
 			if err := w.store.AlertList(reason); err != nil {
 				w.lines.Error("store", "fault", err)
 			}
 		}
-		if health, err := w.store.Health(w.settings.silent); err == nil {
+		if health, err := w.store.Health(w.settings.times.silent); err == nil {
 			health.Unread = w.follower.listed.unread()
 			// Without systemd there is no socket, and SdNotify does nothing.
 			_, _ = daemon.SdNotify(false, "STATUS="+health.String())
@@ -288,7 +299,7 @@ func (w *watching) once(ctx context.Context) error {
 	var faults map[string]error
 	var listFault error
 	w.sendWhile(ctx, func() { faults, listFault = w.follower.once(ctx) })
-	if err := w.store.CheckSilent(w.settings.silent); err != nil {
+	if err := errors.Join(w.store.CheckSilent(w.settings.times.silent), w.checkRenewals()); err != nil {
 		return err
 	}
 	var failed []string

@@ -8,6 +8,7 @@ import (
 	"io"
 	"os"
 	"slices"
+	"strconv"
 	"strings"
 	"time"
 
@@ -37,8 +38,14 @@ type settings struct {
 	unread   string
 	inBytes  bool
 	keepAll  bool
-	silent   time.Duration
+	times    timeSettings
 	serve    serveSettings
+}
+
+// timeSettings holds the times after which silence, and before which a missing renewal, causes an alert.
+type timeSettings struct {
+	silent   time.Duration
+	renewals time.Duration // 0 if renewals are not checked
 }
 
 // logSettings holds the settings that say which logs are watched, and how.
@@ -121,8 +128,10 @@ func (s *settings) define(flags *flag.FlagSet) {
 	flags.BoolVar(&s.keepAll, "keep-all", false,
 		"store every certificate of the logs, so that a name that is added later is found in all of them. For small "+
 			"logs")
-	flags.DurationVar(&s.silent, "silent-after", 24*time.Hour,
+	flags.DurationVar(&s.times.silent, "silent-after", 24*time.Hour,
 		"time after which a log or a log list that cannot be read causes an alert; at least 1m")
+	flags.Func("renewals", "`time`, such as 7d or 36h, before the end of a certificate for an exactly watched name "+
+		"(=example.org, or an address). If no newer certificate was logged then, an alert says so", s.readRenewals)
 	flags.StringVar(&s.serve.listen, "listen", "127.0.0.1:8650",
 		"`address` of the local page, /metrics and /healthz. If it is empty, they are not served")
 	flags.Func("page-host", "`name` in addresses of the page, such as that of a proxy. Requests for other names than "+
@@ -148,8 +157,10 @@ func (s *settings) validate() error {
 		return errors.New("there is no watched name (write --name example.org, or --names FILE)")
 	case s.logs.pause < time.Second:
 		return errors.New("--pause must be at least 1s, so that logs are not asked too often")
-	case s.silent < time.Minute:
+	case s.times.silent < time.Minute:
 		return errors.New("--silent-after must be at least 1m")
+	case s.times.renewals > 0 && !slices.ContainsFunc(s.names, namesearch.Name.IsExact):
+		return errors.New("--renewals needs a name that is watched exactly (write --name =www.example.org too)")
 	case s.folder == "":
 		return errors.New("--folder is empty (write the folder of the store)")
 	}
@@ -173,6 +184,21 @@ func (s *settings) addHost(text string) error {
 		return fmt.Errorf("%.100q is no host name (write it without a scheme, a port and a path: watch.example.org)", text)
 	}
 	s.serve.hosts = append(s.serve.hosts, name)
+	return nil
+}
+
+// readRenewals reads a duration, or a number of days such as 7d.
+func (s *settings) readRenewals(text string) (err error) {
+	const day, maxDays = 24 * time.Hour, 365
+	if days, isDays := strings.CutSuffix(text, "d"); isDays {
+		number, fault := strconv.Atoi(days)
+		s.times.renewals, err = day*time.Duration(min(number, maxDays+1)), fault
+	} else {
+		s.times.renewals, err = time.ParseDuration(text)
+	}
+	if err != nil || s.times.renewals < time.Hour || s.times.renewals > maxDays*day {
+		return errors.New("it is no time from 1h to 365d (write, for example, 7d)")
+	}
 	return nil
 }
 

@@ -77,23 +77,37 @@ type Issued struct {
 	TBS            []byte // of the entry of the precertificate: without the poison
 }
 
+// lastEnd is the end of a certificate for which no end is given.
+var lastEnd = time.Date(2126, 1, 1, 0, 0, 0, 0, time.UTC)
+
 // Issue issues a certificate for these host names, and its precertificate. They are valid from 2026-01-01 to
 // 2126-01-01.
 func (a *Authority) Issue(hosts ...string) Issued {
+	a.t.Helper()
+	return a.IssueUntil(lastEnd, hosts...)
+}
+
+// IssueUntil issues a certificate for these host names that ends at a time, and its precertificate.
+func (a *Authority) IssueUntil(end time.Time, hosts ...string) Issued {
 	a.t.Helper()
 	var names []Name
 	for _, host := range hosts {
 		names = append(names, Name{DNS, []byte(host)})
 	}
-	return a.IssueNames(pkix.Name{}, names...)
+	return a.issue(pkix.Name{}, end, names)
 }
 
 // IssueNames issues a certificate for any names, and its precertificate.
 func (a *Authority) IssueNames(subject pkix.Name, names ...Name) Issued {
 	a.t.Helper()
+	return a.issue(subject, lastEnd, names)
+}
+
+func (a *Authority) issue(subject pkix.Name, end time.Time, names []Name) Issued {
+	a.t.Helper()
 	template := &x509.Certificate{SerialNumber: big.NewInt(1000 + a.last.Add(1)), Subject: subject,
 		NotBefore: time.Date(2026, 1, 1, 0, 0, 0, 0, time.UTC),
-		NotAfter:  time.Date(2126, 1, 1, 0, 0, 0, 0, time.UTC)}
+		NotAfter:  end}
 	if len(names) > 0 {
 		template.ExtraExtensions = append(template.ExtraExtensions, a.altNames(names))
 	}

@@ -25,6 +25,9 @@ const (
 	Evidence Kind = "evidence" // a log did something wrong, and the evidence is stored
 	Unproved Kind = "unproved" // a log did not prove that a signed head belongs to its history, which is no accusation
 	Silent   Kind = "silent"   // a log, or the log list, could not be read for too long
+
+	Unrenewed Kind = "unrenewed" // a certificate ends soon, and no newer one was logged for a watched name
+	Renewed   Kind = "renewed"   // a newer certificate was logged: it takes back the alert Unrenewed about this one
 )
 
 // Alert is one message to an owner.
@@ -34,7 +37,8 @@ type Alert struct {
 	Time        time.Time    `json:"time"`            // when it was found
 	Again       bool         `json:"again,omitempty"` // it may have been sent before
 	Certificate *Certificate `json:"certificate,omitempty"`
-	Log         *Log         `json:"log,omitempty"` // only set for the kinds evidence, unproved and silent
+	Text        string       `json:"text,omitempty"` // only set for the kinds unrenewed and renewed
+	Log         *Log         `json:"log,omitempty"`  // only set for the kinds evidence, unproved and silent
 }
 
 // Certificate is an issuance: a certificate, or its precertificate, in any number of logs.

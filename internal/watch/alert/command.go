@@ -130,6 +130,9 @@ func Environment(a Alert) []string {
 		return found
 	}
 	c := a.Certificate
+	if a.Text != "" {
+		add("CTWATCH_TEXT", a.Text)
+	}
 	// Linux runs no program with a variable of more than 128 KiB.
 	matches := c.Matches[:min(len(c.Matches), MaxNames)]
 	add("CTWATCH_WATCHED", strings.Join(watched(matches), " "))

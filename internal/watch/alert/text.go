@@ -22,6 +22,8 @@ func Line(a Alert) string {
 	case Unread:
 		return fmt.Sprintf("UNREAD%s: the names of a certificate cannot be read (%s): %s", again,
 			a.Certificate.Fault, Describe(a.Certificate))
+	case Unrenewed, Renewed:
+		return fmt.Sprintf("%s%s %s: %s", strings.ToUpper(string(a.Kind)), again, a.Text, Describe(a.Certificate))
 	case Evidence:
 		return fmt.Sprintf("LOG%s %s: %s: %s; %s", again, a.Log.Name, a.Log.Verdict, a.Log.Text, a.Log.Kept)
 	case Unproved:
@@ -145,6 +147,7 @@ func Paragraphs(a Alert) string {
 		return text.String()
 	}
 	c := a.Certificate
+	row("What happened", a.Text)
 	row("Problem", c.Fault)
 	for _, match := range c.Matches[:min(len(c.Matches), MaxNames)] {
 		place := match.Place
@@ -186,6 +189,8 @@ func Subject(alerts []Alert) string {
 	switch {
 	case first.Log != nil:
 		subject = fmt.Sprintf("log %s: %s", first.Log.Name, first.Log.Verdict)
+	case first.Text != "":
+		subject = fmt.Sprintf("%s: %s", first.Kind, first.Text)
 	case first.Kind == Unread:
 		subject = "a certificate whose names cannot be read"
 	default:

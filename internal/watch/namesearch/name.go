@@ -39,6 +39,9 @@ func (n Name) String() string { return n.text }
 // IsEverything reports whether every certificate matches. Only a watch list of certspotter can have such a name: a dot.
 func (n Name) IsEverything() bool { return n.text == "." }
 
+// IsExact reports whether the name is an address, or does not cover the names below it.
+func (n Name) IsExact() bool { return n.exact }
+
 // patterns returns the patterns for the library that match this name. A pattern with a dot in front covers the name and
 // all names below it.
 func (n Name) patterns() []string {

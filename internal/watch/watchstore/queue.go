@@ -144,7 +144,7 @@ func (s *Store) alerts(condition string, values ...any) ([]alert.Alert, error) {
 	for i, one := range rows {
 		alerts[i] = one.alert
 		if one.issuance.Valid {
-			alerts[i].Certificate = certificates[one.issuance.Int64]
+			alerts[i].Certificate, alerts[i].Text = certificates[one.issuance.Int64], alert.Safe(one.text)
 		} else if alerts[i].Log, err = s.logOf(one); err != nil {
 			return nil, err
 		}

@@ -23,8 +23,9 @@ type statuses struct {
 // reported holds the newest status of a log, and when a status of the log was last stored.
 type reported struct {
 	watch.Status
-	stored time.Time
-	fault  string // the text of Status.Fault
+	stored      time.Time
+	fault       string // the text of Status.Fault
+	wasComplete bool   // the log was once read to the end of its newest head
 }
 
 func newStatuses() *statuses { return &statuses{byLog: map[watch.LogID]*reported{}} }
@@ -39,7 +40,9 @@ func (s *Store) Report(status watch.Status) {
 	}
 	s.statuses.mutex.Lock()
 	before := s.statuses.byLog[status.Log.ID]
-	newest := &reported{Status: status, stored: now, fault: fault}
+	newest := &reported{Status: status, stored: now, fault: fault,
+		wasComplete: before != nil && before.wasComplete ||
+			!status.Answered.IsZero() && status.Read >= status.Head.TreeSize}
 	mustStore := before == nil || before.fault != fault || now.Sub(before.stored) >= statusInterval
 	if !mustStore {
 		newest.stored = before.stored
