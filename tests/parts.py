@@ -128,10 +128,11 @@ def run_parts(parts, at_a_time, progress):
 
 def main():
     wanted = tuple(sys.argv[1:])
-    parts = [line for line in (*ALONE, *PARTS) if line.startswith(wanted or "")]
-    if not parts:
-        print(f"parts.py: no part begins with {' or '.join(wanted)} (they are {', '.join((*ALONE, *PARTS))})", file=sys.stderr)
+    unknown = [word for word in wanted if not any(line.startswith(word) for line in (*ALONE, *PARTS))]
+    if unknown:
+        print(f"parts.py: no part begins with \"{unknown[0]}\" (name beginnings of these: {', '.join((*ALONE, *PARTS))})", file=sys.stderr)
         sys.exit(2)
+    parts = [line for line in (*ALONE, *PARTS) if line.startswith(wanted or "")]
     processors = len(os.sched_getaffinity(0))
     is_all = len(parts) == len(ALONE) + len(PARTS)
     print(f"{len(parts)} parts on {processors} processors{f', in {max(5, 60 // processors)} minutes at most' if is_all else ''}.", flush=True)

@@ -64,7 +64,7 @@ func (c *checks) report(name, description string, err error) {
 // result returns an error if a setting is wrong.
 func (c *checks) result() error {
 	if c.wrong > 0 {
-		return fmt.Errorf("%d settings are wrong", c.wrong)
+		return fmt.Errorf("wrong settings: %d (the lines with WRONG name them)", c.wrong)
 	}
 	return nil
 }

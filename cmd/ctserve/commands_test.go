@@ -208,7 +208,7 @@ func TestCheck(t *testing.T) {
 			t.Fatal(err)
 		}
 		if status, stdout, stderr := does("check", file); status != 1 || strings.Count(stdout, "WRONG") != 1 ||
-			!strings.Contains(stderr, "1 settings") {
+			!strings.Contains(stderr, "wrong settings: 1") {
 			t.Errorf("without %s: status %d, %s%s", name, status, stdout, stderr)
 		}
 	}
