@@ -27,12 +27,12 @@ PARTS = [(name, re.compile(pattern)) for name, pattern in (
     ("SHA-256 of Go", r"sha256"),
     ("ECDSA: chains checked and signatures made", r"^crypto/(ecdsa|elliptic)|^p256|nistec|/ecdsa|bigmod|drbg|^crypto/internal/fips140/(hmac|sha512)|^crypto/rand"),
     ("garbage collection and allocation", r"^runtime\.(gc|bgsweep|bgscavenge|sweep|scan|mallocgc|greyobject|markroot|newobject|makeslice|growslice|wbBufFlush|\(\*(mspan|mheap|mcache|mcentral|gcWork|sweepLocked))"),
-    ("the index: LevelDB, or a file", r"goleveldb|^main\.\(\*places\)|internal/stores\.\(\*inLevelDB"),
-    ("lines between ctserve and the signer", r"internal/(signer|jsonline|pipe|lines)"),
-    ("files: objects, lock and guard's state", r"^os\.|internal/stores|^syscall\.(Fsync|Rename|Open|Unlink)|^main\.\(\*(tree|object)"),
-    ("limits, metrics and clocks", r"prometheus|internal/(httpserver|limits|metrics)"),
+    ("the index: LevelDB, or a file", r"goleveldb|^main\.\(\*places\)|internal/blob\.\(\*inLevelDB"),
+    ("lines between ctserve and the signer", r"internal/log/signer"),
+    ("files: objects, lock and guard's state", r"^os\.|internal/blob|^syscall\.(Fsync|Rename|Open|Unlink)|^main\.\(\*(tree|object)"),
+    ("limits, metrics and clocks", r"prometheus|internal/log/httpd"),
     ("TLS", r"^crypto/(tls|aes|cipher|ecdh|internal/fips140/(aes|tls|hkdf))|gcm|chacha"),
-    ("X.509 and the rules of chains", r"^crypto/x509|cryptobyte|^encoding/asn1|internal/(chains|chain)|^math/big"),
+    ("X.509 and the rules of chains", r"^crypto/x509|cryptobyte|^encoding/asn1|internal/log/chain|^math/big"),
     ("JSON and base64", r"^encoding/(json|base64)"),
     ("HTTP and connections", r"^net/http|^net\.|^bufio|^net/textproto|^internal/poll"),
     ("stacks that grow", r"^runtime\.(copystack|newstack|morestack|adjustframe)"),
@@ -40,7 +40,7 @@ PARTS = [(name, re.compile(pattern)) for name, pattern in (
 )]  # fmt: skip
 # These count before all others, if one of the calls fits.
 OUTER = [(name, re.compile(pattern)) for name, pattern in (
-    ("forwarding to another node", r"internal/(httpserver|logservice|node).*[fF]orward"),
+    ("forwarding to another node", r"internal/log/(httpd|service|node).*[fF]orward"),
     ("clients of PostgreSQL, etcd and S3", r"minio|lib/pq|jackc|etcd|grpc"),
 )]
 KERNEL, REST = "kernel, no caller seen", "all else"

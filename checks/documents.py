@@ -34,7 +34,7 @@ QUOTED = re.compile(r"^<!-- from (\S+) -->\n+(```.*?^```$|(?:^ {4}[^\n]*\n)+)", 
 # The pages that are read, in addition to docs/.
 READMES = (
     "bench", "bindings", "bindings/go/wagtenib", "bindings/python", "bindings/rust", "checks", "cmd", "crates", "deps", "dist", "examples", "examples/link", "include",
-    "internal", "internal/node", "internal/sim", "release", "tests",
+    "internal", "internal/log/node", "internal/sim", "release", "tests",
 )
 PAGES = ("README.md", "CONTRIBUTING.md", "SECURITY.md", "bench/peers.md", *(f"{folder}/README.md" for folder in READMES))
 # Files that do not count as code: this script, with its own page of faults, and elsewhere.txt.

@@ -46,7 +46,7 @@ case $what in
     # (the commit, and + where files differ from it; none where git or its folder isn't there)
     commit=$(git rev-parse --short=12 HEAD 2>/dev/null) || commit=
     [ -z "$commit" ] || git diff --quiet HEAD -- cmd internal bindings VERSION go.mod || commit+=+
-    of=wagtenib/internal/version
+    of=wagtenib/internal/command/version
     go build -o cmd/out -ldflags "-X $of.number=$(cat VERSION) -X $of.commit=$commit" "${main_packages[@]}"
     ;;
   modules)
@@ -55,12 +55,12 @@ case $what in
     ;;
   fuzz)
     for target in FuzzFinalIssuer FuzzChain FuzzRoots; do
-      go test ./internal/chains -run '^$' -fuzz "^$target\$" -fuzztime "${1:-60}s" -fuzzminimizetime 1s -parallel "${PROCESSORS:-2}"
+      go test ./internal/log/chain -run '^$' -fuzz "^$target\$" -fuzztime "${1:-60}s" -fuzzminimizetime 1s -parallel "${PROCESSORS:-2}"
     done
     for target in FuzzHandlers FuzzConnections; do
-      go test ./internal/httpserver -run '^$' -fuzz "^$target\$" -fuzztime "${1:-60}s" -fuzzminimizetime 1s -parallel "${PROCESSORS:-2}"
+      go test ./internal/log/httpd -run '^$' -fuzz "^$target\$" -fuzztime "${1:-60}s" -fuzzminimizetime 1s -parallel "${PROCESSORS:-2}"
     done
-    go test ./internal/tile -run '^$' -fuzz '^FuzzRead$' -fuzztime "${1:-60}s" -fuzzminimizetime 1s -parallel "${PROCESSORS:-2}"
+    go test ./internal/tiles -run '^$' -fuzz '^FuzzRead$' -fuzztime "${1:-60}s" -fuzzminimizetime 1s -parallel "${PROCESSORS:-2}"
     # (what ctwatch reads: certificates, watch lists, answers of logs, log lists, and settings)
     for target in watch/namesearch/FuzzSearch watch/namesearch/FuzzLists watch/alert/FuzzSafe watch/watchstore/FuzzKeep watch/FuzzLogAnswers watch/loglist/FuzzParse; do
       go test "./internal/${target%/*}" -run '^$' -fuzz "^${target##*/}\$" -fuzztime "${1:-60}s" -fuzzminimizetime 1s -parallel "${PROCESSORS:-2}"

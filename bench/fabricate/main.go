@@ -25,7 +25,7 @@ import (
 	"github.com/syndtr/goleveldb/leveldb/filter"
 	"github.com/syndtr/goleveldb/leveldb/opt"
 
-	"wagtenib/internal/stores"
+	"wagtenib/internal/blob"
 )
 
 const (
@@ -223,12 +223,12 @@ type table struct {
 	of     func(index uint64) hash
 }
 
-// tables returns the tables of internal/stores, in the order of their letters.
+// tables returns the tables of internal/blob, in the order of their letters.
 func tables(timestamp uint64) []table {
 	return []table{{'i', identity}, {'l', func(index uint64) hash { return leafHash(entry(index, timestamp)) }}}
 }
 
-// options returns the options of internal/stores that determine how files are written, with a buffer of this many
+// options returns the options of internal/blob that determine how files are written, with a buffer of this many
 // bytes, and without syncs.
 func options(buffer int) *opt.Options {
 	return &opt.Options{WriteBuffer: buffer, CompactionTableSize: 2 << 20, CompactionTotalSize: 256 << 20,
@@ -248,7 +248,7 @@ func (a *adder) add(to table, index uint64) {
 	h := to.of(index)
 	value := binary.AppendUvarint(binary.AppendUvarint(make([]byte, 0, 16), index), a.timestamp)
 	a.batch.Put(append([]byte{to.letter}, h[:]...), value)
-	if a.batch.Len() == stores.MaxRows {
+	if a.batch.Len() == blob.MaxRows {
 		a.write()
 	}
 }

@@ -17,7 +17,7 @@ import (
 	"strings"
 	"time"
 
-	"wagtenib/internal/stores"
+	"wagtenib/internal/blob"
 )
 
 // first is the timestamp of the first entry. Each further entry is a millisecond later.
@@ -34,7 +34,7 @@ func stop(err error) {
 }
 
 // hash returns the identity, or the leaf hash, of an entry.
-func hash(of byte, entry int) stores.Identity {
+func hash(of byte, entry int) blob.Identity {
 	return sha256.Sum256(binary.BigEndian.AppendUint64([]byte{of}, uint64(entry)))
 }
 
@@ -72,20 +72,20 @@ func size(folder string) (bytes int64) {
 }
 
 // add adds the entries from one index up to another.
-func add(index stores.Index, from, to int) {
-	rows := make([]stores.Row, 0, to-from)
+func add(index blob.Index, from, to int) {
+	rows := make([]blob.Row, 0, to-from)
 	for entry := from; entry < to; entry++ {
-		rows = append(rows, stores.Row{Identity: hash('i', entry), Leaf: hash('l', entry),
-			Place: stores.Place{Index: uint64(entry), Timestamp: first + uint64(entry)}})
+		rows = append(rows, blob.Row{Identity: hash('i', entry), Leaf: hash('l', entry),
+			Place: blob.Place{Index: uint64(entry), Timestamp: first + uint64(entry)}})
 	}
 	stop(index.Add(context.Background(), rows))
 }
 
 // read returns the number of bytes that a look-up of an unknown identity reads.
-func read(index stores.Index) float64 {
+func read(index blob.Index) float64 {
 	before := kernel("io", "rchar")
 	for entry := range lookups {
-		_, err := index.Find(context.Background(), []stores.Identity{hash('u', entry)})
+		_, err := index.Find(context.Background(), []blob.Identity{hash('u', entry)})
 		stop(err)
 	}
 	return (kernel("io", "rchar") - before) / lookups
@@ -104,7 +104,7 @@ func main() {
 	if _, err := os.Stat(folder); err == nil {
 		stop(fmt.Errorf("%s exists", folder))
 	}
-	index, err := stores.OpenLevelDB(context.Background(), folder)
+	index, err := blob.OpenLevelDB(context.Background(), folder)
 	stop(err)
 	fmt.Println("entries, bytes written an entry, bytes of the index an entry, memory in MB, bytes read a look-up")
 	next := 1000
@@ -120,7 +120,7 @@ func main() {
 	}
 	stop(index.Close())
 	start := time.Now()
-	index, err = stores.OpenLevelDB(context.Background(), folder)
+	index, err = blob.OpenLevelDB(context.Background(), folder)
 	stop(err)
 	fmt.Printf("opened again in %v\n", time.Since(start).Round(time.Millisecond))
 	stop(index.Close())

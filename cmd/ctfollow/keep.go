@@ -11,14 +11,14 @@ import (
 
 	"golang.org/x/mod/sumdb/tlog"
 
-	"wagtenib/internal/stores"
+	"wagtenib/internal/blob"
 )
 
 // mirror is a folder with what was checked of a log. Its checkpoint is written last, so a folder with a checkpoint has
 // everything that the checkpoint needs.
 type mirror struct {
 	folder  string
-	objects stores.Objects
+	objects blob.Objects
 }
 
 const checkpointName = "checkpoint"
@@ -26,13 +26,13 @@ const checkpointName = "checkpoint"
 // resume makes the reader store what it checks in a folder, and continue from the folder's checkpoint if there is one.
 // The log must have signed that checkpoint.
 func (r *reader) resume(folder string) error {
-	objects, err := stores.OpenFolder(folder)
+	objects, err := blob.OpenFolder(folder)
 	if err != nil {
 		return err
 	}
 	r.mirror = &mirror{folder, objects}
-	text, err := stores.KeptFile(filepath.Join(folder, checkpointName))
-	if errors.Is(err, stores.ErrAbsent) {
+	text, err := blob.KeptFile(filepath.Join(folder, checkpointName))
+	if errors.Is(err, blob.ErrAbsent) {
 		return nil
 	}
 	if err != nil {
@@ -52,7 +52,7 @@ func (r *reader) resume(folder string) error {
 // change.
 func (r *reader) keep(ctx context.Context, name string, content []byte) error {
 	err := r.mirror.objects.Put(ctx, name, content)
-	if errors.Is(err, stores.ErrOther) {
+	if errors.Is(err, blob.ErrOther) {
 		return wrong("%s: %s is stored with other bytes", r.node, name)
 	}
 	return err
@@ -91,7 +91,7 @@ func (r *reader) checkBeginning(ctx context.Context, tile tlog.Tile, content []b
 // keepIssuer stores a certificate under its fingerprint.
 func (r *reader) keepIssuer(ctx context.Context, fingerprint []byte) error {
 	name := "issuer/" + hex.EncodeToString(fingerprint)
-	if _, err := r.mirror.objects.Get(ctx, name, maxObject); !errors.Is(err, stores.ErrAbsent) {
+	if _, err := r.mirror.objects.Get(ctx, name, maxObject); !errors.Is(err, blob.ErrAbsent) {
 		return err
 	}
 	content, err := r.get(ctx, "/"+name)
@@ -106,7 +106,7 @@ func (r *reader) keepIssuer(ctx context.Context, fingerprint []byte) error {
 
 // keepHead stores the hash tiles of a tree whose data tiles are stored, and then its checkpoint. The hashes were
 // checked against its root.
-func (r *reader) keepHead(ctx context.Context, tree tlog.Tree, hashes tlog.HashReader, tiles *tiles,
+func (r *reader) keepHead(ctx context.Context, tree tlog.Tree, hashes tlog.HashReader, tiles *tileReader,
 	checkpoint []byte) error {
 	all := tlog.NewTiles(tileHeight, r.last.N, tree.N)
 	for i, tile := range all {
@@ -123,7 +123,7 @@ func (r *reader) keepHead(ctx context.Context, tree tlog.Tree, hashes tlog.HashR
 		}
 	}
 	// The file server may run as another user.
-	if err := stores.ShowFile(filepath.Join(r.mirror.folder, checkpointName), checkpoint); err != nil {
+	if err := blob.ShowFile(filepath.Join(r.mirror.folder, checkpointName), checkpoint); err != nil {
 		return err
 	}
 	return r.mirror.dropPartial(r.last.N, tree.N)

@@ -21,8 +21,8 @@ import (
 
 	"golang.org/x/mod/sumdb/tlog"
 
-	"wagtenib/internal/stores"
-	"wagtenib/internal/testutil"
+	"wagtenib/internal/blob"
+	"wagtenib/internal/testkit"
 )
 
 // growingLog is a log that grows, by x/mod's tlog, over HTTP. It has all its objects by their paths.
@@ -362,7 +362,7 @@ func TestCheckpointThatIsCutShort(t *testing.T) {
 	before := g.objects["/checkpoint"]
 	g.grow(1, 8)
 	// No other file of a log of one entry has as many bytes.
-	err := testutil.ShortFiles(t, uint64(len(before)-20), func() error { return r.follow(context.Background()) })
+	err := testkit.ShortFiles(t, uint64(len(before)-20), func() error { return r.follow(context.Background()) })
 	if !errors.Is(err, syscall.EFBIG) || r.timestamp != 7 {
 		t.Errorf("%v, and the last timestamp is %d", err, r.timestamp)
 	}
@@ -380,7 +380,7 @@ func TestCheckpointThatIsCutShort(t *testing.T) {
 
 // failing is a store that fails at a call with a name that begins with a text.
 type failing struct {
-	stores.Objects
+	blob.Objects
 	gets, puts string
 }
 

@@ -9,10 +9,10 @@ import (
 	"strings"
 	"testing"
 
-	"wagtenib/internal/testutil"
+	"wagtenib/internal/testkit"
 )
 
-func TestMain(m *testing.M) { testutil.Main(m, main) }
+func TestMain(m *testing.M) { testkit.Main(m, main) }
 
 // TestProgram checks that status 0 means that everything that was read is right, also if a mirror continues from it.
 // Wrong tiles and wrong arguments have status 1 and the reason.
@@ -29,20 +29,20 @@ func TestProgram(t *testing.T) {
 	five := g.grow(5, 7)
 	expected := fmt.Sprintf("%s: 5 entries, root %v: consistent, and all leaves are there\n"+
 		"5 entries were read, and all was right\n", r.node, five.Hash)
-	if status, out, problem := testutil.Runs(t, mirrorArguments...); status != 0 || out != expected || problem != "" {
+	if status, out, problem := testkit.Runs(t, mirrorArguments...); status != 0 || out != expected || problem != "" {
 		t.Errorf("status %d, %q and %q", status, out, problem)
 	}
-	if status, out, problem := testutil.Runs(t, mirrorArguments...); status != 0 ||
+	if status, out, problem := testkit.Runs(t, mirrorArguments...); status != 0 ||
 		out != "5 entries were read, and all was right\n" || problem != "" {
 		t.Errorf("the same once more: status %d, %q and %q", status, out, problem)
 	}
 	g.publish(five, 6)
-	if status, _, problem := testutil.Runs(t, mirrorArguments...); status != 1 ||
+	if status, _, problem := testkit.Runs(t, mirrorArguments...); status != 1 ||
 		!strings.Contains(problem, "there were 5 at 7 ms before") {
 		t.Errorf("an earlier timestamp than that of the mirror: status %d, %q", status, problem)
 	}
 	// Without a mirror, the program knows no earlier checkpoint.
-	if status, out, problem := testutil.Runs(t, append(arguments, "--once")...); status != 0 || out != expected ||
+	if status, out, problem := testkit.Runs(t, append(arguments, "--once")...); status != 0 || out != expected ||
 		problem != "" {
 		t.Errorf("without a mirror: status %d, %q and %q", status, out, problem)
 	}
@@ -55,18 +55,18 @@ func TestProgram(t *testing.T) {
 		{append(arguments, "--keep", filepath.Join(key, "below")), "not a directory"},
 		{append(arguments, "word"), `unexpected argument "word"`},
 	} {
-		if status, out, problem := testutil.Runs(t, of.arguments...); status != 1 || out != "" ||
+		if status, out, problem := testkit.Runs(t, of.arguments...); status != 1 || out != "" ||
 			!strings.HasPrefix(problem, "ctfollow: ") || !strings.Contains(problem, of.expected) {
 			t.Errorf("%q: status %d, %q and %q", of.expected, status, out, problem)
 		}
 	}
 	// A node that does not answer is asked again until the time is over. That is not an error.
-	if status, out, problem := testutil.Runs(t, append(arguments, "--nodes", "http://127.0.0.1:1", "--for",
+	if status, out, problem := testkit.Runs(t, append(arguments, "--nodes", "http://127.0.0.1:1", "--for",
 		"50ms")...); status != 0 || !strings.HasSuffix(out, "0 entries were read, and all was right\n") ||
 		problem != "" {
 		t.Errorf("no node answers: status %d, %q and %q", status, out, problem)
 	}
-	if status, out, _ := testutil.Runs(t, "--version"); status != 0 || !strings.HasPrefix(out, "ctfollow ") {
+	if status, out, _ := testkit.Runs(t, "--version"); status != 0 || !strings.HasPrefix(out, "ctfollow ") {
 		t.Errorf("--version: status %d, %q", status, out)
 	}
 }

@@ -12,8 +12,8 @@ import (
 	"strings"
 	"testing"
 
-	"wagtenib/internal/testlog"
-	"wagtenib/internal/testutil"
+	"wagtenib/internal/testkit"
+	"wagtenib/internal/testkit/testlog"
 	"wagtenib/internal/watch"
 	"wagtenib/internal/watch/namesearch"
 	"wagtenib/internal/watch/watchstore"
@@ -42,18 +42,18 @@ func TestEvidence(t *testing.T) {
 	none := write(keys, "none", []byte("no key"))
 	for key, expected := range map[string]string{own: "two roots of 300 leaves", stranger: "another key",
 		none: "not a public key"} {
-		status, out, problem := testutil.Runs(t, "evidence", folder, key)
+		status, out, problem := testkit.Runs(t, "evidence", folder, key)
 		if (status == 0) != (key == own) || !strings.Contains(out+problem, expected) {
 			t.Errorf("%s: status %d: %s%s", filepath.Base(key), status, out, problem)
 		}
 	}
 	write(folder, "head-2", log.Checkpoint()[:60])
-	if status, out, problem := testutil.Runs(t, "evidence", folder, own); status != 1 ||
+	if status, out, problem := testkit.Runs(t, "evidence", folder, own); status != 1 ||
 		!strings.Contains(problem, "head-2") {
 		t.Errorf("half a head: status %d: %s%s", status, out, problem)
 	}
 	must(t, os.Remove(filepath.Join(folder, "head-2")))
-	if status, _, problem := testutil.Runs(t, "evidence", folder, own); status != 1 ||
+	if status, _, problem := testkit.Runs(t, "evidence", folder, own); status != 1 ||
 		!strings.Contains(problem, "head-2 is missing") {
 		t.Errorf("no head: status %d: %s", status, problem)
 	}
@@ -92,13 +92,13 @@ func TestEvidenceOfAFork(t *testing.T) {
 			must(t, os.WriteFile(filepath.Join(folder, name), content, 0o600))
 		}
 		must(t, os.WriteFile(key, pem.EncodeToMemory(&pem.Block{Type: "PUBLIC KEY", Bytes: log.PublicKey()}), 0o600))
-		if status, out, problem := testutil.Runs(t, "evidence", folder, key); status != 0 ||
+		if status, out, problem := testkit.Runs(t, "evidence", folder, key); status != 0 ||
 			!strings.Contains(out, "two roots of 300 leaves") {
 			t.Errorf("%s: status %d: %s%s", kind, status, out, problem)
 		}
 		head := filepath.Join(folder, watch.FileHead)
 		must(t, os.WriteFile(head, evidence.Files[watch.FileFirst], 0o600))
-		if status, out, problem := testutil.Runs(t, "evidence", folder, key); status != 1 {
+		if status, out, problem := testkit.Runs(t, "evidence", folder, key); status != 1 {
 			t.Errorf("%s: the same head twice: status %d: %s%s", kind, status, out, problem)
 		}
 	}

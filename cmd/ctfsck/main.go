@@ -1,6 +1,6 @@
 // Command ctfsck checks a log by what it published in a folder or a bucket: ctfsck FOLDER|s3://.. KEY.PEM [ANSWERS..].
 // KEY.PEM has the log's public key. A file of answers is one that ctload --answers wrote. Each of its lines is a JSON
-// object with the fields of logcheck.Answer. ctfsck prints what it saw. If something is wrong, it prints that, and its
+// object with the fields of judge.Answer. ctfsck prints what it saw. If something is wrong, it prints that, and its
 // status is 1.
 //
 // ctfsck evidence FOLDER KEY.PEM checks the evidence against a log that a monitor stored in a folder. It prints what
@@ -16,9 +16,9 @@ import (
 	"os"
 	"strings"
 
-	"wagtenib/internal/logcheck"
-	"wagtenib/internal/stores"
-	"wagtenib/internal/version"
+	"wagtenib/internal/audit/judge"
+	"wagtenib/internal/blob"
+	"wagtenib/internal/command/version"
 )
 
 const (
@@ -76,7 +76,7 @@ func main() {
 		fmt.Println(shown)
 		return
 	}
-	report, err := judge(os.Args[1], os.Args[2], os.Args[3:])
+	report, err := judgeLog(os.Args[1], os.Args[2], os.Args[3:])
 	if err != nil {
 		fmt.Fprintln(os.Stderr, err)
 		os.Exit(1)
@@ -103,55 +103,55 @@ func judgeEvidence(folder, keyFile string) (string, error) {
 	if err != nil {
 		return "", err
 	}
-	return logcheck.Evidence(folder, key)
+	return judge.Evidence(folder, key)
 }
 
-func judge(folder, keyFile string, answerFiles []string) (logcheck.Report, error) {
+func judgeLog(folder, keyFile string, answerFiles []string) (judge.Report, error) {
 	key, err := readKey(keyFile)
 	if err != nil {
-		return logcheck.Report{}, err
+		return judge.Report{}, err
 	}
-	var answers []logcheck.Answer
+	var answers []judge.Answer
 	for _, name := range answerFiles {
 		if answers, err = readAnswers(name, answers); err != nil {
-			return logcheck.Report{}, err
+			return judge.Report{}, err
 		}
 	}
 	if strings.HasPrefix(folder, "s3://") {
 		copied, err := os.MkdirTemp("", "ctfsck")
 		if err != nil {
-			return logcheck.Report{}, err
+			return judge.Report{}, err
 		}
 		defer os.RemoveAll(copied)
 		if err := fetch(folder, copied); err != nil {
-			return logcheck.Report{}, err
+			return judge.Report{}, err
 		}
 		folder = copied
 	}
-	report, err := logcheck.Folder(folder, key, answers)
+	report, err := judge.Folder(folder, key, answers)
 	if err != nil {
 		return report, err
 	}
-	_, err = logcheck.Precertificates(folder)
+	_, err = judge.Precertificates(folder)
 	return report, err
 }
 
 // fetch copies a bucket into a folder, except its staged batches.
 func fetch(address, folder string) error {
 	ctx := context.Background()
-	objects, err := stores.ObjectsAt(ctx, address)
+	objects, err := blob.ObjectsAt(ctx, address)
 	if err != nil {
 		return err
 	}
 	defer objects.Close()
-	_, err = stores.Copy(ctx, objects, folder, "staging/", "conditional-put/")
+	_, err = blob.Copy(ctx, objects, folder, "staging/", "conditional-put/")
 	return err
 }
 
 // maxLine is the maximum number of bytes of a line of an answers file.
 const maxLine = 1 << 20
 
-func readAnswers(name string, answers []logcheck.Answer) ([]logcheck.Answer, error) {
+func readAnswers(name string, answers []judge.Answer) ([]judge.Answer, error) {
 	file, err := os.Open(name)
 	if err != nil {
 		return nil, err
@@ -161,7 +161,7 @@ func readAnswers(name string, answers []logcheck.Answer) ([]logcheck.Answer, err
 	lines.Buffer(nil, maxLine)
 	number := 1
 	for ; lines.Scan(); number++ {
-		var a logcheck.Answer
+		var a judge.Answer
 		var fields map[string]json.RawMessage
 		err := json.Unmarshal(lines.Bytes(), &a)
 		if err == nil {
@@ -182,7 +182,7 @@ func readAnswers(name string, answers []logcheck.Answer) ([]logcheck.Answer, err
 	return answers, nil
 }
 
-// missing returns the name of a field of logcheck.Answer that a line lacks, or an empty text. The line of a
+// missing returns the name of a field of judge.Answer that a line lacks, or an empty text. The line of a
 // precertificate has issuer_key_hash and tbs_certificate, and the line of a certificate has certificate.
 func missing(fields map[string]json.RawMessage) string {
 	names := []string{"log_id", "timestamp", "extensions", "signature", "certificate"}

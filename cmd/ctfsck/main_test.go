@@ -19,18 +19,18 @@ import (
 	"strings"
 	"testing"
 
-	"wagtenib/internal/logcheck"
-	"wagtenib/internal/testutil"
+	"wagtenib/internal/audit/judge"
+	"wagtenib/internal/testkit"
 )
 
-var must = testutil.Must
+var must = testkit.Must
 
-func TestMain(m *testing.M) { testutil.Main(m, main) }
+func TestMain(m *testing.M) { testkit.Main(m, main) }
 
 // log is a log with one leaf, whose certificate is longer than the default maximum of a scanner's line.
 type log struct {
 	folder, key string
-	answer      logcheck.Answer
+	answer      judge.Answer
 }
 
 func newLog(t testing.TB) log {
@@ -59,7 +59,7 @@ func newLog(t testing.TB) log {
 	message = append(binary.BigEndian.AppendUint64(message, 1), root[:]...)
 	blob := append(binary.BigEndian.AppendUint64(append([]byte{}, name[:4]...), head), signed(message)...)
 	l := log{t.TempDir(), filepath.Join(t.TempDir(), "log.pem"),
-		logcheck.Answer{Certificate: certificate, Timestamp: timestamp, Extensions: extensions,
+		judge.Answer{Certificate: certificate, Timestamp: timestamp, Extensions: extensions,
 			Signature: signed(leaf), LogID: id[:]}}
 	in := base64.StdEncoding
 	for name, content := range map[string][]byte{
@@ -76,7 +76,7 @@ func newLog(t testing.TB) log {
 }
 
 // file returns a file with these answers.
-func file(t testing.TB, answers ...logcheck.Answer) string {
+func file(t testing.TB, answers ...judge.Answer) string {
 	path := filepath.Join(t.TempDir(), "answers")
 	var lines bytes.Buffer
 	for _, answer := range answers {
@@ -90,17 +90,17 @@ func file(t testing.TB, answers ...logcheck.Answer) string {
 // has no key or answer.
 func TestJudge(t *testing.T) {
 	l := newLog(t)
-	report, err := judge(l.folder, l.key, []string{file(t, l.answer), file(t, l.answer, l.answer), file(t)})
-	if expected := (logcheck.Report{Heads: 1, Leaves: 1, Tiles: 2, Answers: 3}); err != nil || report != expected {
+	report, err := judgeLog(l.folder, l.key, []string{file(t, l.answer), file(t, l.answer, l.answer), file(t)})
+	if expected := (judge.Report{Heads: 1, Leaves: 1, Tiles: 2, Answers: 3}); err != nil || report != expected {
 		t.Fatalf("%+v, expected %+v: %v", report, expected, err)
 	}
 	wrong := l.answer
 	wrong.Timestamp++
-	if _, err := judge(l.folder, l.key, []string{file(t, wrong), file(t, l.answer)}); err == nil ||
+	if _, err := judgeLog(l.folder, l.key, []string{file(t, wrong), file(t, l.answer)}); err == nil ||
 		!strings.Contains(err.Error(), "answer 0") {
 		t.Errorf("a wrong answer of the first file: %v", err)
 	}
-	if _, err := judge(l.folder, l.key, []string{file(t, l.answer), file(t, wrong)}); err == nil ||
+	if _, err := judgeLog(l.folder, l.key, []string{file(t, l.answer), file(t, wrong)}); err == nil ||
 		!strings.Contains(err.Error(), "answer 1") {
 		t.Errorf("a wrong answer of the second file: %v", err)
 	}
@@ -111,7 +111,7 @@ func TestJudge(t *testing.T) {
 	} {
 		path := filepath.Join(t.TempDir(), "key")
 		must(t, os.WriteFile(path, []byte(text), 0o600))
-		if _, err := judge(l.folder, path, nil); err == nil ||
+		if _, err := judgeLog(l.folder, path, nil); err == nil ||
 			!strings.Contains(err.Error(), "is not a public key in PEM") {
 			t.Errorf("%s in place of a key: %v", what, err)
 		}
@@ -120,14 +120,14 @@ func TestJudge(t *testing.T) {
 	whole, err := os.ReadFile(file(t, l.answer))
 	must(t, err)
 	must(t, os.WriteFile(long, append(whole, strings.Repeat(" ", maxLine)+"{}\n"...), 0o600))
-	if _, err := judge(l.folder, l.key, []string{long}); !errors.Is(err, bufio.ErrTooLong) ||
+	if _, err := judgeLog(l.folder, l.key, []string{long}); !errors.Is(err, bufio.ErrTooLong) ||
 		!strings.Contains(err.Error(), long+": line 2: ") {
 		t.Errorf("a line that is too long: %v", err)
 	}
 	for _, text := range []string{"x\n", "[]\n", `{"timestamp":"7"}` + "\n", "null\n", "{\n}\n"} {
 		path := filepath.Join(t.TempDir(), "answers")
 		must(t, os.WriteFile(path, []byte(text), 0o600))
-		if _, err := judge(l.folder, l.key, []string{path}); err == nil ||
+		if _, err := judgeLog(l.folder, l.key, []string{path}); err == nil ||
 			!strings.Contains(err.Error(), path+": not an answers file of ctload: line 1") {
 			t.Errorf("%q: %v", text, err)
 		}
@@ -138,7 +138,7 @@ func TestJudge(t *testing.T) {
 		if of[2] != "" {
 			files = append(files, of[2])
 		}
-		if _, err := judge(of[0], of[1], files); !errors.Is(err, os.ErrNotExist) {
+		if _, err := judgeLog(of[0], of[1], files); !errors.Is(err, os.ErrNotExist) {
 			t.Errorf("%q: %v", of, err)
 		}
 	}
@@ -155,7 +155,7 @@ func TestRefusesOtherAnswers(t *testing.T) {
 		must(t, err)
 		must(t, os.WriteFile(path, append(whole, text+"\n"...), 0o600))
 		expected = path + ": not an answers file of ctload: line 2 has no field " + expected + " "
-		if _, err := judge(l.folder, l.key, []string{path}); err == nil || !strings.Contains(err.Error(), expected) {
+		if _, err := judgeLog(l.folder, l.key, []string{path}); err == nil || !strings.Contains(err.Error(), expected) {
 			t.Errorf("%s: %v, expected %q", what, err, expected)
 		}
 	}
@@ -167,7 +167,7 @@ func TestRefusesOtherAnswers(t *testing.T) {
 	precertificate.Certificate, precertificate.IssuerKeyHash = nil, make([]byte, 32)
 	precertificate.TBSCertificate = []byte{1}
 	for _, of := range []struct {
-		answer logcheck.Answer
+		answer judge.Answer
 		names  []string
 	}{
 		{l.answer, []string{"log_id", "timestamp", "extensions", "signature", "certificate"}},
@@ -192,7 +192,7 @@ func TestRefusesOtherAnswers(t *testing.T) {
 // TestHelp checks that a request for help prints what each argument is on standard output, with status 0.
 func TestHelp(t *testing.T) {
 	for _, arguments := range [][]string{{"--help"}, {"-h"}, {"help"}, {"evidence", "--help"}} {
-		status, out, problem := testutil.Runs(t, arguments...)
+		status, out, problem := testkit.Runs(t, arguments...)
 		if status != 0 || problem != "" {
 			t.Errorf("%q: status %d and %q", arguments, status, problem)
 		}
@@ -223,7 +223,7 @@ func TestStatus(t *testing.T) {
 		{nil, 2, "", "ctfsck FOLDER"},
 		{[]string{"--version"}, 0, "ctfsck ", ""},
 	} {
-		if status, out, problem := testutil.Runs(t, of.arguments...); status != of.status ||
+		if status, out, problem := testkit.Runs(t, of.arguments...); status != of.status ||
 			!strings.HasPrefix(out, of.out) || (of.out == "") != (out == "") ||
 			!strings.Contains(problem, of.problem) || (of.problem == "") != (problem == "") {
 			t.Errorf("%q: status %d, %q and %q", of.arguments, status, out, problem)

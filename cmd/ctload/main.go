@@ -1,6 +1,6 @@
 // Command ctload submits certificates and precertificates of its own CA to the nodes of a log, and measures how long
 // they take. Before it begins, it adds its root to a file of roots, runs a command that makes the nodes reload their
-// roots, and waits until each node has the root. It writes each SCT as a line that ctfsck checks (logcheck.Answer). If
+// roots, and waits until each node has the root. It writes each SCT as a line that ctfsck checks (judge.Answer). If
 // a submission is not answered, ctload sends it to the next node, until it is answered.
 //
 // It ends after its time or at a signal. The status is 1 if a submission was refused as wrong.
@@ -28,9 +28,9 @@ import (
 
 	"golang.org/x/sync/errgroup"
 
-	"wagtenib/internal/httpserver/fakelog"
-	"wagtenib/internal/logcheck"
-	"wagtenib/internal/version"
+	"wagtenib/internal/audit/judge"
+	"wagtenib/internal/command/version"
+	"wagtenib/internal/testkit/fakelog"
 )
 
 // load submits certificates to the nodes of a log.
@@ -67,7 +67,7 @@ type results struct {
 type submission struct {
 	call string
 	body []byte
-	of   logcheck.Answer
+	of   judge.Answer
 }
 
 const (
@@ -306,16 +306,16 @@ func (l *load) next(random *rand.Rand) (submission, error) {
 func (l *load) make(random *rand.Rand) (submission, error) {
 	if random.Intn(3) > 0 {
 		der, err := l.authority.Issue(false, l.notAfter)
-		return submission{"add-chain", fakelog.Submission(der), logcheck.Answer{Certificate: der}}, err
+		return submission{"add-chain", fakelog.Submission(der), judge.Answer{Certificate: der}}, err
 	}
 	der, tbs, err := l.authority.IssuePair(l.notAfter)
 	issuer := sha256.Sum256(l.authority.Root.RawSubjectPublicKeyInfo)
 	return submission{"add-pre-chain", fakelog.Submission(der),
-		logcheck.Answer{IssuerKeyHash: issuer[:], TBSCertificate: tbs}}, err
+		judge.Answer{IssuerKeyHash: issuer[:], TBSCertificate: tbs}}, err
 }
 
 // submit sends a submission to one node after the other until one answers. It returns nil if the context ends before.
-func (l *load) submit(ctx context.Context, s submission, at int) (*logcheck.Answer, error) {
+func (l *load) submit(ctx context.Context, s submission, at int) (*judge.Answer, error) {
 	for ; ctx.Err() == nil; at++ {
 		status, reply, err := l.post(ctx, l.nodes[at%len(l.nodes)]+"/ct/v1/"+s.call, s.body)
 		why := "no answer"
@@ -353,7 +353,7 @@ func (l *load) post(ctx context.Context, address string, body []byte) (int, []by
 }
 
 // readAnswer reads an SCT (RFC 6962, section 4.1).
-func readAnswer(s submission, reply []byte) (*logcheck.Answer, error) {
+func readAnswer(s submission, reply []byte) (*judge.Answer, error) {
 	var read struct {
 		Version    int    `json:"sct_version"`
 		ID         []byte `json:"id"`
@@ -370,7 +370,7 @@ func readAnswer(s submission, reply []byte) (*logcheck.Answer, error) {
 }
 
 // store writes an answer to the file, and stores its latency.
-func (l *load) store(s submission, answer logcheck.Answer, latency time.Duration) error {
+func (l *load) store(s submission, answer judge.Answer, latency time.Duration) error {
 	l.mu.Lock()
 	defer l.mu.Unlock()
 	if l.count++; len(l.past) < maxPast {

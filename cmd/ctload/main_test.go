@@ -18,14 +18,14 @@ import (
 	"testing"
 	"time"
 
-	"wagtenib/internal/httpserver/fakelog"
-	"wagtenib/internal/logcheck"
-	"wagtenib/internal/testutil"
+	"wagtenib/internal/audit/judge"
+	"wagtenib/internal/testkit"
+	"wagtenib/internal/testkit/fakelog"
 )
 
-var must = testutil.Must
+var must = testkit.Must
 
-func limited(t testing.TB) context.Context { return testutil.Limited(t, testutil.Longest) }
+func limited(t testing.TB) context.Context { return testkit.Limited(t, testkit.Longest) }
 
 // node is a node of a log whose answers are determined by the test.
 type node struct {
@@ -72,7 +72,7 @@ func loadOf(t testing.TB, nodes ...*node) (*load, *bytes.Buffer) {
 	return l, &answers
 }
 
-var some = submission{"add-chain", []byte(`{"chain":[]}`), logcheck.Answer{Certificate: []byte("a certificate")}}
+var some = submission{"add-chain", []byte(`{"chain":[]}`), judge.Answer{Certificate: []byte("a certificate")}}
 
 // TestSubmit checks that after an answer that a node is busy, late or broken, the next node is asked, that a submission
 // that is refused as wrong is not repeated, and that answers are returned with their entries.
@@ -82,7 +82,7 @@ func TestSubmit(t *testing.T) {
 	answers := newNode(t, answerRight)
 	l, _ := loadOf(t, answers, busy, many)
 	answer, err := l.submit(limited(t), some, 1)
-	expected := logcheck.Answer{Certificate: []byte("a certificate"), Timestamp: 7, Extensions: []byte{3, 4},
+	expected := judge.Answer{Certificate: []byte("a certificate"), Timestamp: 7, Extensions: []byte{3, 4},
 		Signature: []byte{5, 6}, LogID: []byte{1, 2}}
 	if err != nil || fmt.Sprint(*answer) != fmt.Sprint(expected) {
 		t.Fatalf("%+v, %v", answer, err)
@@ -146,7 +146,7 @@ func (zeros) Seed(int64)   {}
 func TestNext(t *testing.T) {
 	l, _ := loadOf(t)
 	random := rand.New(zeros{})
-	must(t, l.store(some, logcheck.Answer{}, time.Second))
+	must(t, l.store(some, judge.Answer{}, time.Second))
 	s, err := l.next(random)
 	if must(t, err); s.call != "add-pre-chain" || len(s.of.TBSCertificate) == 0 || len(s.of.IssuerKeyHash) != 32 ||
 		s.of.Certificate != nil {
@@ -187,7 +187,7 @@ func TestStore(t *testing.T) {
 	for i := 0; i < maxPast+3; i++ {
 		one := some
 		one.call = fmt.Sprint(i)
-		must(t, l.store(one, logcheck.Answer{Timestamp: uint64(i)}, time.Duration(i)*time.Millisecond))
+		must(t, l.store(one, judge.Answer{Timestamp: uint64(i)}, time.Duration(i)*time.Millisecond))
 	}
 	calls := map[string]bool{}
 	for _, one := range l.past {
@@ -205,7 +205,7 @@ func TestStore(t *testing.T) {
 	// The newest latencies are also stored.
 	l.latencies, l.answers = make([]time.Duration, maxLatencies), json.NewEncoder(io.Discard)
 	for i := 0; i < 3; i++ {
-		must(t, l.store(some, logcheck.Answer{}, time.Hour))
+		must(t, l.store(some, judge.Answer{}, time.Hour))
 	}
 	hours := 0
 	for _, latency := range l.latencies {
@@ -218,7 +218,7 @@ func TestStore(t *testing.T) {
 	}
 	full := errors.New("the disk is full")
 	l.answers = json.NewEncoder(failing{full})
-	if err := l.store(some, logcheck.Answer{}, 0); !errors.Is(err, full) {
+	if err := l.store(some, judge.Answer{}, 0); !errors.Is(err, full) {
 		t.Error(err)
 	}
 }
@@ -298,7 +298,7 @@ func TestRunClients(t *testing.T) {
 		answerRight(nth, w)
 	})
 	l, _ = loadOf(t, refuses)
-	timeout := time.AfterFunc(testutil.Longest, func() { l.mu.Lock(); defer l.mu.Unlock(); l.maxAnswers = 1 })
+	timeout := time.AfterFunc(testkit.Longest, func() { l.mu.Lock(); defer l.mu.Unlock(); l.maxAnswers = 1 })
 	defer timeout.Stop()
 	err := l.runClients(limited(t), 3, time.Minute)
 	if err == nil || !strings.Contains(err.Error(), ": 400: ") {

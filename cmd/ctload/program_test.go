@@ -16,11 +16,11 @@ import (
 	"testing"
 	"time"
 
-	"wagtenib/internal/logcheck"
-	"wagtenib/internal/testutil"
+	"wagtenib/internal/audit/judge"
+	"wagtenib/internal/testkit"
 )
 
-func TestMain(m *testing.M) { testutil.Main(m, main) }
+func TestMain(m *testing.M) { testkit.Main(m, main) }
 
 // TestProgram checks that the program adds its root to the file before it runs the command that makes the nodes reload
 // it, that its certificates expire on the given day, and that it appends the answers to the file.
@@ -53,7 +53,7 @@ func TestProgram(t *testing.T) {
 	arguments := []string{"--nodes", server.URL, "--roots", roots, "--answers", answers, "--clients", "1", "--most",
 		"6",
 		"--repeats", "0", "--not-after", "2027-03-01", "--reload", "cp " + roots + " " + reloaded}
-	status, out, problem := testutil.Runs(t, arguments...)
+	status, out, problem := testkit.Runs(t, arguments...)
 	if rootRequests.Load() < 2 {
 		t.Error("the program does not wait for its root")
 	}
@@ -67,7 +67,7 @@ func TestProgram(t *testing.T) {
 		t.Fatalf("%d lines, the first of which is %s", len(lines), lines[0])
 	}
 	for _, line := range lines[1:] {
-		var answer logcheck.Answer
+		var answer judge.Answer
 		must(t, json.Unmarshal([]byte(line), &answer))
 		if answer.Timestamp != 7 || len(answer.Certificate) == 0 == (len(answer.TBSCertificate) == 0) {
 			t.Errorf("%s", line)
@@ -91,12 +91,12 @@ func TestProgram(t *testing.T) {
 		{append(arguments, "word"), `unexpected argument "word"`},
 		{append(arguments, "--ready", "-1"), "--ready must be 0 or more"},
 	} {
-		if status, out, problem := testutil.Runs(t, of.arguments...); status != 1 || out != "" ||
+		if status, out, problem := testkit.Runs(t, of.arguments...); status != 1 || out != "" ||
 			!strings.Contains(problem, of.expected) || submitted.Load() != 6 {
 			t.Errorf("%q: status %d, %q and %q", of.expected, status, out, problem)
 		}
 	}
-	if status, out, _ := testutil.Runs(t, "--version"); status != 0 || !strings.HasPrefix(out, "ctload ") {
+	if status, out, _ := testkit.Runs(t, "--version"); status != 0 || !strings.HasPrefix(out, "ctload ") {
 		t.Errorf("--version: status %d, %q", status, out)
 	}
 }
@@ -124,12 +124,12 @@ func TestTimed(t *testing.T) {
 	defer server.Close()
 	arguments := []string{"--nodes", server.URL, "--roots", roots, "--answers", filepath.Join(folder, "answers"),
 		"--rate", "1000"}
-	if status, out, problem := testutil.Runs(t, append(arguments, "--for", "100ms")...); status != 0 || problem != "" ||
+	if status, out, problem := testkit.Runs(t, append(arguments, "--for", "100ms")...); status != 0 || problem != "" ||
 		!strings.HasPrefix(out, "0 answered in ") {
 		t.Errorf("status %d, %q and %q", status, out, problem)
 	}
 	refusesAll.Store(true)
-	if status, _, problem := testutil.Runs(t, append(arguments, "--for", "1h")...); status != 1 ||
+	if status, _, problem := testkit.Runs(t, append(arguments, "--for", "1h")...); status != 1 ||
 		!strings.Contains(problem, ": 400: ") {
 		t.Errorf("status %d, %q", status, problem)
 	}

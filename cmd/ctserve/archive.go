@@ -13,11 +13,11 @@ import (
 	"syscall"
 	"time"
 
-	"wagtenib/internal/chains"
-	"wagtenib/internal/logarchive"
-	"wagtenib/internal/signature"
-	"wagtenib/internal/stores"
-	"wagtenib/internal/tile"
+	"wagtenib/internal/blob"
+	"wagtenib/internal/ct"
+	"wagtenib/internal/log/archive"
+	"wagtenib/internal/log/chain"
+	"wagtenib/internal/tiles"
 )
 
 // archivePage is what `ctserve archive --help` prints before the flags.
@@ -64,7 +64,7 @@ func runArchive(arguments []string, stdout, stderr io.Writer) error {
 	}
 	ctx, stop := signal.NotifyContext(context.Background(), syscall.SIGTERM, syscall.SIGINT)
 	defer stop()
-	head, err := logarchive.Make(ctx, given.folder, of, options)
+	head, err := archive.Make(ctx, given.folder, of, options)
 	if err != nil {
 		return err
 	}
@@ -74,7 +74,7 @@ func runArchive(arguments []string, stdout, stderr io.Writer) error {
 }
 
 // log returns the log to be archived, and the options to read it. The error names the flag that is wrong.
-func (a *archiveFlags) log(address string) (of logarchive.Log, options logarchive.Options, err error) {
+func (a *archiveFlags) log(address string) (of archive.Log, options archive.Options, err error) {
 	if a.key == "" || a.folder == "" {
 		return of, options, errors.New("archive needs --key and --folder")
 	}
@@ -82,7 +82,7 @@ func (a *archiveFlags) log(address string) (of logarchive.Log, options logarchiv
 	if !found {
 		return of, options, fmt.Errorf("URL %q is not an address (write https://HOST/PATH)", address)
 	}
-	of = logarchive.Log{URL: address, Origin: a.origin}
+	of = archive.Log{URL: address, Origin: a.origin}
 	if of.Origin == "" {
 		of.Origin = strings.TrimSuffix(host, "/")
 	}
@@ -97,7 +97,7 @@ func (a *archiveFlags) log(address string) (of logarchive.Log, options logarchiv
 	if block == nil || block.Type != "PUBLIC KEY" {
 		return of, options, fmt.Errorf("--key: %s has no public key in PEM", a.key)
 	}
-	if _, err := signature.ParseKey(block.Bytes); err != nil {
+	if _, err := ct.ParseKey(block.Bytes); err != nil {
 		return of, options, fmt.Errorf("--key: %s: %w", a.key, err)
 	}
 	of.PublicKey = block.Bytes
@@ -107,11 +107,11 @@ func (a *archiveFlags) log(address string) (of logarchive.Log, options logarchiv
 
 // openArchive opens an archive as a log that accepts no submissions.
 func openArchive(ctx context.Context, n node) (*opened, error) {
-	of, err := logarchive.Open(ctx, n.archive)
+	of, err := archive.Open(ctx, n.archive)
 	if err != nil {
 		return nil, err
 	}
-	return &opened{log: of, proofs: tile.NewProver(of.Object, n.maxProofs), key: of.Key(), calls: &stores.Calls{},
+	return &opened{log: of, proofs: tiles.NewProver(of.Object, n.maxProofs), key: of.Key(), calls: &blob.Calls{},
 		close: of.Close}, nil
 }
 
@@ -141,14 +141,14 @@ func (s *settings) validateArchive() error {
 		s.notice = archiveNotice
 	}
 	var err error
-	n.origin, err = logarchive.OriginOf(n.archive)
+	n.origin, err = archive.OriginOf(n.archive)
 	return err
 }
 
 // loadRoots reads the roots of the log. An archive has none.
-func (s *settings) loadRoots() (*chains.Roots, error) {
+func (s *settings) loadRoots() (*chain.Roots, error) {
 	if s.node.archive != "" {
-		return chains.NoRoots(), nil
+		return chain.NoRoots(), nil
 	}
 	return s.roots.Load()
 }
@@ -157,7 +157,7 @@ func (s *settings) loadRoots() (*chains.Roots, error) {
 func checkArchive(n node) (string, error) {
 	ctx, cancel := context.WithTimeout(context.Background(), n.openWithin)
 	defer cancel()
-	of, err := logarchive.Open(ctx, n.archive)
+	of, err := archive.Open(ctx, n.archive)
 	if err != nil {
 		return "", err
 	}

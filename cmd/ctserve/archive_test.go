@@ -20,8 +20,8 @@ import (
 
 	"golang.org/x/mod/sumdb/tlog"
 
-	"wagtenib/internal/signature"
-	"wagtenib/internal/testutil"
+	"wagtenib/internal/ct"
+	"wagtenib/internal/testkit"
 )
 
 // archiveEntries is the environment variable with the number of entries of the log of TestArchive, if it is not 300.
@@ -79,7 +79,7 @@ func entriesOf(t *testing.T, address string, size int64) (hashes tlog.HashReader
 		wantsJSON(t, address, fmt.Sprintf("/ct/v1/get-entries?start=%d&end=%d", len(leaves), size-1), &answer)
 		for _, each := range answer.Entries {
 			more, err := tlog.StoredHashes(int64(len(leaves)), each.Leaf, hashes)
-			testutil.Must(t, err)
+			testkit.Must(t, err)
 			stored, leaves = append(stored, more...), append(leaves, each.Leaf)
 		}
 	}
@@ -121,7 +121,7 @@ func TestArchive(t *testing.T) {
 	if text := os.Getenv(archiveEntries); text != "" {
 		var err error
 		size, err = strconv.ParseInt(text, 10, 64)
-		testutil.Must(t, err)
+		testkit.Must(t, err)
 	}
 	at := newPlace(t)
 	p := started(t, "", at.realArguments("--signing-key", at.path("log.pem"), "--create", "--max-connections-per-address",
@@ -161,10 +161,10 @@ func wantsHead(t *testing.T, log, archive, key string, size int64, hashes tlog.H
 		t.Errorf("get-sth: %s, and the log answers %s", answer, signed)
 	}
 	root, err := tlog.TreeHash(size, hashes)
-	testutil.Must(t, err)
+	testkit.Must(t, err)
 	block, _ := pem.Decode([]byte(key))
 	_, checkpoint := read(archive, "/checkpoint")
-	head, err := signature.OpenCheckpoint([]byte(checkpoint), "log.example/test", block.Bytes)
+	head, err := ct.OpenCheckpoint([]byte(checkpoint), "log.example/test", block.Bytes)
 	if err != nil || int64(head.TreeSize) != size || head.Root != root {
 		t.Errorf("/checkpoint: %d entries, root %x, not %x: %v", head.TreeSize, head.Root, root, err)
 	}
@@ -206,7 +206,7 @@ func wantsSameAnswers(t *testing.T, log, archive string, size int64) {
 func wantsProofs(t *testing.T, address string, size int64, hashes tlog.HashReader, leaves [][]byte) {
 	t.Helper()
 	root, err := tlog.TreeHash(size, hashes)
-	testutil.Must(t, err)
+	testkit.Must(t, err)
 	for _, index := range some(size, 100) {
 		var answer struct {
 			Index int64    `json:"leaf_index"`
@@ -228,7 +228,7 @@ func wantsProofs(t *testing.T, address string, size int64, hashes tlog.HashReade
 		}
 		wantsJSON(t, address, fmt.Sprintf("/ct/v1/get-sth-consistency?first=%d&second=%d", first, size), &answer)
 		before, err := tlog.TreeHash(first, hashes)
-		testutil.Must(t, err)
+		testkit.Must(t, err)
 		if err := tlog.CheckTree(asHashes(answer.Proof), size, root, first, before); err != nil {
 			t.Errorf("the proof from %d entries: %v", first, err)
 		}

@@ -9,8 +9,8 @@ import (
 	"testing"
 	"time"
 
-	"wagtenib/internal/chains"
-	"wagtenib/internal/httpserver/fakelog"
+	"wagtenib/internal/log/chain"
+	"wagtenib/internal/testkit/fakelog"
 )
 
 // TestSettings checks the rules for arguments and the config file.
@@ -105,7 +105,7 @@ func TestSettings(t *testing.T) {
 			t.Errorf("%s: %v", origin, err)
 		}
 	}
-	for text, want := range map[string]chains.Rules{
+	for text, want := range map[string]chain.Rules{
 		"":                 {ServerAuthentication: true},
 		"any-purpose true": {},
 		"refuse-expired true\nrefuse-not-yet-valid true": {ServerAuthentication: true, RefuseExpired: true,

@@ -17,11 +17,11 @@ import (
 	"syscall"
 	"time"
 
-	"wagtenib/internal/chains"
-	"wagtenib/internal/compliance"
+	"wagtenib/internal/audit/probe"
+	"wagtenib/internal/command/settingsfile"
+	"wagtenib/internal/command/version"
+	"wagtenib/internal/log/chain"
 	"wagtenib/internal/logclient"
-	"wagtenib/internal/settingsfile"
-	"wagtenib/internal/version"
 )
 
 // auditPage is what `ctserve audit --help` prints before the flags.
@@ -39,7 +39,7 @@ type auditFlags struct {
 	issuer, issuerKey, chains                         string
 	availability                                      float64
 	latency                                           time.Duration
-	schedule                                          compliance.Schedule
+	schedule                                          probe.Schedule
 }
 
 func (a *auditFlags) add(to *flag.FlagSet) {
@@ -81,12 +81,12 @@ func runAudit(arguments []string, stdout, stderr io.Writer) error {
 	if err != nil {
 		return fmt.Errorf("%w: %v", errUsage, err)
 	}
-	options.Notify = func(check string, fault compliance.Fault) {
+	options.Notify = func(check string, fault probe.Fault) {
 		fmt.Fprintf(stderr, "%s %s: %s\n", fault.Time.UTC().Format(time.RFC3339), check, fault.Text)
 	}
 	ctx, stop := signal.NotifyContext(context.Background(), syscall.SIGTERM, syscall.SIGINT)
 	defer stop()
-	report, err := compliance.Run(ctx, options)
+	report, err := probe.Run(ctx, options)
 	if err != nil {
 		return err
 	}
@@ -113,7 +113,7 @@ func addressLast(arguments []string) []string {
 func isPercentage(number float64) bool { return number >= 0 && number <= 100 }
 
 // write writes the report into its two files.
-func (a *auditFlags) write(report compliance.Report) error {
+func (a *auditFlags) write(report probe.Report) error {
 	if a.report == "" {
 		return nil
 	}
@@ -128,9 +128,9 @@ func (a *auditFlags) write(report compliance.Report) error {
 }
 
 // options returns the options that the flags set. The error names the flag that is wrong.
-func (a *auditFlags) options(address string) (options compliance.Options, err error) {
-	options = compliance.Options{SubmissionURL: address, MonitoringURL: a.monitoring, Schedule: a.schedule,
-		Bounds: compliance.Bounds{Availability: a.availability / 100, Latency: a.latency}}
+func (a *auditFlags) options(address string) (options probe.Options, err error) {
+	options = probe.Options{SubmissionURL: address, MonitoringURL: a.monitoring, Schedule: a.schedule,
+		Bounds: probe.Bounds{Availability: a.availability / 100, Latency: a.latency}}
 	options.Schedule.Slow = time.Minute
 	if err := a.check(address); err != nil {
 		return options, err
@@ -142,7 +142,7 @@ func (a *auditFlags) options(address string) (options compliance.Options, err er
 		return options, err
 	}
 	if a.roots != "" {
-		roots, err := chains.RootFiles{Paths: strings.Split(a.roots, ",")}.Load()
+		roots, err := chain.RootFiles{Paths: strings.Split(a.roots, ",")}.Load()
 		if err != nil {
 			return options, fmt.Errorf("--wanted-roots: %w", err)
 		}
@@ -173,7 +173,7 @@ func (a *auditFlags) check(address string) error {
 }
 
 // expects reads the log's entry in a log list into the options.
-func (a *auditFlags) expects(address string, options *compliance.Options) error {
+func (a *auditFlags) expects(address string, options *probe.Options) error {
 	if a.listEntry == "" {
 		return nil
 	}
@@ -181,7 +181,7 @@ func (a *auditFlags) expects(address string, options *compliance.Options) error 
 	if err != nil {
 		return fmt.Errorf("--list-entry: %w", err)
 	}
-	expected, err := compliance.ReadExpected(content)
+	expected, err := probe.ReadExpected(content)
 	if err != nil {
 		return fmt.Errorf("--list-entry %s: %w", a.listEntry, err)
 	}
@@ -193,12 +193,12 @@ func (a *auditFlags) expects(address string, options *compliance.Options) error 
 }
 
 // submitter returns the source of the chains.
-func (a *auditFlags) submitter() (compliance.Submitter, error) {
+func (a *auditFlags) submitter() (probe.Submitter, error) {
 	switch hasIssuer := a.issuer != "" || a.issuerKey != ""; {
 	case a.chains != "" && hasIssuer:
 		return nil, errors.New("--chains and --issuer are two kinds of chains (give one of them)")
 	case a.chains != "":
-		return asSubmitter(compliance.NewFolder(a.chains))
+		return asSubmitter(probe.NewFolder(a.chains))
 	case !hasIssuer:
 		return nil, errors.New("there is nothing to submit (give --issuer and --issuer-key, or --chains)")
 	case a.issuer == "" || a.issuerKey == "":
@@ -212,11 +212,11 @@ func (a *auditFlags) submitter() (compliance.Submitter, error) {
 	if err != nil {
 		return nil, fmt.Errorf("--issuer-key: %w", err)
 	}
-	return asSubmitter(compliance.NewAuthority(certificates, key))
+	return asSubmitter(probe.NewAuthority(certificates, key))
 }
 
 // asSubmitter returns a submitter, or a nil interface if there is an error.
-func asSubmitter[S compliance.Submitter](of S, err error) (compliance.Submitter, error) {
+func asSubmitter[S probe.Submitter](of S, err error) (probe.Submitter, error) {
 	if err != nil {
 		return nil, err
 	}

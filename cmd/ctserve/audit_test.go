@@ -22,8 +22,8 @@ import (
 	"github.com/minio/minio-go/v7"
 	"github.com/minio/minio-go/v7/pkg/credentials"
 
-	"wagtenib/internal/httpserver/fakelog"
-	"wagtenib/internal/testutil"
+	"wagtenib/internal/testkit"
+	"wagtenib/internal/testkit/fakelog"
 )
 
 // audited is a log on a folder that `ctserve audit` checks, with the files that it needs.
@@ -40,7 +40,7 @@ func newAudited(t *testing.T) audited {
 	key := at.authorityKey()
 	at.write("ca.pem", at.authority.PEM())
 	at.write("ca.key", key)
-	address := testutil.Free(t)
+	address := testkit.Free(t)
 	at.write("settings", []byte(strings.Join([]string{"origin log.example/2027h1",
 		"signing-key " + at.path("log.pem"), "roots " + at.path("roots.pem"),
 		"folder " + at.path("log"), "interval 50ms", "not-after-start 2027-01-01", "not-after-limit 2027-07-01",
@@ -57,14 +57,14 @@ func newAudited(t *testing.T) audited {
 		"--issuer", at.path("ca.pem"),
 		"--issuer-key", at.path("ca.key"), "--wanted-roots", at.path("roots.pem"), "--poll-interval", "100ms",
 		"--submit-interval", "300ms",
-		"--min-availability", "0", "--max-latency", testutil.Longest.String(), "--report", at.path("report")}}
+		"--min-availability", "0", "--max-latency", testkit.Longest.String(), "--report", at.path("report")}}
 }
 
 // authorityKey makes a new authority the only root, and returns its key.
 func (p *place) authorityKey() []byte {
 	p.t.Helper()
 	authority, err := fakelog.NewAuthority("A test CA")
-	testutil.Must(p.t, err)
+	testkit.Must(p.t, err)
 	p.authority = authority
 	p.write("roots.pem", authority.PEM())
 	return authority.KeyPEM()
@@ -104,11 +104,11 @@ func TestAuditOverEngines(t *testing.T) {
 func bucket(t *testing.T, engine, name string) string {
 	t.Helper()
 	at, err := url.Parse(engine)
-	testutil.Must(t, err)
+	testkit.Must(t, err)
 	secret, _ := at.User.Password()
 	client, err := minio.New(at.Host, &minio.Options{Creds: credentials.NewStaticV4(at.User.Username(), secret, "")})
-	testutil.Must(t, err)
-	testutil.Must(t, client.MakeBucket(context.Background(), name, minio.MakeBucketOptions{}))
+	testkit.Must(t, err)
+	testkit.Must(t, client.MakeBucket(context.Background(), name, minio.MakeBucketOptions{}))
 	return fmt.Sprintf("s3://%s@%s/%s?tls=no", at.User, at.Host, name)
 }
 
@@ -155,12 +155,12 @@ func (at audited) judgeReport(stdout string) {
 	t := at.t
 	t.Helper()
 	text, err := os.ReadFile(at.path("report"))
-	testutil.Must(t, err)
+	testkit.Must(t, err)
 	if string(text) != stdout || !strings.HasPrefix(stdout, "log.example/2027h1: passed\n") {
 		t.Errorf("the report %q is not the printed one", text)
 	}
 	content, err := os.ReadFile(at.path("report.json"))
-	testutil.Must(t, err)
+	testkit.Must(t, err)
 	var report struct {
 		Passed bool `json:"passed"`
 		Checks []struct {
@@ -169,7 +169,7 @@ func (at audited) judgeReport(stdout string) {
 			Tried   int    `json:"tried"`
 		} `json:"checks"`
 	}
-	testutil.Must(t, json.Unmarshal(content, &report))
+	testkit.Must(t, json.Unmarshal(content, &report))
 	if !report.Passed || len(report.Checks) == 0 {
 		t.Errorf("the report in JSON: %s", content)
 	}
@@ -198,7 +198,7 @@ func TestAuditFindsMissingRoot(t *testing.T) {
 	at := newAudited(t)
 	started(t, "", append(at.arguments, "--create")...)
 	other, err := fakelog.NewAuthority("A root that is missing")
-	testutil.Must(t, err)
+	testkit.Must(t, err)
 	at.write("wanted.pem", append(other.PEM(), at.authority.PEM()...))
 	status, stdout, stderr := does(append(at.audit, "--for", "1s", "--wanted-roots", at.path("wanted.pem"))...)
 	if status != 1 || !strings.HasPrefix(stdout, "log.example/2027h1: FAILED: roots\n") || !strings.Contains(stdout,
@@ -213,10 +213,10 @@ func TestAuditArguments(t *testing.T) {
 	t.Parallel()
 	at := newAudited(t)
 	other, err := fakelog.NewAuthority("Another CA")
-	testutil.Must(t, err)
+	testkit.Must(t, err)
 	at.write("other.pem", other.PEM())
 	at.write("leaf.pem", pem.EncodeToMemory(&pem.Block{Type: "CERTIFICATE", Bytes: []byte("no certificate")}))
-	testutil.Must(t, os.Mkdir(at.path("chains"), 0o700))
+	testkit.Must(t, os.Mkdir(at.path("chains"), 0o700))
 	ca := []string{"--issuer", at.path("ca.pem"), "--issuer-key", at.path("ca.key")}
 	for want, arguments := range map[string][]string{
 		"wrong number of arguments": {},
@@ -287,19 +287,19 @@ func TestAuditFolder(t *testing.T) {
 	at := newAudited(t)
 	p := started(t, "", append(at.arguments, "--create")...)
 	folder := at.path("chains")
-	testutil.Must(t, os.Mkdir(folder, 0o700))
+	testkit.Must(t, os.Mkdir(folder, 0o700))
 	for _, isPrecertificate := range []bool{false, true} {
 		der, err := at.authority.Issue(isPrecertificate, time.Date(2027, 3, 1, 0, 0, 0, 0, time.UTC))
-		testutil.Must(t, err)
+		testkit.Must(t, err)
 		_, err = x509.ParseCertificate(der)
-		testutil.Must(t, err)
+		testkit.Must(t, err)
 		name := map[bool]string{false: "certificate.pem", true: "precertificate.pem"}[isPrecertificate]
 		text := append(pem.EncodeToMemory(&pem.Block{Type: "CERTIFICATE", Bytes: der}), at.authority.PEM()...)
-		testutil.Must(t, os.WriteFile(filepath.Join(folder, name), text, 0o600))
+		testkit.Must(t, os.WriteFile(filepath.Join(folder, name), text, 0o600))
 	}
 	arguments := []string{"audit", at.audit[1], "--chains", folder, "--for", "2s", "--poll-interval", "50ms",
 		"--submit-interval", "100ms", "--min-availability", "0",
-		"--max-latency", testutil.Longest.String()}
+		"--max-latency", testkit.Longest.String()}
 	if status, stdout, stderr := does(arguments...); status != 0 || sizeOf(p) != 2 {
 		t.Errorf("status %d, %d entries: %s%s", status, sizeOf(p), stderr, stdout)
 	}
@@ -310,15 +310,15 @@ func TestAuditOverTLS(t *testing.T) {
 	t.Parallel()
 	at := newAudited(t)
 	host, _, err := net.SplitHostPort(strings.TrimPrefix(at.audit[1], "http://"))
-	testutil.Must(t, err)
+	testkit.Must(t, err)
 	key, err := ecdsa.GenerateKey(elliptic.P256(), rand.Reader)
-	testutil.Must(t, err)
+	testkit.Must(t, err)
 	template := &x509.Certificate{SerialNumber: big.NewInt(1), NotAfter: time.Now().AddDate(1, 0, 0),
 		IPAddresses: []net.IP{net.ParseIP(host)}}
 	der, err := x509.CreateCertificate(rand.Reader, template, template, &key.PublicKey, key)
-	testutil.Must(t, err)
+	testkit.Must(t, err)
 	private, err := x509.MarshalPKCS8PrivateKey(key)
-	testutil.Must(t, err)
+	testkit.Must(t, err)
 	at.write("tls.pem", pem.EncodeToMemory(&pem.Block{Type: "CERTIFICATE", Bytes: der}))
 	at.write("tls.key", pem.EncodeToMemory(&pem.Block{Type: "PRIVATE KEY", Bytes: private}))
 	started(t, "", append(at.arguments, "--create", "--tls-certificate", at.path("tls.pem"), "--tls-key",

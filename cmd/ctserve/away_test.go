@@ -9,8 +9,8 @@ import (
 	"testing"
 	"time"
 
-	"wagtenib/internal/logcheck"
-	"wagtenib/internal/testutil"
+	"wagtenib/internal/audit/judge"
+	"wagtenib/internal/testkit"
 )
 
 // TestReadsGoOn checks what happens while a log's lock is missing, another process has locked its lock file, or the
@@ -42,7 +42,7 @@ func TestReadsGoOn(t *testing.T) {
 		},
 		"the disk is read-only": func(t *testing.T, disk string) func() {
 			remounts := func(flags uintptr) {
-				for until := time.Now().Add(testutil.Longest); ; time.Sleep(10 * time.Millisecond) {
+				for until := time.Now().Add(testkit.Longest); ; time.Sleep(10 * time.Millisecond) {
 					err := syscall.Mount("tmpfs", disk, "tmpfs", syscall.MS_REMOUNT|flags, "")
 					if err == nil {
 						return
@@ -70,8 +70,8 @@ func TestReadsGoOn(t *testing.T) {
 			}
 			arguments := at.realArguments(more...)
 			p := started(t, "", append(arguments, "--create")...)
-			var answers []logcheck.Answer
-			for until := time.Now().Add(testutil.Longest); len(answers) < 5; {
+			var answers []judge.Answer
+			for until := time.Now().Add(testkit.Longest); len(answers) < 5; {
 				status, text, one := at.submitted(t, p)
 				if status == 200 {
 					answers = append(answers, one)
@@ -89,7 +89,7 @@ func TestReadsGoOn(t *testing.T) {
 				readsAll(t, p, what, answers)
 			}
 			repair()
-			for until := time.Now().Add(testutil.Longest); ; time.Sleep(50 * time.Millisecond) {
+			for until := time.Now().Add(testkit.Longest); ; time.Sleep(50 * time.Millisecond) {
 				status, text, _ := at.submitted(t, p)
 				if status == 200 {
 					break
@@ -116,7 +116,7 @@ func TestObjectsAway(t *testing.T) {
 	p := started(t, "", append(arguments, "--create")...)
 	submitted := func(wanted int, what string) {
 		t.Helper()
-		for until := time.Now().Add(testutil.Longest); ; time.Sleep(50 * time.Millisecond) {
+		for until := time.Now().Add(testkit.Longest); ; time.Sleep(50 * time.Millisecond) {
 			status, text, _ := at.submitted(t, p)
 			if status == wanted {
 				return
@@ -151,7 +151,7 @@ func TestObjectsAway(t *testing.T) {
 		}
 	}
 	text, err := starts()
-	for until := time.Now().Add(testutil.Longest); isLate(text) && time.Now().Before(until); {
+	for until := time.Now().Add(testkit.Longest); isLate(text) && time.Now().Before(until); {
 		text, err = starts()
 	}
 	if err == nil || !strings.Contains(text, "the folder of the objects") {

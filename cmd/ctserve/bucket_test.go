@@ -27,11 +27,11 @@ import (
 
 	"golang.org/x/mod/sumdb/tlog"
 
-	"wagtenib/internal/logcheck"
-	"wagtenib/internal/signer"
-	"wagtenib/internal/testbucket"
-	"wagtenib/internal/testutil"
-	"wagtenib/internal/tile"
+	"wagtenib/internal/audit/judge"
+	"wagtenib/internal/log/signer"
+	"wagtenib/internal/testkit"
+	"wagtenib/internal/testkit/testbucket"
+	"wagtenib/internal/tiles"
 )
 
 // bucketReader is a monitor that reads a log only from its bucket. It verifies what it reads with the log's key and
@@ -137,12 +137,12 @@ func (r *bucketReader) grows(now tlog.Tree) error {
 		}
 	}
 	for first := r.tree.N / 256 * 256; first < now.N; first += 256 {
-		name := tile.Name(tlog.Tile{H: 8, L: -1, N: first / 256, W: int(min(now.N-first, 256))})
+		name := tiles.Name(tlog.Tile{H: 8, L: -1, N: first / 256, W: int(min(now.N-first, 256))})
 		content, err := r.get(name)
 		if err != nil {
 			return err
 		}
-		leaves, err := tile.ReadData(content)
+		leaves, err := tiles.ReadData(content)
 		if err != nil || int64(len(leaves)) != min(now.N-first, 256) {
 			return fmt.Errorf("%s: %d entries, %v", name, len(leaves), err)
 		}
@@ -236,7 +236,7 @@ func TestBucketServesThroughKills(t *testing.T) {
 	if text := os.Getenv("CTSERVE_KILLS"); text != "" {
 		var err error
 		kills, err = strconv.ParseInt(text, 10, 64)
-		testutil.Must(t, err)
+		testkit.Must(t, err)
 	}
 	at, bucket := newPlace(t), testbucket.New(true)
 	key := at.publicKey()
@@ -265,7 +265,7 @@ func TestBucketServesThroughKills(t *testing.T) {
 		k := &killed{bucket: bucket, onCheckpoint: onCheckpoint}
 		server := httptest.NewServer(k)
 		defer server.Close()
-		listen := testutil.Free(t)
+		listen := testkit.Free(t)
 		clients = append(clients, listen)
 		arguments := append(at.bucketArguments(server.URL), "--listen", listen, "--operator-listen", "", "--create",
 			"--public-store", "--latest-head", at.path(fmt.Sprintf("latest-head-%d", i)))
@@ -276,14 +276,14 @@ func TestBucketServesThroughKills(t *testing.T) {
 		}()
 	}
 	answered := int64(0)
-	for late := time.Now().Add(testutil.Longest); left.Load() > 0 || answered < 5; {
+	for late := time.Now().Add(testkit.Longest); left.Load() > 0 || answered < 5; {
 		if time.Now().After(late) {
 			t.Errorf("the test takes too long: %d kills and %d answers", kills-left.Load(), answered)
 			break
 		}
 		if status, _ := post(clients[rand.Intn(2)], at.submission()); status == http.StatusOK {
 			answered++
-			late = time.Now().Add(testutil.Longest)
+			late = time.Now().Add(testkit.Longest)
 		}
 		size, err := monitor.look()
 		if err != nil && monitor.heads > 0 {
@@ -319,10 +319,10 @@ func (p *place) bucketArguments(url string) []string {
 func (p *place) publicKey() *ecdsa.PublicKey {
 	p.t.Helper()
 	of, err := signer.OpenKey(p.path("log.pem"))
-	testutil.Must(p.t, err)
+	testkit.Must(p.t, err)
 	defer of.Close()
 	key, err := x509.ParsePKIXPublicKey(of.Key())
-	testutil.Must(p.t, err)
+	testkit.Must(p.t, err)
 	return key.(*ecdsa.PublicKey)
 }
 
@@ -358,16 +358,16 @@ func (k *killed) runs(ctx context.Context, t *testing.T, arguments []string, ran
 func asked(t *testing.T, url, accepted, ranged string) (body []byte, encoding string) {
 	t.Helper()
 	request, err := http.NewRequest(http.MethodGet, url, nil)
-	testutil.Must(t, err)
+	testkit.Must(t, err)
 	request.Header.Set("Accept-Encoding", accepted)
 	if ranged != "" {
 		request.Header.Set("Range", ranged)
 	}
 	answer, err := http.DefaultTransport.RoundTrip(request)
-	testutil.Must(t, err)
+	testkit.Must(t, err)
 	defer answer.Body.Close()
 	body, err = io.ReadAll(answer.Body)
-	testutil.Must(t, err)
+	testkit.Must(t, err)
 	return body, answer.Header.Get("Content-Encoding")
 }
 
@@ -394,7 +394,7 @@ func TestPublicStoreOfALogThatExists(t *testing.T) {
 		t.Error("there is a checkpoint without public-store")
 	}
 	p = started(t, "", append(arguments, "--public-store")...)
-	for until := time.Now().Add(testutil.Longest); ; time.Sleep(time.Millisecond) {
+	for until := time.Now().Add(testkit.Longest); ; time.Sleep(time.Millisecond) {
 		of, ok := bucket.Object("checkpoint")
 		isAsServed := of.Type == "text/plain; charset=utf-8" && of.Cache == "public, max-age=1"
 		if ok && string(of.Content) == checkpoint && isAsServed {
@@ -408,7 +408,7 @@ func TestPublicStoreOfALogThatExists(t *testing.T) {
 	for name, want := range map[string]string{"tile/data/000.p/1": "", "tile/data/000.p/2": "gzip"} {
 		stored, _ := bucket.Object(name)
 		content, err := unpacked(stored.Content, stored.Encoding)
-		testutil.Must(t, err)
+		testkit.Must(t, err)
 		if stored.Encoding != want {
 			t.Errorf("%s is stored in %q", name, stored.Encoding)
 		}
@@ -427,7 +427,7 @@ func TestPublicStoreOfALogThatExists(t *testing.T) {
 }
 
 // TestPublicFolder reads a log on a folder through a plain file server, while its node is killed after answers. At the
-// end package logcheck checks the folder.
+// end package judge checks the folder.
 func TestPublicFolder(t *testing.T) {
 	t.Parallel()
 	at := newPlace(t)
@@ -436,7 +436,7 @@ func TestPublicFolder(t *testing.T) {
 	defer files.Close()
 	reader := &bucketReader{key: at.publicKey(), get: overHTTP(files.URL)}
 	arguments := at.arguments("--create", "--public-store", "--guard-state", "file:"+at.path("guard"))
-	var answers []logcheck.Answer
+	var answers []judge.Answer
 	for range 4 {
 		p := started(t, "", arguments...)
 		for range 2 {
@@ -453,9 +453,9 @@ func TestPublicFolder(t *testing.T) {
 		p.ends()
 	}
 	of, err := signer.OpenKey(at.path("log.pem"))
-	testutil.Must(t, err)
+	testkit.Must(t, err)
 	defer of.Close()
-	report, err := logcheck.Folder(at.path("log/objects"), of.Key(), answers)
+	report, err := judge.Folder(at.path("log/objects"), of.Key(), answers)
 	if err != nil || report.Leaves < len(answers) {
 		t.Errorf("%+v, %v", report, err)
 	}

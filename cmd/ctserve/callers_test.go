@@ -17,8 +17,8 @@ import (
 	"testing"
 	"time"
 
-	"wagtenib/internal/httpserver/fakelog"
-	"wagtenib/internal/testutil"
+	"wagtenib/internal/testkit"
+	"wagtenib/internal/testkit/fakelog"
 )
 
 // stranger is the id of nobody, who owns nothing of a log. spare is the id of a user and of a group that exist nowhere
@@ -62,10 +62,10 @@ func becomes(uid, group int) error {
 func enterable(t *testing.T, group int) string {
 	t.Helper()
 	folder, err := os.MkdirTemp("", "ctserve-")
-	testutil.Must(t, err)
+	testkit.Must(t, err)
 	t.Cleanup(func() { os.RemoveAll(folder) })
-	testutil.Must(t, os.Chown(folder, 0, group))
-	testutil.Must(t, os.Chmod(folder, 0o750))
+	testkit.Must(t, os.Chown(folder, 0, group))
+	testkit.Must(t, os.Chmod(folder, 0o750))
 	return folder
 }
 
@@ -76,8 +76,8 @@ func signerAt(t *testing.T, at *place, socket string, more ...string) (<-chan st
 		"file:" + at.path("guard"), "--create", "--listen", socket}, more...)...)
 	command.Env = append(os.Environ(), childKey+"=1")
 	output, err := command.StderrPipe()
-	testutil.Must(t, err)
-	testutil.Must(t, command.Start())
+	testkit.Must(t, err)
+	testkit.Must(t, command.Start())
 	lines := make(chan string, 100)
 	go func() {
 		defer close(lines)
@@ -89,7 +89,7 @@ func signerAt(t *testing.T, at *place, socket string, more ...string) (<-chan st
 		_ = command.Process.Kill()
 		_ = command.Wait()
 	})
-	for until := time.Now().Add(testutil.Longest); ; time.Sleep(5 * time.Millisecond) {
+	for until := time.Now().Add(testkit.Longest); ; time.Sleep(5 * time.Millisecond) {
 		if isThere(socket) {
 			return lines, command.Process
 		}
@@ -107,7 +107,7 @@ func answerTo(socket, line string) (string, error) {
 		return "", err
 	}
 	defer connection.Close()
-	if err := connection.SetDeadline(time.Now().Add(testutil.Longest)); err != nil {
+	if err := connection.SetDeadline(time.Now().Add(testkit.Longest)); err != nil {
 		return "", err
 	}
 	// This fails if the connection is closed already.
@@ -128,7 +128,7 @@ func headOf(t *testing.T, address string) (size, timestamp uint64, root []byte) 
 		Root      []byte `json:"sha256_root_hash"`
 	}
 	_, text := read(address, "/ct/v1/get-sth")
-	testutil.Must(t, json.Unmarshal([]byte(text), &head))
+	testkit.Must(t, json.Unmarshal([]byte(text), &head))
 	return head.Size, head.Timestamp, head.Root
 }
 
@@ -145,7 +145,7 @@ func longerHead(t *testing.T, address string) string {
 	longer := sha256.Sum256(append(append([]byte{1}, root...), leaf[:]...))
 	line, err := json.Marshal(map[string]any{"consistency": [][]byte{leaf[:]},
 		"head": map[string]any{"sha256_root_hash": longer[:], "timestamp": timestamp + 1, "tree_size": 5}})
-	testutil.Must(t, err)
+	testkit.Must(t, err)
 	return string(line)
 }
 
@@ -156,7 +156,7 @@ func TestStrangerCannotSign(t *testing.T) {
 	t.Parallel()
 	at, socket := newPlace(t), filepath.Join(enterable(t, spare), "signer")
 	lines, _ := signerAt(t, at, socket)
-	testutil.Must(t, os.Chown(socket, 0, spare))
+	testkit.Must(t, os.Chown(socket, 0, spare))
 	p := started(t, "", at.realArguments("--signer-socket", socket, "--create", "--submission-timeout", "1m",
 		"--shutdown-timeout", "1m")...)
 	for range 4 {
@@ -165,7 +165,7 @@ func TestStrangerCannotSign(t *testing.T) {
 		}
 	}
 	line, answer := longerHead(t, p.clients), ""
-	testutil.Must(t, as(t, stranger, spare, func() (err error) {
+	testkit.Must(t, as(t, stranger, spare, func() (err error) {
 		answer, err = answerTo(socket, line)
 		return err
 	}))
@@ -181,7 +181,7 @@ func TestStrangerCannotSign(t *testing.T) {
 		if !strings.Contains(line, `"event":"refused-caller"`) || !strings.Contains(line, `"uid":65534`) {
 			t.Errorf("the signer reports %s", line)
 		}
-	case <-time.After(testutil.Longest):
+	case <-time.After(testkit.Longest):
 		t.Error("the signer does not report the stranger")
 	}
 	p.signal(syscall.SIGTERM)
@@ -195,13 +195,13 @@ func TestAllowedUsers(t *testing.T) {
 	t.Parallel()
 	at, socket := newPlace(t), filepath.Join(enterable(t, spare), "signer")
 	signerAt(t, at, socket, "--allow-users", fmt.Sprint("daemon, ", spare))
-	testutil.Must(t, os.Chown(socket, 0, spare))
+	testkit.Must(t, os.Chown(socket, 0, spare))
 	for _, user := range []struct {
 		uid     int
 		answers bool
 	}{{0, true}, {spare, true}, {1, true}, {spare + 1, false}, {stranger, false}} {
 		answer := ""
-		testutil.Must(t, as(t, user.uid, spare, func() (err error) {
+		testkit.Must(t, as(t, user.uid, spare, func() (err error) {
 			answer, err = answerTo(socket, `{"last":true}`)
 			return err
 		}))
@@ -216,7 +216,7 @@ func TestWrongSignerArguments(t *testing.T) {
 	t.Parallel()
 	at := newPlace(t)
 	at.write("open.pem", []byte("a key"))
-	testutil.Must(t, os.Chmod(at.path("open.pem"), 0o640))
+	testkit.Must(t, os.Chmod(at.path("open.pem"), 0o640))
 	key := []string{"--signing-key", at.path("log.pem")}
 	for _, test := range []struct {
 		arguments []string
@@ -243,7 +243,7 @@ func TestWrongSignerArguments(t *testing.T) {
 func TestSignerUnit(t *testing.T) {
 	t.Parallel()
 	text, err := os.ReadFile("../../release/systemd/ctserve-signer@.service")
-	testutil.Must(t, err)
+	testkit.Must(t, err)
 	value := func(name string) string {
 		_, rest, _ := strings.Cut("\n"+string(text), "\n"+name+"=")
 		line, _, _ := strings.Cut(rest, "\n")
@@ -254,13 +254,13 @@ func TestSignerUnit(t *testing.T) {
 	if len(words) < 2 || words[1] != "signer" {
 		t.Fatalf("the unit starts %q", words)
 	}
-	testutil.Must(t, parseFlags(flags, words[2:], 0))
-	testutil.Must(t, s.validate())
+	testkit.Must(t, parseFlags(flags, words[2:], 0))
+	testkit.Must(t, s.validate())
 	if folder := "/run/" + value("RuntimeDirectory"); filepath.Dir(s.socket.Path) != folder ||
 		value("RuntimeDirectoryMode") != "0700" || s.socket.Users != nil || !s.guard {
 		t.Errorf("the socket %s is not in %s with the mode %s", s.socket.Path, folder, value("RuntimeDirectoryMode"))
 	}
-	testutil.Says(t, testutil.Page(t, "../../docs/OPERATING.md"), map[string]bool{
+	testkit.Says(t, testkit.Page(t, "../../docs/OPERATING.md"), map[string]bool{
 		"signer-socket " + s.socket.Path: true,
 	})
 }
@@ -276,7 +276,7 @@ func TestHangingSigner(t *testing.T) {
 	if status, text := post(p.clients, at.submission()); status != 200 {
 		t.Fatalf("%d %s", status, text)
 	}
-	testutil.Must(t, process.Signal(syscall.SIGSTOP))
+	testkit.Must(t, process.Signal(syscall.SIGSTOP))
 	answers, body := make(chan int, 1), at.submission()
 	go func() {
 		status, _ := post(p.clients, body)
@@ -296,7 +296,7 @@ func TestHangingSigner(t *testing.T) {
 	if line := p.until("fault"); !strings.Contains(fmt.Sprint(line["detail"]), "signer: no reply for more than") {
 		t.Errorf("the fault is %v", line)
 	}
-	testutil.Must(t, process.Signal(syscall.SIGCONT))
+	testkit.Must(t, process.Signal(syscall.SIGCONT))
 	p.shows("ctserve_fault 0")
 	if status, text := post(p.clients, at.submission()); status != 200 {
 		t.Errorf("after the signer goes on: %d %s", status, text)

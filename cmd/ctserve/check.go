@@ -8,9 +8,9 @@ import (
 	"os"
 	"strings"
 
-	"wagtenib/internal/httpserver"
-	"wagtenib/internal/signer"
-	"wagtenib/internal/stores"
+	"wagtenib/internal/blob"
+	"wagtenib/internal/log/httpd"
+	"wagtenib/internal/log/signer"
 )
 
 // checkPage is what `ctserve check --help` prints.
@@ -38,7 +38,7 @@ func runCheck(arguments []string, stdout, stderr io.Writer) error {
 	c.report("max-merge-delay",
 		fmt.Sprintf("%v, so a head is made at least each %v", s.node.maxMergeDelay, s.node.refresh), nil)
 	if s.certificate != "" {
-		_, err := httpserver.LoadCertificate(s.certificate, s.key)
+		_, err := httpd.LoadCertificate(s.certificate, s.key)
 		c.report("tls-certificate", s.certificate, err)
 	}
 	c.reportGuard(s)
@@ -116,10 +116,10 @@ func (c *checks) checkStores(s *settings) {
 		of, text string
 		check    func(string) error
 	}{
-		{"store", s.node.store, stores.CheckObjects},
-		{"lock", s.node.lock, stores.CheckLock},
-		{"index", s.node.index, stores.CheckIndex},
-		{"guard-state", s.node.guardState, stores.CheckLock},
+		{"store", s.node.store, blob.CheckObjects},
+		{"lock", s.node.lock, blob.CheckLock},
+		{"index", s.node.index, blob.CheckIndex},
+		{"guard-state", s.node.guardState, blob.CheckLock},
 	} {
 		if address.text == "" {
 			continue

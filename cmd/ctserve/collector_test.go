@@ -10,7 +10,7 @@ import (
 	"runtime/metrics"
 	"testing"
 
-	"wagtenib/internal/testutil"
+	"wagtenib/internal/testkit"
 )
 
 // collectorKey is an environment variable that is set in a process of its own, because all tests of a process share the
@@ -53,7 +53,7 @@ func TestCollectorOfProcess(t *testing.T) {
 		holds := make([]byte, c.held)
 		runtime.GC()
 		// The test itself has some live objects, too.
-		testutil.Eventually(t, fmt.Sprintf("the garbage with %d live bytes is %d", c.held, c.want), func() bool {
+		testkit.Eventually(t, fmt.Sprintf("the garbage with %d live bytes is %d", c.held, c.want), func() bool {
 			return math.Abs(garbage()-float64(c.want)) < float64(c.want)/5+4*mib
 		})
 		runtime.KeepAlive(holds)

@@ -19,12 +19,12 @@ import (
 	"strings"
 	"time"
 
-	"wagtenib/internal/httpserver"
-	"wagtenib/internal/logservice"
-	"wagtenib/internal/settingsfile"
-	"wagtenib/internal/signer"
-	"wagtenib/internal/stores"
-	"wagtenib/internal/version"
+	"wagtenib/internal/blob"
+	"wagtenib/internal/command/settingsfile"
+	"wagtenib/internal/command/version"
+	"wagtenib/internal/log/httpd"
+	"wagtenib/internal/log/service"
+	"wagtenib/internal/log/signer"
 )
 
 // commands has the commands of ctserve, except serving, by the first argument.
@@ -231,16 +231,16 @@ func entryOf(s *settings, public []byte) listed {
 }
 
 // aboutOf returns what a log publishes about itself. If its key is not known, that is only the merge delay.
-func aboutOf(s *settings, public []byte) (httpserver.About, error) {
+func aboutOf(s *settings, public []byte) (httpd.About, error) {
 	if public == nil {
-		return httpserver.About{MaxMergeDelay: s.node.maxMergeDelay}, nil
+		return httpd.About{MaxMergeDelay: s.node.maxMergeDelay}, nil
 	}
 	entry, err := json.MarshalIndent(struct {
 		listed
 		Version string `json:"version"`
 		Notice  string `json:"notice,omitempty"`
 	}{entryOf(s, public), version.Number() + " (commit " + version.Commit() + ")", s.notice}, "", "  ")
-	about := httpserver.About{Key: public, Entry: append(entry, '\n'), MaxMergeDelay: s.node.maxMergeDelay}
+	about := httpd.About{Key: public, Entry: append(entry, '\n'), MaxMergeDelay: s.node.maxMergeDelay}
 	if s.node.archive != "" {
 		about.MaxMergeDelay = 0
 	}
@@ -301,7 +301,7 @@ func runIndex(arguments []string, stdout, stderr io.Writer) (err error) {
 	}
 	opening, cancel := context.WithTimeout(context.Background(), s.node.openWithin)
 	defer cancel()
-	if err := stores.CheckObjectsExist(s.node.store); err != nil {
+	if err := blob.CheckObjectsExist(s.node.store); err != nil {
 		return err
 	}
 	of, err := openStores(opening, s.node)
@@ -309,7 +309,7 @@ func runIndex(arguments []string, stdout, stderr io.Writer) (err error) {
 		return err
 	}
 	defer of.close()
-	return logservice.RebuildIndex(context.Background(), of.Stores, func(left uint64) {
+	return service.RebuildIndex(context.Background(), of.Stores, func(left uint64) {
 		fmt.Fprintf(stdout, "%d entries are left\n", left)
 	})
 }
@@ -330,7 +330,7 @@ func runClock(arguments []string, stdout, stderr io.Writer) error {
 		return err
 	}
 	now := time.Now()
-	if err := logservice.NameDay(s.node.namedDay, flags.Arg(1), now); err != nil {
+	if err := service.NameDay(s.node.namedDay, flags.Arg(1), now); err != nil {
 		return err
 	}
 	fmt.Fprintf(stdout, "%s: on %s the log continues. This machine's clock says %s\n", s.node.origin, flags.Arg(1),

@@ -16,8 +16,8 @@ import (
 	"testing"
 	"time"
 
-	"wagtenib/internal/httpserver/fakelog"
-	"wagtenib/internal/testutil"
+	"wagtenib/internal/testkit"
+	"wagtenib/internal/testkit/fakelog"
 )
 
 // does runs a command in this process.
@@ -283,7 +283,7 @@ func TestCommandLine(t *testing.T) {
 		command.Env = append(os.Environ(), childKey+"=1")
 		var out bytes.Buffer
 		command.Stdout = &out
-		timer := time.AfterFunc(testutil.Longest, func() { command.Process.Kill() })
+		timer := time.AfterFunc(testkit.Longest, func() { command.Process.Kill() })
 		command.Run()
 		timer.Stop()
 		if status := command.ProcessState.ExitCode(); status != c.status || out.String() != c.out {

@@ -20,8 +20,8 @@ import (
 	"testing"
 	"time"
 
-	"wagtenib/internal/httpserver/fakelog"
-	"wagtenib/internal/testutil"
+	"wagtenib/internal/testkit"
+	"wagtenib/internal/testkit/fakelog"
 )
 
 // The tests start this program again as ctserve. These are the environment variables that make it ctserve, and that set
@@ -66,7 +66,7 @@ type program struct {
 // in memory with this interval.
 func started(t *testing.T, interval string, arguments ...string) *program {
 	t.Helper()
-	for until := time.Now().Add(testutil.Longest); ; {
+	for until := time.Now().Add(testkit.Longest); ; {
 		p, line := launched(t, interval, arguments...)
 		if line["event"] == "serving" {
 			return p
@@ -98,7 +98,7 @@ func launched(t *testing.T, interval string, arguments ...string) (p *program, l
 		t.Fatal(err)
 	}
 	read := make(chan map[string]any)
-	go testutil.PassOn(read, p.lines)
+	go testkit.PassOn(read, p.lines)
 	go func() {
 		defer close(read)
 		for scanner := bufio.NewScanner(errors); scanner.Scan(); {
@@ -129,7 +129,7 @@ func launched(t *testing.T, interval string, arguments ...string) (p *program, l
 
 // runs starts ctserve in this process if it ends before it serves. It returns the exit status and the output.
 func runs(arguments []string) (status int, output string) {
-	for until := time.Now().Add(testutil.Longest); ; {
+	for until := time.Now().Add(testkit.Longest); ; {
 		var lines strings.Builder
 		status = run(arguments, &lines, openNode)
 		if output = lines.String(); !isLate(output) || time.Now().After(until) {
@@ -141,7 +141,7 @@ func runs(arguments []string) (status int, output string) {
 // until returns the next line of one of these events.
 func (p *program) until(events ...string) map[string]any {
 	p.t.Helper()
-	for late := time.After(testutil.Longest); ; {
+	for late := time.After(testkit.Longest); ; {
 		select {
 		case line, more := <-p.lines:
 			if !more {
@@ -164,7 +164,7 @@ func (p *program) until(events ...string) map[string]any {
 // shows waits until the operator's metrics have a line.
 func (p *program) shows(line string) {
 	p.t.Helper()
-	for late := time.Now().Add(testutil.Longest); ; time.Sleep(10 * time.Millisecond) {
+	for late := time.Now().Add(testkit.Longest); ; time.Sleep(10 * time.Millisecond) {
 		_, text := get(p.operator, "/metrics")
 		if strings.Contains("\n"+text, "\n"+line+"\n") {
 			return
@@ -189,7 +189,7 @@ func (p *program) ends() int {
 			return status.ExitCode()
 		}
 		return 0
-	case <-time.After(testutil.Longest):
+	case <-time.After(testkit.Longest):
 		p.t.Fatal("ctserve does not end")
 		return -1
 	}
@@ -240,7 +240,7 @@ func (p *place) write(name string, content []byte) {
 func patient() (arguments []string) {
 	for _, name := range []string{"open-timeout", "shutdown-timeout", "submission-timeout", "header-timeout",
 		"request-timeout", "response-timeout", "idle-timeout"} {
-		arguments = append(arguments, "--"+name, testutil.Longest.String())
+		arguments = append(arguments, "--"+name, testkit.Longest.String())
 	}
 	// With this delay, no head without entries is made during a test.
 	return append(arguments, "--max-merge-delay", "24h")
@@ -276,7 +276,7 @@ func read(address, path string) (int, string) {
 
 // unlessLate repeats a request until the answer does not say that it is late.
 func unlessLate(ask func() (int, string)) (status int, text string) {
-	for until := time.Now().Add(testutil.Longest); ; {
+	for until := time.Now().Add(testkit.Longest); ; {
 		if status, text = ask(); status != 503 || !strings.Contains(text, `"late"`) || time.Now().After(until) {
 			return status, text
 		}

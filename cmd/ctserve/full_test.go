@@ -13,10 +13,10 @@ import (
 	"testing"
 	"time"
 
-	"wagtenib/internal/httpserver/fakelog"
-	"wagtenib/internal/logcheck"
-	"wagtenib/internal/signer"
-	"wagtenib/internal/testutil"
+	"wagtenib/internal/audit/judge"
+	"wagtenib/internal/log/signer"
+	"wagtenib/internal/testkit"
+	"wagtenib/internal/testkit/fakelog"
 )
 
 // fill fills the file system of a folder, except for so many bytes. The function that it returns makes room again.
@@ -57,7 +57,7 @@ func TestFullDisk(t *testing.T) {
 	arguments := at.realArguments("--signing-key", at.path("log.pem"), "--guard-state", "file:"+at.path("log/guard"),
 		"--latest-head", at.path("log/latest-head"))
 	p := started(t, "", append(arguments, "--create")...)
-	var answers []logcheck.Answer
+	var answers []judge.Answer
 	submit := func() (int, string) {
 		t.Helper()
 		status, text, one := at.submitted(t, p)
@@ -68,7 +68,7 @@ func TestFullDisk(t *testing.T) {
 	}
 	again := func() {
 		t.Helper()
-		for until := time.Now().Add(testutil.Longest); ; time.Sleep(50 * time.Millisecond) {
+		for until := time.Now().Add(testkit.Longest); ; time.Sleep(50 * time.Millisecond) {
 			status, text := submit()
 			if status == 200 {
 				return
@@ -103,7 +103,7 @@ func TestFullDisk(t *testing.T) {
 			_, metrics = get(p.operator, "/metrics")
 			return status == 503 && strings.Contains(metrics, "ctserve_fault 1\n") && failures(t, p, of) > before
 		}
-		for until := time.Now().Add(testutil.Longest); ; time.Sleep(10 * time.Millisecond) {
+		for until := time.Now().Add(testkit.Longest); ; time.Sleep(10 * time.Millisecond) {
 			status, text := submit()
 			refused := status == 503 && strings.Contains(text, `"store"`)
 			if refused && atFault() {
@@ -133,7 +133,7 @@ func TestFullDisk(t *testing.T) {
 	if err != nil {
 		t.Fatal(err)
 	}
-	report, err := logcheck.Folder(filepath.Join(disk, "objects"), key.Key(), answers)
+	report, err := judge.Folder(filepath.Join(disk, "objects"), key.Key(), answers)
 	if err != nil || report.Answers < 8 || report.Repeats != 0 {
 		t.Errorf("%+v, %v", report, err)
 	}
@@ -199,7 +199,7 @@ func (at place) mount(t *testing.T) (disk string) {
 }
 
 // submitted submits a new certificate. It returns the status and text of the answer, and the parsed answer.
-func (at place) submitted(t *testing.T, p *program) (status int, text string, one logcheck.Answer) {
+func (at place) submitted(t *testing.T, p *program) (status int, text string, one judge.Answer) {
 	t.Helper()
 	der, err := at.authority.Issue(false, time.Date(2027, 1, 1, 0, 0, 0, 0, time.UTC))
 	if err != nil {
@@ -217,13 +217,13 @@ func (at place) submitted(t *testing.T, p *program) (status int, text string, on
 	if err := json.Unmarshal([]byte(text), &read); err != nil {
 		t.Fatal(err)
 	}
-	return status, text, logcheck.Answer{Certificate: der, LogID: read.ID, Timestamp: read.Timestamp,
+	return status, text, judge.Answer{Certificate: der, LogID: read.ID, Timestamp: read.Timestamp,
 		Extensions: read.Extensions, Signature: read.Signature}
 }
 
 // readsAll checks that all kinds of reads are answered, that the head covers all answered submissions, and that the
 // process is alive.
-func readsAll(t *testing.T, p *program, when string, answers []logcheck.Answer) {
+func readsAll(t *testing.T, p *program, when string, answers []judge.Answer) {
 	t.Helper()
 	var head struct {
 		Size uint64 `json:"tree_size"`
@@ -245,7 +245,7 @@ func readsAll(t *testing.T, p *program, when string, answers []logcheck.Answer) 
 }
 
 // leafOf returns the MerkleTreeLeaf of an answer for a certificate (RFC 6962, section 3.4).
-func leafOf(a logcheck.Answer) []byte {
+func leafOf(a judge.Answer) []byte {
 	leaf := append([]byte{0, 0}, make([]byte, 8)...)
 	for i := range leaf[2:] {
 		leaf[2+i] = byte(a.Timestamp >> (56 - 8*i))

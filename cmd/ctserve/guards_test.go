@@ -12,10 +12,10 @@ import (
 	"testing"
 	"time"
 
-	"wagtenib/internal/httpserver/fakelog"
-	"wagtenib/internal/logcheck"
-	"wagtenib/internal/signer"
-	"wagtenib/internal/testutil"
+	"wagtenib/internal/audit/judge"
+	"wagtenib/internal/log/signer"
+	"wagtenib/internal/testkit"
+	"wagtenib/internal/testkit/fakelog"
 )
 
 // TestRefusesRestoredFolder restores the simplest backup of a log, which is a copy of its folder while it is stopped.
@@ -89,7 +89,7 @@ func TestRebuildsLostIndex(t *testing.T) {
 	if !isThere(at.path("log/index/CURRENT")) {
 		t.Fatal("the log has no index in its folder")
 	}
-	testutil.Must(t, os.RemoveAll(at.path("log/index")))
+	testkit.Must(t, os.RemoveAll(at.path("log/index")))
 	if status, output := runs(arguments); status != statusRolledBack {
 		t.Errorf("status %d: %s", status, output)
 	}
@@ -130,7 +130,7 @@ func TestReportsUnreadableGuardState(t *testing.T) {
 	// On a busy machine the signer may report the error too late. Then it gets more time: of 30 s, it has 24 s for the
 	// state, and 6 s are left for its report.
 	within := 10 * time.Second
-	for until := time.Now().Add(testutil.Longest); ; within = 30 * time.Second {
+	for until := time.Now().Add(testkit.Longest); ; within = 30 * time.Second {
 		var output strings.Builder
 		status := run(append(arguments, "--open-timeout", within.String()), &output, openNode)
 		if status == 1 && strings.Contains(output.String(), "the guard's state (guard-state, of etcd) cannot be read") {
@@ -150,7 +150,7 @@ func TestSignerCreatesStateOnce(t *testing.T) {
 	t.Parallel()
 	at := newPlace(t)
 	at.realArguments()
-	ctx, cancel := context.WithTimeout(context.Background(), testutil.Longest)
+	ctx, cancel := context.WithTimeout(context.Background(), testkit.Longest)
 	defer cancel()
 	asked, err := askSigner(ctx, node{signingKey: at.path("log.pem"), guardState: "file:" +
 		at.path("guard"), create: true})
@@ -193,7 +193,7 @@ func TestSignerAtASocket(t *testing.T) {
 	arguments := at.realArguments("--signer-socket", socket, "--index", at.sharedIndex())
 	listening := func(key string) (kills func()) {
 		t.Helper()
-		for until := time.Now().Add(testutil.Longest); ; {
+		for until := time.Now().Add(testkit.Longest); ; {
 			command, output, ended := exec.Command(os.Args[0], "signer", "--signing-key", key, "--guard-state", "file:"+
 				at.path("guard"), "--create", "--listen", socket), &strings.Builder{}, make(chan struct{})
 			command.Env, command.Stderr = append(os.Environ(), childKey+"=1"), output
@@ -252,7 +252,7 @@ func TestSignerAtASocket(t *testing.T) {
 	wrong()
 	listening(at.path("log.pem"))
 	refused := 0
-	for until := time.Now().Add(testutil.Longest); ; refused++ {
+	for until := time.Now().Add(testkit.Longest); ; refused++ {
 		status, text := post(p.clients, at.submission())
 		if status == 200 {
 			break
@@ -290,7 +290,7 @@ func TestSignerAtASocket(t *testing.T) {
 		t.Fatal(err)
 	}
 	// Submissions that were refused without the signer may be in the log anyway.
-	if report, err := logcheck.Folder(at.path("log/objects"), opened.Key(), nil); err != nil || report.Leaves < 23 ||
+	if report, err := judge.Folder(at.path("log/objects"), opened.Key(), nil); err != nil || report.Leaves < 23 ||
 		report.Leaves > 25+refused || report.Repeats != 0 {
 		t.Errorf("%+v, %v", report, err)
 	}
@@ -304,7 +304,7 @@ func TestGuards(t *testing.T) {
 	arguments := at.realArguments("--signing-key", at.path("log.pem"), "--create")
 	lacks := func(what string, more ...string) {
 		t.Helper()
-		for until := time.Now().Add(testutil.Longest); ; {
+		for until := time.Now().Add(testkit.Longest); ; {
 			command := exec.Command(os.Args[0], append(append([]string{}, arguments...), more...)...)
 			command.Env = append(os.Environ(), childKey+"=1")
 			output, err := command.CombinedOutput()

@@ -13,7 +13,7 @@ import (
 	"testing"
 	"time"
 
-	"wagtenib/internal/testutil"
+	"wagtenib/internal/testkit"
 )
 
 // asOnPage runs the command of docs/OPERATING.md that changes Debian's nginx.conf so many times on a copy, and returns
@@ -27,20 +27,20 @@ func asOnPage(t *testing.T, often int) string {
 		t.Skipf("nginx is not that of Debian: %v", err)
 	}
 	page, err := os.ReadFile("../../docs/OPERATING.md")
-	testutil.Must(t, err)
+	testkit.Must(t, err)
 	lines := regexp.MustCompile(`(?m)^    \$ (sed -i .*) ` + own + `$`).FindStringSubmatch(string(page))
 	if lines == nil {
 		t.Fatalf("the page has no line for %s", own)
 	}
 	file := filepath.Join(t.TempDir(), "nginx.conf")
-	testutil.Must(t, os.WriteFile(file, text, 0o600))
+	testkit.Must(t, os.WriteFile(file, text, 0o600))
 	for i := 0; i < often; i++ {
 		if output, err := exec.Command("sh", "-c", lines[1]+" "+file).CombinedOutput(); err != nil {
 			t.Fatalf("%s: %s", lines[1], output)
 		}
 	}
 	changed, err := os.ReadFile(file)
-	testutil.Must(t, err)
+	testkit.Must(t, err)
 	return string(changed)
 }
 
@@ -56,7 +56,7 @@ func TestMoreConnectionsOfNginx(t *testing.T) {
 			}
 		}
 		own, err := os.ReadFile("/etc/nginx/nginx.conf")
-		testutil.Must(t, err)
+		testkit.Must(t, err)
 		if now, before := strings.Count(changed, "\n"), strings.Count(string(own), "\n"); now != before {
 			t.Errorf("%d times: the file has %d lines, and had %d", often, now, before)
 		}
@@ -67,10 +67,10 @@ func TestMoreConnectionsOfNginx(t *testing.T) {
 func half(t *testing.T, address, request string) net.Conn {
 	t.Helper()
 	connection, err := net.Dial("tcp", address)
-	testutil.Must(t, err)
+	testkit.Must(t, err)
 	t.Cleanup(func() { connection.Close() })
 	_, err = io.WriteString(connection, request)
-	testutil.Must(t, err)
+	testkit.Must(t, err)
 	return connection
 }
 
@@ -79,7 +79,7 @@ func from(t *testing.T, own, address, path string) (int, string) {
 	t.Helper()
 	dialer := net.Dialer{LocalAddr: &net.TCPAddr{IP: net.ParseIP(own)}}
 	client := http.Client{Transport: &http.Transport{DialContext: dialer.DialContext, DisableKeepAlives: true},
-		Timeout: testutil.Longest}
+		Timeout: testkit.Longest}
 	return whole(client.Get("http://" + address + path))
 }
 
@@ -99,7 +99,7 @@ func TestHalfBodiesAtNginx(t *testing.T) {
 		t.Errorf("the last that one address may have: %d %s", status, text)
 	}
 	halves = append(halves, half(t, address, begun))
-	until := time.Now().Add(testutil.Longest)
+	until := time.Now().Add(testkit.Longest)
 	for refused := false; !refused; {
 		for i := range halves {
 			// nginx closes a connection on which nothing comes for a while. Then another one is opened.
@@ -151,7 +151,7 @@ func TestHalfHeadersAtNginx(t *testing.T) {
 	}
 	at := newPlace(t)
 	p := started(t, "20ms", at.arguments("--trusted-proxies", "127.0.0.1")...)
-	address, folder := testutil.Free(t), t.TempDir()
+	address, folder := testkit.Free(t), t.TempDir()
 	nginxHaving(t, siteInClear(t, address, p.clients, filepath.Join(folder, "cache"), 64), address,
 		fmt.Sprintf("worker_rlimit_nofile %d; events { worker_connections %d; }", files, connections))
 	// On a slow machine the first connections may be closed before other clients were answered, or the test may notice
@@ -173,7 +173,7 @@ func TestHalfHeadersAtNginx(t *testing.T) {
 			}
 		}
 		for i, one := range halves {
-			one.SetReadDeadline(opened.Add(testutil.Longest))
+			one.SetReadDeadline(opened.Add(testkit.Longest))
 			if _, err := one.Read(make([]byte, 1)); err == nil || os.IsTimeout(err) {
 				t.Fatalf("half request %d is not closed: %v", i, err)
 			}

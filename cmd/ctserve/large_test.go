@@ -14,7 +14,7 @@ import (
 
 	"golang.org/x/crypto/cryptobyte"
 
-	"wagtenib/internal/testutil"
+	"wagtenib/internal/testkit"
 )
 
 // largeTile returns a data tile of so many entries, each with a certificate of so many bytes (C2SP static-ct-api).
@@ -29,7 +29,7 @@ func largeTile(t *testing.T, entries, bytes int) []byte {
 		b.AddUint16LengthPrefixed(func(*cryptobyte.Builder) {})
 	}
 	made, err := b.Bytes()
-	testutil.Must(t, err)
+	testkit.Must(t, err)
 	return made
 }
 
@@ -37,13 +37,13 @@ func largeTile(t *testing.T, entries, bytes int) []byte {
 func memoryOf(t *testing.T, process int) int64 {
 	t.Helper()
 	text, err := os.ReadFile(fmt.Sprintf("/proc/%d/status", process))
-	testutil.Must(t, err)
+	testkit.Must(t, err)
 	found := regexp.MustCompile(`VmHWM:\s+(\d+) kB`).FindSubmatch(text)
 	if found == nil {
 		t.Fatalf("the process's status has no VmHWM: %s", text)
 	}
 	peak, err := strconv.ParseInt(string(found[1]), 10, 64)
-	testutil.Must(t, err)
+	testkit.Must(t, err)
 	return peak << 10
 }
 
@@ -53,13 +53,13 @@ func memoryOf(t *testing.T, process int) int64 {
 func TestLargeTileByMany(t *testing.T) {
 	t.Parallel()
 	unit, err := os.ReadFile("../../release/systemd/ctserve@.service")
-	testutil.Must(t, err)
+	testkit.Must(t, err)
 	bound := regexp.MustCompile(`(?m)^MemoryMax=(\d+)G$`).FindSubmatch(unit)
 	if bound == nil {
 		t.Fatal("the unit has no MemoryMax")
 	}
 	gigabytes, err := strconv.ParseInt(string(bound[1]), 10, 64)
-	testutil.Must(t, err)
+	testkit.Must(t, err)
 	at := newPlace(t)
 	arguments := at.realArguments("--signing-key", at.path("log.pem"), "--scrub-interval", "1h")
 	p := started(t, "", append(arguments, "--create")...)
@@ -71,7 +71,7 @@ func TestLargeTileByMany(t *testing.T) {
 	}
 	tile := largeTile(t, entries, 32<<20/entries)
 	path := fmt.Sprintf("tile/data/000.p/%d", entries)
-	testutil.Must(t, os.WriteFile(at.path("log/objects/"+path), tile, 0o644))
+	testkit.Must(t, os.WriteFile(at.path("log/objects/"+path), tile, 0o644))
 	const addresses, each, rounds = 8, 12, 2
 	if int64(addresses*each*len(tile)) < gigabytes<<30 {
 		t.Fatalf("%d tiles of %d bytes are fewer than %d GB", addresses*each, len(tile), gigabytes)
@@ -144,7 +144,7 @@ func readStatus(address, own, path string) (string, net.Conn) {
 		return err.Error(), nil
 	}
 	var line [len("HTTP/1.1 200")]byte
-	if err = connection.SetDeadline(time.Now().Add(testutil.Longest)); err == nil {
+	if err = connection.SetDeadline(time.Now().Add(testkit.Longest)); err == nil {
 		_, err = fmt.Fprintf(connection, "GET /%s HTTP/1.1\r\nHost: log.example\r\n\r\n", path)
 	}
 	if err == nil {

@@ -19,32 +19,33 @@ import (
 	"syscall"
 	"time"
 
-	"wagtenib/internal/chains"
-	"wagtenib/internal/httpserver"
-	"wagtenib/internal/loginterface"
-	"wagtenib/internal/logservice"
-	"wagtenib/internal/settingsfile"
-	"wagtenib/internal/stores"
-	"wagtenib/internal/tile"
-	"wagtenib/internal/version"
+	"wagtenib/internal/blob"
+	"wagtenib/internal/command/eventlog"
+	"wagtenib/internal/command/settingsfile"
+	"wagtenib/internal/command/version"
+	"wagtenib/internal/log"
+	"wagtenib/internal/log/chain"
+	"wagtenib/internal/log/httpd"
+	"wagtenib/internal/log/service"
+	"wagtenib/internal/tiles"
 )
 
 // opened is an open log, with all that a front needs of it.
 type opened struct {
-	log loginterface.Log
+	log log.Log
 	// proofs makes proofs from its tiles, and cutter cuts the poison out of precertificates.
-	proofs *tile.Prover
-	cutter chains.Cutter
+	proofs *tiles.Prover
+	cutter chain.Cutter
 	// nodes returns the handler for submissions that other nodes forward, forward forwards to them, and secured has the
 	// certificates for both. All are nil if the log has one node.
 	nodes   func(front http.Handler) http.Handler
-	forward httpserver.Forwarder
+	forward httpd.Forwarder
 	secured *secured
 	key     []byte
 	// putEntry puts the log's entry for a log list into the store. It is nil unless the log is read from there.
 	putEntry func(ctx context.Context, entry []byte) error
 	// calls counts the calls of the stores.
-	calls *stores.Calls
+	calls *blob.Calls
 	// close closes the stores, the signer and the connections to other nodes.
 	close func()
 }
@@ -84,10 +85,10 @@ func run(arguments []string, to io.Writer, open opener) int {
 	surviveReader()
 	signals := make(chan os.Signal, 4)
 	signal.Notify(signals, syscall.SIGHUP, syscall.SIGTERM, syscall.SIGINT)
-	lines := httpserver.NewLines(to)
+	lines := eventlog.NewLines(to)
 	if err := serveLog(s, lines, signals, open); err != nil {
 		lines.Error("end", "fault", err)
-		if logservice.NeedsOperator(err) {
+		if service.NeedsOperator(err) {
 			return statusRolledBack
 		}
 		return 1
@@ -102,7 +103,7 @@ func run(arguments []string, to io.Writer, open opener) int {
 func surviveReader() { signal.Notify(make(chan os.Signal, 1), syscall.SIGPIPE) }
 
 // serveLog opens the log of the settings, and serves it until a signal ends it or a server fails.
-func serveLog(s *settings, lines *httpserver.Lines, signals <-chan os.Signal, open opener) (err error) {
+func serveLog(s *settings, lines *eventlog.Lines, signals <-chan os.Signal, open opener) (err error) {
 	roots, err := s.loadRoots()
 	if err != nil {
 		return err
@@ -119,7 +120,7 @@ func serveLog(s *settings, lines *httpserver.Lines, signals <-chan os.Signal, op
 		return err
 	}
 	defer of.close()
-	checker := chains.NewChecker(roots, s.rules, of.cutter)
+	checker := chain.NewChecker(roots, s.rules, of.cutter)
 	awaitHead(s, of.log)
 	about, err := aboutOf(s, of.key)
 	if err != nil {
@@ -128,7 +129,7 @@ func serveLog(s *settings, lines *httpserver.Lines, signals <-chan os.Signal, op
 	if err := putEntry(s, of, about.Entry); err != nil {
 		return err
 	}
-	front := httpserver.New(of.log, of.proofs, checker, httpserver.Options{
+	front := httpd.New(of.log, of.proofs, checker, httpd.Options{
 		Limits: s.limits, Proxies: s.proxies, Lines: lines, LogRequests: s.logRequests, ReadOnly: s.readOnly, About: about,
 		Stores: of.calls, Forward: of.forward,
 	})
@@ -140,7 +141,7 @@ func serveLog(s *settings, lines *httpserver.Lines, signals <-chan os.Signal, op
 		defer stop()
 		go front.LogFaults(ctx, faultLogInterval)
 		ending, err = wait(func() {
-			reload(s, front, checker, []*httpserver.Certificate{certificate, of.secured.nodeCertificate()}, lines)
+			reload(s, front, checker, []*httpd.Certificate{certificate, of.secured.nodeCertificate()}, lines)
 		},
 			signals, failed)
 	}
@@ -168,11 +169,11 @@ func putEntry(s *settings, of *opened, entry []byte) error {
 const headInterval = 100 * time.Millisecond
 
 // awaitHead waits for the first head of a log, but not longer than a read may take.
-func awaitHead(s *settings, of loginterface.Log) {
+func awaitHead(s *settings, of log.Log) {
 	ctx, cancel := context.WithTimeout(context.Background(), s.limits.Reading)
 	defer cancel()
 	for {
-		if _, err := of.Checkpoint(ctx); !errors.Is(err, stores.ErrAbsent) {
+		if _, err := of.Checkpoint(ctx); !errors.Is(err, blob.ErrAbsent) {
 			return
 		}
 		select {
@@ -184,14 +185,14 @@ func awaitHead(s *settings, of loginterface.Log) {
 }
 
 // logLeftOut logs the certificates in the files of roots that are not roots of the log.
-func logLeftOut(roots *chains.Roots, lines *httpserver.Lines) {
+func logLeftOut(roots *chain.Roots, lines *eventlog.Lines) {
 	for _, each := range roots.LeftOut() {
 		lines.Warn("root-left-out", "root", each)
 	}
 }
 
 // logHead logs the newest published head at the start.
-func logHead(s *settings, of loginterface.Log, lines *httpserver.Lines) {
+func logHead(s *settings, of log.Log, lines *eventlog.Lines) {
 	ctx, cancel := context.WithTimeout(context.Background(), s.limits.Reading)
 	defer cancel()
 	head, err := of.Checkpoint(ctx)
@@ -231,8 +232,8 @@ func wait(reload func(), signals <-chan os.Signal, failed <-chan error) (os.Sign
 }
 
 // reload reads the roots and the certificates again, and logs the results.
-func reload(s *settings, front *httpserver.Front, checker *chains.Checker, certificates []*httpserver.Certificate,
-	lines *httpserver.Lines) {
+func reload(s *settings, front *httpd.Front, checker *chain.Checker, certificates []*httpd.Certificate,
+	lines *eventlog.Lines) {
 	reloaded := func(of string, err error, more ...any) {
 		front.Reloaded(of, err)
 		if err != nil {

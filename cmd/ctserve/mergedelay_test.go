@@ -7,7 +7,7 @@ import (
 	"testing"
 	"time"
 
-	"wagtenib/internal/testutil"
+	"wagtenib/internal/testkit"
 )
 
 // TestMergeDelay checks that the refresh interval follows from the merge delay, and that one that breaks the merge
@@ -73,7 +73,7 @@ func TestIdleLogMakesHeads(t *testing.T) {
 		t.Errorf("/log.v3.json: %d %s", status, text)
 	}
 	first := timestampOf(t, p)
-	for until := testutil.Limited(t, testutil.Longest); timestampOf(t, p) == first; time.Sleep(10 * time.Millisecond) {
+	for until := testkit.Limited(t, testkit.Longest); timestampOf(t, p) == first; time.Sleep(10 * time.Millisecond) {
 		if until.Err() != nil {
 			t.Fatal("no head without entries was made")
 		}

@@ -11,7 +11,7 @@ import (
 	"syscall"
 	"testing"
 
-	"wagtenib/internal/testutil"
+	"wagtenib/internal/testkit"
 )
 
 // isReadersFile reports whether readers of a log may read a file or folder below the place of a log.
@@ -66,17 +66,17 @@ func TestReadersGroup(t *testing.T) {
 	t.Parallel()
 	at := newPlace(t)
 	at.folder = enterable(t, spare)
-	testutil.Must(t, os.Chmod(at.folder, 0o751))
+	testkit.Must(t, os.Chmod(at.folder, 0o751))
 	authority := at.authority
 	at.write("roots.pem", authority.PEM())
 	_, key, err := authority.KeyPair()
-	testutil.Must(t, err)
+	testkit.Must(t, err)
 	at.write("log.pem", key)
 	at.served("--create")
 	for _, earlier := range []bool{false, true} {
 		if earlier {
 			for _, name := range []string{"log", "log.guard"} {
-				testutil.Must(t, filepath.WalkDir(at.path(name), func(path string, entry fs.DirEntry, err error) error {
+				testkit.Must(t, filepath.WalkDir(at.path(name), func(path string, entry fs.DirEntry, err error) error {
 					if err != nil || entry.Name() == "lock" {
 						return err
 					}
@@ -86,13 +86,13 @@ func TestReadersGroup(t *testing.T) {
 					return os.Chmod(path, 0o644)
 				}))
 			}
-			testutil.Must(t, os.Chmod(at.path("log"), 0o750))
+			testkit.Must(t, os.Chmod(at.path("log"), 0o750))
 			at.served()
 		}
-		testutil.Must(t, os.Chown(at.path("log"), 0, spare))
+		testkit.Must(t, os.Chown(at.path("log"), 0, spare))
 		for _, group := range []int{spare, spare + 1} {
 			var found []string
-			testutil.Must(t, as(t, stranger, group, func() (err error) {
+			testkit.Must(t, as(t, stranger, group, func() (err error) {
 				for _, name := range []string{"log", "log.guard"} {
 					files, walkErr := reads(at.path(name))
 					for _, file := range files {
@@ -147,13 +147,13 @@ func TestRefusesOpenFiles(t *testing.T) {
 		{"log.pem", ""},
 	} {
 		certificate, key, err := at.authority.KeyPair()
-		testutil.Must(t, err)
+		testkit.Must(t, err)
 		for name, content := range map[string][]byte{"tls.pem": certificate, "tls.key": key, "node.key": key,
 			"settings": []byte(secured + test.lines + "\n")} {
 			at.write(name, content)
 		}
 		for _, mode := range []fs.FileMode{0o640, 0o604, 0o620} {
-			testutil.Must(t, os.Chmod(at.path(test.open), mode))
+			testkit.Must(t, os.Chmod(at.path(test.open), mode))
 			want := fmt.Sprintf("the mode %04o: other users may read or write it (run chmod 600 %s)", mode, at.path(test.open))
 			var lines strings.Builder
 			status := run([]string{"--config", at.path("settings")}, &lines, opensNothing)
@@ -164,7 +164,7 @@ func TestRefusesOpenFiles(t *testing.T) {
 				}
 			}
 		}
-		testutil.Must(t, os.Chmod(at.path(test.open), 0o600))
+		testkit.Must(t, os.Chmod(at.path(test.open), 0o600))
 		if _, err := parse([]string{"--config", at.path("settings")}, &strings.Builder{}); err != nil &&
 			!strings.Contains(test.lines, "#") {
 			t.Errorf("%q, with the mode 0600: %v", test.lines, err)
@@ -172,7 +172,7 @@ func TestRefusesOpenFiles(t *testing.T) {
 	}
 	// Settings without a password may have any mode.
 	at.write("settings", []byte(secured+"lock postgres://log@store.example/base?log=one\n"))
-	testutil.Must(t, os.Chmod(at.path("settings"), 0o644))
+	testkit.Must(t, os.Chmod(at.path("settings"), 0o644))
 	if _, err := parse([]string{"--config", at.path("settings")}, &strings.Builder{}); err != nil {
 		t.Error(err)
 	}

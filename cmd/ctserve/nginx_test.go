@@ -16,8 +16,8 @@ import (
 	"testing"
 	"time"
 
-	"wagtenib/internal/httpserver"
-	"wagtenib/internal/testutil"
+	"wagtenib/internal/log/httpd"
+	"wagtenib/internal/testkit"
 )
 
 // nginxFound returns the path of nginx. It skips the test if nginx is not installed.
@@ -37,7 +37,7 @@ func nginxFound(t *testing.T) string {
 func exampleSite(t *testing.T, replacements ...string) string {
 	t.Helper()
 	text, err := os.ReadFile("../../release/nginx/ctserve.nginx.conf")
-	testutil.Must(t, err)
+	testkit.Must(t, err)
 	site := string(text)
 	for i := 0; i < len(replacements); i += 2 {
 		if !strings.Contains(site, replacements[i]) {
@@ -104,7 +104,7 @@ func nginxHaving(t *testing.T, site, address, main string) {
 			t.Errorf("nginx logs the addresses of clients: %v %.300s", err, written)
 		}
 	})
-	for until := time.Now().Add(testutil.Longest); ; time.Sleep(20 * time.Millisecond) {
+	for until := time.Now().Add(testkit.Longest); ; time.Sleep(20 * time.Millisecond) {
 		if connection, err := net.Dial("tcp", address); err == nil {
 			connection.Close()
 			return
@@ -120,7 +120,7 @@ func nginxHaving(t *testing.T, site, address, main string) {
 func nginxBefore(t *testing.T, clients string, atOnce int) string {
 	t.Helper()
 	nginxFound(t)
-	address := testutil.Free(t)
+	address := testkit.Free(t)
 	nginxWith(t, siteInClear(t, address, clients, filepath.Join(t.TempDir(), "cache"), atOnce), address)
 	return address
 }
@@ -144,9 +144,9 @@ func TestFolderOfTiles(t *testing.T) {
 // TestExampleHasTheDefaults checks that the example has the numbers of ctserve's defaults, and that nginx closes an
 // idle connection well before ctserve does.
 func TestExampleHasTheDefaults(t *testing.T) {
-	site, limits := exampleSite(t), httpserver.DefaultLimits()
+	site, limits := exampleSite(t), httpd.DefaultLimits()
 	defaults, err := parse([]string{"--roots", "a", "--origin", "b", "--signing-key", "c"}, io.Discard)
-	testutil.Must(t, err)
+	testkit.Must(t, err)
 	for _, line := range []string{
 		"server " + defaults.listen + ";",
 		fmt.Sprintf("limit_conn ctserve_clients %d;", limits.ConnectionsByAddress),
@@ -170,10 +170,10 @@ func TestExampleHasTheDefaults(t *testing.T) {
 // HTTP/2 over TLS.
 func TestExampleOverTLS(t *testing.T) {
 	nginxFound(t)
-	at, address := newPlace(t), testutil.Free(t)
+	at, address := newPlace(t), testkit.Free(t)
 	p := started(t, "20ms", at.arguments("--trusted-proxies", "127.0.0.1")...)
 	certificate, key, err := at.authority.KeyPair()
-	testutil.Must(t, err)
+	testkit.Must(t, err)
 	at.write("log.example.pem", certificate)
 	at.write("log.example.key", key)
 	nginxWith(t, exampleSite(t, "/etc/ssl/log.example.org.", at.path("log.example."), "log.example.org", "log.example",
@@ -184,10 +184,10 @@ func TestExampleOverTLS(t *testing.T) {
 	for path, status := range map[string]int{"/ct/v1/get-sth": 200, "/ct/v1/get-roots": 200, "/checkpoint": 200,
 		"/tile/data/009": 404, "/nothing": 404} {
 		request, err := http.NewRequest("GET", "https://"+address+path, nil)
-		testutil.Must(t, err)
+		testkit.Must(t, err)
 		request.Host = "log.example"
 		answer, err := client.Do(request)
-		testutil.Must(t, err)
+		testkit.Must(t, err)
 		answer.Body.Close()
 		if answer.StatusCode != status || answer.ProtoMajor != 2 {
 			t.Errorf("%s: %d by HTTP/%d, and not %d by HTTP/2", path, answer.StatusCode, answer.ProtoMajor, status)
@@ -306,7 +306,7 @@ func TestDamagedTileBehindNginx(t *testing.T) {
 	for _, body := range bodies {
 		go func(body []byte) {
 			status, text := 503, ""
-			for until := time.Now().Add(testutil.Longest); status == 503 &&
+			for until := time.Now().Add(testkit.Longest); status == 503 &&
 				time.Now().Before(until); time.Sleep(100 * time.Millisecond) {
 				status, text = post(p.clients, body)
 			}

@@ -9,8 +9,8 @@ import (
 	"testing"
 	"time"
 
-	"wagtenib/internal/chains"
-	"wagtenib/internal/testutil"
+	"wagtenib/internal/log/chain"
+	"wagtenib/internal/testkit"
 )
 
 // defaults returns the settings that --help lists, each with its help text, which has the default if there is one.
@@ -50,12 +50,12 @@ func TestPagesNameSettings(t *testing.T) {
 	others := map[string]bool{"list-entry": true, "made-again": true, "root-left-out": true, "refused-caller": true,
 		"read-only": true, "too-often": true, "statement_timeout": true, "pre-vote": true,
 		"auto-compaction-mode=periodic": true}
-	for _, refusal := range chains.Refusals {
+	for _, refusal := range chain.Refusals {
 		others[string(refusal)] = true
 	}
 	whole := ""
 	for _, page := range []string{"../../docs/OPERATING.md", "../../docs/INCIDENTS.md"} {
-		text := testutil.Page(t, page)
+		text := testkit.Page(t, page)
 		whole += text + "\n"
 		for _, quoted := range regexp.MustCompile("`([^`]+)`").FindAllStringSubmatch(text, -1) {
 			word := strings.TrimLeft(strings.Fields(quoted[1])[0], "-")
@@ -96,8 +96,8 @@ func TestPagesNameSettings(t *testing.T) {
 // TestPageSaysBounds checks that docs/SERVICE.md states the limits that are the program's defaults.
 func TestPageSaysBounds(t *testing.T) {
 	s, err := parse([]string{"--roots", "r", "--origin", "o.example", "--signing-key", "k"}, &bytes.Buffer{})
-	testutil.Must(t, err)
-	testutil.Says(t, testutil.Page(t, "../../docs/SERVICE.md"), map[string]bool{
+	testkit.Must(t, err)
+	testkit.Says(t, testkit.Page(t, "../../docs/SERVICE.md"), map[string]bool{
 		"more than `max-write-rate` allows in a second (16 MiB)": s.node.maxWritten == 16<<20,
 	})
 	if s.node.maxProofs != 64 || s.limits.ProofsByAddress != 16 {
@@ -109,15 +109,15 @@ func TestPageSaysBounds(t *testing.T) {
 // includes the rules.
 func TestScraped(t *testing.T) {
 	s, err := parse([]string{"--roots", "r", "--origin", "o.example", "--signing-key", "k"}, &bytes.Buffer{})
-	testutil.Must(t, err)
+	testkit.Must(t, err)
 	rules, err := os.ReadFile("../../release/prometheus/ctserve.rules.yml")
-	testutil.Must(t, err)
+	testkit.Must(t, err)
 	jobs := regexp.MustCompile(`job="(\w+)"`).FindAllSubmatch(rules, -1)
 	if len(jobs) == 0 {
 		t.Fatal("no alert names a job")
 	}
-	settings := testutil.Page(t, "../../release/prometheus/prometheus.yml")
-	testutil.Says(t, settings, map[string]bool{
+	settings := testkit.Page(t, "../../release/prometheus/prometheus.yml")
+	testkit.Says(t, settings, map[string]bool{
 		"rule_files: [ctserve.rules.yml]":       true,
 		`targets: ["` + s.operator + `"]`:       s.operator != "",
 		"job_name: " + string(jobs[0][1]) + " ": true,
@@ -127,7 +127,7 @@ func TestScraped(t *testing.T) {
 			t.Errorf("one alert is of %s, and another of %s", jobs[0][1], job[1])
 		}
 	}
-	testutil.Says(t, testutil.Page(t, "../../docs/OPERATING.md"), map[string]bool{
+	testkit.Says(t, testkit.Page(t, "../../docs/OPERATING.md"), map[string]bool{
 		"Prometheus reads /metrics at `operator-listen` (" + s.operator + ";": true,
 	})
 }
@@ -137,7 +137,7 @@ func TestScraped(t *testing.T) {
 // synchronized.
 func TestUnit(t *testing.T) {
 	text, err := os.ReadFile("../../release/systemd/ctserve@.service")
-	testutil.Must(t, err)
+	testkit.Must(t, err)
 	unit := map[string]string{}
 	for _, line := range strings.Split(string(text), "\n") {
 		if name, value, isSet := strings.Cut(line, "="); isSet {
@@ -145,7 +145,7 @@ func TestUnit(t *testing.T) {
 		}
 	}
 	s, err := parse([]string{"--roots", "r", "--origin", "o.example", "--signing-key", "k"}, &bytes.Buffer{})
-	testutil.Must(t, err)
+	testkit.Must(t, err)
 	seconds, err := time.ParseDuration(unit["TimeoutStopSec"] + "s")
 	if err != nil || seconds <= s.endWithin {
 		t.Errorf("systemd kills it after %v, %v, and an end takes up to %v", seconds, err, s.endWithin)
@@ -168,7 +168,7 @@ func TestUnit(t *testing.T) {
 			t.Errorf("%s is %q", name, unit[name])
 		}
 	}
-	testutil.Says(t, testutil.Page(t, "../../docs/OPERATING.md"), map[string]bool{
+	testkit.Says(t, testkit.Page(t, "../../docs/OPERATING.md"), map[string]bool{
 		"ends with status 3, and the unit does not start the log again": statusRolledBack == 3,
 		"A setting with an unknown name ends a start with status 2": run([]string{"--no-such-word"}, &bytes.Buffer{},
 			openNode) == 2,

@@ -10,7 +10,7 @@ import (
 	"os"
 	"strings"
 
-	"wagtenib/internal/httpserver"
+	"wagtenib/internal/log/httpd"
 )
 
 // peers are the settings of a log with several nodes.
@@ -70,8 +70,8 @@ func (p *peers) check() error {
 const maxNodeAddress = 200
 
 // load reads the files.
-func (p *peers) load() (*httpserver.Certificate, *x509.CertPool, error) {
-	certificate, err := httpserver.LoadCertificate(p.certificate, p.key)
+func (p *peers) load() (*httpd.Certificate, *x509.CertPool, error) {
+	certificate, err := httpd.LoadCertificate(p.certificate, p.key)
 	if err != nil {
 		return nil, nil, fmt.Errorf("--nodes-certificate: %w", err)
 	}
@@ -90,7 +90,7 @@ func (p *peers) load() (*httpserver.Certificate, *x509.CertPool, error) {
 // secured has the TLS configurations between nodes: for a node that listens, and for one that forwards. Both require a
 // certificate of the CA.
 type secured struct {
-	certificate    *httpserver.Certificate
+	certificate    *httpd.Certificate
 	listens, dials *tls.Config
 }
 
@@ -113,7 +113,7 @@ func (p *peers) secure() (*secured, error) {
 }
 
 // nodeCertificate returns the node's certificate, or nil if the log has one node.
-func (s *secured) nodeCertificate() *httpserver.Certificate {
+func (s *secured) nodeCertificate() *httpd.Certificate {
 	if s == nil {
 		return nil
 	}

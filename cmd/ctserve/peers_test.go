@@ -19,7 +19,7 @@ import (
 	"testing"
 	"time"
 
-	"wagtenib/internal/testutil"
+	"wagtenib/internal/testkit"
 )
 
 // nodesAuthority is a CA of the nodes of a log.
@@ -117,7 +117,7 @@ func TestForwards(t *testing.T) {
 	first, second := freeAddress(t), freeAddress(t)
 	one := started(t, "", append(append(arguments, at.nodeArguments("one", first)...), "--create")...)
 	two := started(t, "", append(arguments, at.nodeArguments("two", second)...)...)
-	for until := time.Now().Add(testutil.Longest); two.metric("ctserve_forwarded_submissions_total") == "0"; {
+	for until := time.Now().Add(testkit.Longest); two.metric("ctserve_forwarded_submissions_total") == "0"; {
 		for _, node := range []*program{one, two} {
 			if status, text := post(node.clients, at.submission()); status != 200 {
 				t.Fatalf("%d %s", status, text)
@@ -158,7 +158,7 @@ func (p *place) refusesOthers(address string) {
 			}
 			over.Certificates = []tls.Certificate{pair}
 		}
-		client := &http.Client{Transport: &http.Transport{TLSClientConfig: over}, Timeout: testutil.Longest}
+		client := &http.Client{Transport: &http.Transport{TLSClientConfig: over}, Timeout: testkit.Longest}
 		answer, err := client.Get("https://" + address + "/checkpoint")
 		if err == nil {
 			answer.Body.Close()
@@ -168,7 +168,7 @@ func (p *place) refusesOthers(address string) {
 		}
 		client.CloseIdleConnections()
 	}
-	plain := &http.Client{Transport: &http.Transport{}, Timeout: testutil.Longest}
+	plain := &http.Client{Transport: &http.Transport{}, Timeout: testkit.Longest}
 	defer plain.CloseIdleConnections()
 	answer, err := plain.Get("http://" + address + "/ct/v1/add-chain")
 	if err == nil {

@@ -12,11 +12,11 @@ import (
 	"testing"
 	"time"
 
-	"wagtenib/internal/httpserver"
-	"wagtenib/internal/httpserver/fakelog"
-	"wagtenib/internal/logcheck"
-	"wagtenib/internal/testutil"
-	"wagtenib/internal/testutil/softhsm"
+	"wagtenib/internal/audit/judge"
+	"wagtenib/internal/log/httpd"
+	"wagtenib/internal/testkit"
+	"wagtenib/internal/testkit/fakelog"
+	"wagtenib/internal/testkit/softhsm"
 )
 
 // realArguments returns the arguments of a log on a folder.
@@ -34,7 +34,7 @@ func TestRealLog(t *testing.T) {
 	var at *place
 	var arguments []string
 	var p *program
-	for until := time.Now().Add(testutil.Longest); ; {
+	for until := time.Now().Add(testkit.Longest); ; {
 		at = newPlace(t)
 		arguments = at.realArguments("--signing-key", at.path("log.pem"))
 		if status, output := runs(arguments); status != statusRolledBack {
@@ -44,7 +44,7 @@ func TestRealLog(t *testing.T) {
 		p = started(t, "", append(arguments, "--create")...)
 		// ctserve does not wait for the first head longer than a read may take.
 		isLate := p.serving["level"] == "warn" && p.serving["fault"] != nil &&
-			time.Since(began) >= httpserver.DefaultLimits().Reading
+			time.Since(began) >= httpd.DefaultLimits().Reading
 		if !isLate || time.Now().After(until) {
 			break
 		}
@@ -160,7 +160,7 @@ func TestKeyInAToken(t *testing.T) {
 	if block == nil {
 		t.Fatalf("no key: %s", stdout)
 	}
-	var answers []logcheck.Answer
+	var answers []judge.Answer
 	for i, create := range []string{"true", "false"} {
 		p := started(t, "", append(arguments, "--create="+create)...)
 		der, err := at.authority.Issue(false, time.Date(2027, 1, 1, 0, 0, 0, 0, time.UTC))
@@ -177,14 +177,14 @@ func TestKeyInAToken(t *testing.T) {
 		if err := json.Unmarshal([]byte(text), &read); err != nil || status != 200 {
 			t.Fatalf("start %d: %d %s", i, status, text)
 		}
-		answers = append(answers, logcheck.Answer{Certificate: der, LogID: read.ID, Timestamp: read.Timestamp,
+		answers = append(answers, judge.Answer{Certificate: der, LogID: read.ID, Timestamp: read.Timestamp,
 			Extensions: read.Extensions, Signature: read.Signature})
 		p.signal(syscall.SIGTERM)
 		if status := p.ends(); status != 0 {
 			t.Fatalf("ctserve ended with status %d", status)
 		}
 	}
-	if report, err := logcheck.Folder(filepath.Join(at.path("log"), "objects"), block.Bytes, answers); err != nil ||
+	if report, err := judge.Folder(filepath.Join(at.path("log"), "objects"), block.Bytes, answers); err != nil ||
 		report.Leaves != 2 {
 		t.Errorf("%+v, %v", report, err)
 	}

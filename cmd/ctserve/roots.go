@@ -11,8 +11,8 @@ import (
 	"strings"
 	"time"
 
-	"wagtenib/internal/chains"
-	"wagtenib/internal/roots"
+	"wagtenib/internal/log/chain"
+	"wagtenib/internal/log/roots"
 )
 
 // rootsPage is what `ctserve roots --help` prints before the flags.
@@ -121,5 +121,5 @@ func (r *rootsFlags) table(from string) ([]byte, error) {
 		return nil, fmt.Errorf("status %d", answer.StatusCode)
 	}
 	// ReadTable refuses a table that is longer.
-	return io.ReadAll(io.LimitReader(answer.Body, chains.MaxRootBytes+1))
+	return io.ReadAll(io.LimitReader(answer.Body, chain.MaxRootBytes+1))
 }

@@ -10,7 +10,7 @@ import (
 	"strings"
 	"testing"
 
-	"wagtenib/internal/testutil"
+	"wagtenib/internal/testkit"
 )
 
 // tableOf returns a table of CCADB with a root for TLS servers and a root for mail.
@@ -56,7 +56,7 @@ func TestRootsOfCCADB(t *testing.T) {
 		t.Errorf("%d %s", status, output)
 	}
 	content, err := os.ReadFile(into + "/ccadb.pem")
-	testutil.Must(t, err)
+	testkit.Must(t, err)
 	if !strings.Contains(string(content), string(servers.authority.PEM())) ||
 		strings.Contains(string(content), string(mail.authority.PEM())) {
 		t.Errorf("%s", content)

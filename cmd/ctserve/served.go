@@ -10,17 +10,17 @@ import (
 	"strings"
 	"time"
 
-	"wagtenib/internal/chains"
-	"wagtenib/internal/logservice"
-	lognode "wagtenib/internal/node"
-	"wagtenib/internal/stores"
-	"wagtenib/internal/tile"
+	"wagtenib/internal/blob"
+	"wagtenib/internal/log/chain"
+	lognode "wagtenib/internal/log/node"
+	"wagtenib/internal/log/service"
+	"wagtenib/internal/tiles"
 )
 
 // shared has the stores that all nodes of a log share, and the functions that close them.
 type shared struct {
-	logservice.Stores
-	calls   *stores.Calls
+	service.Stores
+	calls   *blob.Calls
 	closers []func() error
 }
 
@@ -34,7 +34,7 @@ func (s *shared) close() {
 }
 
 // indexAt opens the index at an address. Tests replace it, so that nodes share an index in a test's memory.
-var indexAt = stores.IndexAt
+var indexAt = blob.IndexAt
 
 // earlierIndex is the file in a log's folder in which earlier versions of ctserve kept the index, in SQLite.
 const earlierIndex = "places"
@@ -55,7 +55,7 @@ func checkEarlierIndex(n node) error {
 
 // openStores opens the stores of a log.
 func openStores(ctx context.Context, n node) (s *shared, err error) {
-	s = &shared{calls: &stores.Calls{}}
+	s = &shared{calls: &blob.Calls{}}
 	defer func() {
 		if err != nil {
 			s.close()
@@ -69,7 +69,7 @@ func openStores(ctx context.Context, n node) (s *shared, err error) {
 	if current != nil {
 		s.Current = s.calls.Current(current)
 	}
-	lock, err := stores.LockAt(ctx, n.lock)
+	lock, err := blob.LockAt(ctx, n.lock)
 	if err != nil {
 		return s, err
 	}
@@ -84,11 +84,11 @@ func openStores(ctx context.Context, n node) (s *shared, err error) {
 
 // openObjects opens the store of objects. If the log is read from the store itself, it also returns the store of the
 // checkpoint.
-func openObjects(ctx context.Context, n node) (stores.Objects, stores.Current, error) {
+func openObjects(ctx context.Context, n node) (blob.Objects, blob.Current, error) {
 	if n.isPublic {
-		return stores.OpenPublic(ctx, n.store)
+		return blob.OpenPublic(ctx, n.store)
 	}
-	objects, err := stores.ObjectsAt(ctx, n.store)
+	objects, err := blob.ObjectsAt(ctx, n.store)
 	return objects, nil, err
 }
 
@@ -97,7 +97,7 @@ func openObjects(ctx context.Context, n node) (stores.Objects, stores.Current, e
 func checkStores(n node) error {
 	if !n.create {
 		// A start must not make a missing folder again, because another running node would write into it.
-		if err := stores.CheckObjectsExist(n.store); err != nil {
+		if err := blob.CheckObjectsExist(n.store); err != nil {
 			return err
 		}
 	}
@@ -111,11 +111,11 @@ const folderMode = 0o750
 // openNode opens a log, and begins to serve it.
 func openNode(ctx context.Context, n node) (of *opened, err error) {
 	if n.makesFolder {
-		if err := stores.MakeFolder(n.folder, folderMode); err != nil {
+		if err := blob.MakeFolder(n.folder, folderMode); err != nil {
 			return nil, err
 		}
 	}
-	if err := stores.MakeFolder(filepath.Dir(n.latestHead), 0o755); err != nil {
+	if err := blob.MakeFolder(filepath.Dir(n.latestHead), 0o755); err != nil {
 		return nil, err
 	}
 	client, err := askSigner(ctx, n)
@@ -141,20 +141,20 @@ func openNode(ctx context.Context, n node) (of *opened, err error) {
 	}
 	config := n.config(s.Stores)
 	config.Signer = client
-	of = &opened{cutter: chains.NewCutter(), key: client.Key(), calls: s.calls}
+	of = &opened{cutter: chain.NewCutter(), key: client.Key(), calls: s.calls}
 	if s.Current != nil {
 		of.putEntry = func(ctx context.Context, entry []byte) error {
-			return stores.SetCurrent(ctx, s.Objects, s.Current, "log.v3.json", entry)
+			return blob.SetCurrent(ctx, s.Objects, s.Current, "log.v3.json", entry)
 		}
 	}
 	if of.secured, err = n.peers.secure(); err != nil {
 		return nil, err
 	}
-	log, err := logservice.Open(ctx, config)
+	log, err := service.Open(ctx, config)
 	if err != nil {
 		return nil, err
 	}
-	of.log, of.proofs, of.close = log, tile.NewProver(log.Object, n.maxProofs), closeAll
+	of.log, of.proofs, of.close = log, tiles.NewProver(log.Object, n.maxProofs), closeAll
 	if of.secured != nil {
 		forwarder := log.Forward(of.secured.dials)
 		of.forward, of.nodes = forwarder, log.OfNodes
@@ -171,22 +171,22 @@ func openNode(ctx context.Context, n node) (of *opened, err error) {
 const defaultInterval, localInterval = 50 * time.Millisecond, 5 * time.Millisecond
 
 // config returns the configuration of a log over its stores.
-func (n *node) config(of logservice.Stores) logservice.Config {
+func (n *node) config(of service.Stores) service.Config {
 	interval := n.interval
 	if interval == 0 {
 		if interval = localInterval; n.hasRemoteStore() || len(n.witnesses) > 0 {
 			interval = defaultInterval
 		}
 	}
-	return logservice.Config{
+	return service.Config{
 		Origin: n.origin, Address: n.peers.address, Create: n.create, Stores: of, Witnesses: n.witnesses,
 		Quorums: n.quorums,
-		Pace: logservice.Pace{Interval: interval, Refresh: n.refresh, MaxWritten: n.maxWritten, MaxBatch: n.maxBatch,
+		Pace: service.Pace{Interval: interval, Refresh: n.refresh, MaxWritten: n.maxWritten, MaxBatch: n.maxBatch,
 			MaxQueue: n.maxQueue},
-		Keep: logservice.Keep{Heads: n.keepHeads, Tiles: n.keepTiles, Interval: n.scrubInterval, Reread: n.scrubPeriod},
-		Machine: logservice.MachineConfig{
-			Files:       logservice.Files{LatestHead: n.latestHead, NamedDay: n.namedDay},
-			ClockBounds: logservice.ClockBounds{MaxSkew: n.maxSkew, Synchronized: n.synchronized},
+		Keep: service.Keep{Heads: n.keepHeads, Tiles: n.keepTiles, Interval: n.scrubInterval, Reread: n.scrubPeriod},
+		Machine: service.MachineConfig{
+			Files:       service.Files{LatestHead: n.latestHead, NamedDay: n.namedDay},
+			ClockBounds: service.ClockBounds{MaxSkew: n.maxSkew, Synchronized: n.synchronized},
 		},
 	}
 }

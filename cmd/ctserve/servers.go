@@ -7,8 +7,9 @@ import (
 	"net"
 	"net/http"
 
-	"wagtenib/internal/httpserver"
-	"wagtenib/internal/loginterface"
+	"wagtenib/internal/command/eventlog"
+	"wagtenib/internal/log"
+	"wagtenib/internal/log/httpd"
 )
 
 // served is one listener with its server.
@@ -18,17 +19,17 @@ type served struct {
 	address  string
 	over     *tls.Config
 	handler  http.Handler
-	make     func(http.Handler) *httpserver.Server
+	make     func(http.Handler) *httpd.Server
 	listener net.Listener
-	server   *httpserver.Server
+	server   *httpd.Server
 }
 
 // loadCertificate reads the certificate for clients. Without one, the log serves plain HTTP.
-func (s *settings) loadCertificate() (*httpserver.Certificate, *tls.Config, error) {
+func (s *settings) loadCertificate() (*httpd.Certificate, *tls.Config, error) {
 	if s.certificate == "" {
 		return nil, nil, nil
 	}
-	certificate, err := httpserver.LoadCertificate(s.certificate, s.key)
+	certificate, err := httpd.LoadCertificate(s.certificate, s.key)
 	if err != nil {
 		return nil, nil, err
 	}
@@ -36,7 +37,7 @@ func (s *settings) loadCertificate() (*httpserver.Certificate, *tls.Config, erro
 }
 
 // serversOf returns the servers of a log: for clients, for other nodes and for operators.
-func serversOf(s *settings, of *opened, front *httpserver.Front, over *tls.Config) []*served {
+func serversOf(s *settings, of *opened, front *httpd.Front, over *tls.Config) []*served {
 	servers := []*served{{users: "clients", address: s.listen, over: over, handler: front, make: front.Serve}}
 	if of.secured != nil {
 		servers = append(servers, &served{users: "nodes", address: s.node.peers.listen, over: of.secured.listens,
@@ -50,7 +51,7 @@ func serversOf(s *settings, of *opened, front *httpserver.Front, over *tls.Confi
 }
 
 // listen opens the listeners of servers. After an error none is open.
-func listen(servers []*served, lines *httpserver.Lines) (err error) {
+func listen(servers []*served, lines *eventlog.Lines) (err error) {
 	for at, each := range servers {
 		if each.listener, err = net.Listen("tcp", each.address); err != nil {
 			for _, open := range servers[:at] {
@@ -75,7 +76,7 @@ func start(servers []*served) <-chan error {
 
 // ended ends the log, which publishes and answers the waiting submissions, and then ends the servers, within the
 // shutdown timeout. Reads are answered until the log has ended. It returns the reason of the end, or the first error.
-func ended(s *settings, of loginterface.Log, servers []*served, why error) error {
+func ended(s *settings, of log.Log, servers []*served, why error) error {
 	ctx, cancel := context.WithTimeout(context.Background(), s.endWithin)
 	defer cancel()
 	if err := of.End(ctx); why == nil {

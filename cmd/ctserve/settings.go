@@ -8,9 +8,9 @@ import (
 	"strings"
 	"time"
 
-	"wagtenib/internal/chains"
-	"wagtenib/internal/httpserver"
-	"wagtenib/internal/settingsfile"
+	"wagtenib/internal/command/settingsfile"
+	"wagtenib/internal/log/chain"
+	"wagtenib/internal/log/httpd"
 	"wagtenib/internal/witness"
 )
 
@@ -23,10 +23,10 @@ type settings struct {
 	monitoringURL            string
 	certificate, key         string
 	proxies                  []netip.Prefix
-	roots                    chains.RootFiles
-	rules                    chains.Rules
+	roots                    chain.RootFiles
+	rules                    chain.Rules
 	anyPurpose               bool
-	limits                   httpserver.Limits
+	limits                   httpd.Limits
 	endWithin                time.Duration
 	logRequests, readOnly    bool
 	node                     node
@@ -91,7 +91,7 @@ func parse(arguments []string, help io.Writer) (*settings, error) {
 
 // parseTo defines the settings as flags of a program or a command, and parses its arguments as parse does.
 func parseTo(flags *flag.FlagSet, arguments []string) (*settings, error) {
-	s := &settings{limits: httpserver.DefaultLimits()}
+	s := &settings{limits: httpd.DefaultLimits()}
 	flags.String("config", "", "`file` with a line 'name value' for each of these settings. A comment begins with #")
 	s.frontFlags(flags)
 	limitFlags(flags, &s.limits)
@@ -149,7 +149,7 @@ func (s *settings) frontFlags(flags *flag.FlagSet) {
 }
 
 // limitFlags defines the limits for clients.
-func limitFlags(flags *flag.FlagSet, l *httpserver.Limits) {
+func limitFlags(flags *flag.FlagSet, l *httpd.Limits) {
 	flags.IntVar(&l.Connections, "max-connections", l.Connections, "maximum number of connections at the same time")
 	flags.IntVar(&l.ConnectionsByAddress, "max-connections-per-address", l.ConnectionsByAddress,
 		"maximum number of connections of one address or one /64 at the same time. "+

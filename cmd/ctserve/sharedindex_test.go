@@ -10,28 +10,28 @@ import (
 	"strings"
 	"sync"
 
-	"wagtenib/internal/stores"
+	"wagtenib/internal/blob"
 )
 
 // sharedIndex is an index in a test's memory. The nodes of one log, which are other processes, use it over HTTP, as
 // they use PostgreSQL outside of tests. Its address is shared:HOST:PORT.
 type sharedIndex struct {
 	mu                 sync.Mutex
-	identities, leaves map[stores.Identity]stores.Place
+	identities, leaves map[blob.Identity]blob.Place
 }
 
 // indexCall is a node's request.
 type indexCall struct {
 	OfLeaves, Replaces bool
-	Keys               []stores.Identity
-	Rows               []stores.Row
+	Keys               []blob.Identity
+	Rows               []blob.Row
 }
 
 const sharedKind = "shared:"
 
 func init() {
 	others := indexAt
-	indexAt = func(ctx context.Context, address string) (stores.Index, error) {
+	indexAt = func(ctx context.Context, address string) (blob.Index, error) {
 		if at, isShared := strings.CutPrefix(address, sharedKind); isShared {
 			return indexClient("http://" + at), nil
 		}
@@ -42,8 +42,8 @@ func init() {
 // sharedIndex returns the address of an index that is empty at first.
 func (p *place) sharedIndex() string {
 	if p.shared == "" {
-		server := httptest.NewServer(&sharedIndex{identities: map[stores.Identity]stores.Place{},
-			leaves: map[stores.Identity]stores.Place{}})
+		server := httptest.NewServer(&sharedIndex{identities: map[blob.Identity]blob.Place{},
+			leaves: map[blob.Identity]blob.Place{}})
 		p.t.Cleanup(server.Close)
 		p.shared = sharedKind + strings.TrimPrefix(server.URL, "http://")
 	}
@@ -62,7 +62,7 @@ func (s *sharedIndex) ServeHTTP(w http.ResponseWriter, r *http.Request) {
 	if call.OfLeaves {
 		table = s.leaves
 	}
-	found := map[stores.Identity]stores.Place{}
+	found := map[blob.Identity]blob.Place{}
 	for _, key := range call.Keys {
 		if place, ok := table[key]; ok {
 			found[key] = place
@@ -83,7 +83,7 @@ func (s *sharedIndex) ServeHTTP(w http.ResponseWriter, r *http.Request) {
 // indexClient is the index at a URL.
 type indexClient string
 
-func (c indexClient) ask(ctx context.Context, call indexCall) (found map[stores.Identity]stores.Place, err error) {
+func (c indexClient) ask(ctx context.Context, call indexCall) (found map[blob.Identity]blob.Place, err error) {
 	var asked bytes.Buffer
 	if err := gob.NewEncoder(&asked).Encode(call); err != nil {
 		return nil, err
@@ -104,20 +104,20 @@ func (c indexClient) ask(ctx context.Context, call indexCall) (found map[stores.
 	return found, err
 }
 
-func (c indexClient) Find(ctx context.Context, keys []stores.Identity) (map[stores.Identity]stores.Place, error) {
+func (c indexClient) Find(ctx context.Context, keys []blob.Identity) (map[blob.Identity]blob.Place, error) {
 	return c.ask(ctx, indexCall{Keys: keys})
 }
 
-func (c indexClient) FindLeaves(ctx context.Context, keys []stores.Identity) (map[stores.Identity]stores.Place, error) {
+func (c indexClient) FindLeaves(ctx context.Context, keys []blob.Identity) (map[blob.Identity]blob.Place, error) {
 	return c.ask(ctx, indexCall{Keys: keys, OfLeaves: true})
 }
 
-func (c indexClient) Add(ctx context.Context, rows []stores.Row) error {
+func (c indexClient) Add(ctx context.Context, rows []blob.Row) error {
 	_, err := c.ask(ctx, indexCall{Rows: rows})
 	return err
 }
 
-func (c indexClient) Replace(ctx context.Context, rows []stores.Row) error {
+func (c indexClient) Replace(ctx context.Context, rows []blob.Row) error {
 	_, err := c.ask(ctx, indexCall{Rows: rows, Replaces: true})
 	return err
 }

@@ -12,8 +12,8 @@ import (
 	"testing"
 	"time"
 
-	"wagtenib/internal/httpserver/fakelog"
-	"wagtenib/internal/testutil"
+	"wagtenib/internal/testkit"
+	"wagtenib/internal/testkit/fakelog"
 )
 
 // TestEndBySIGTERM checks that at SIGTERM, ctserve answers the waiting requests and ends with status 0. Idle
@@ -52,7 +52,7 @@ func TestEndBySIGTERM(t *testing.T) {
 			t.Errorf("a waiting client: %d %s", answer.status, answer.text)
 		}
 	}
-	if status := p.ends(); status != 0 || time.Since(began) > testutil.Longest/2 {
+	if status := p.ends(); status != 0 || time.Since(began) > testkit.Longest/2 {
 		t.Errorf("ctserve ended with status %d after %v", status, time.Since(began))
 	}
 }
@@ -73,11 +73,11 @@ func TestEndWithinItsBound(t *testing.T) {
 		began := time.Now()
 		p.signal(syscall.SIGTERM)
 		line := p.until("end")
-		if status := p.ends(); status != 1 || time.Since(began) > testutil.Longest/2 {
+		if status := p.ends(); status != 1 || time.Since(began) > testkit.Longest/2 {
 			t.Errorf("ctserve ended with status %d after %v", status, time.Since(began))
 		}
 		// On a busy machine the log itself may not have ended in time. Then the line does not name the clients.
-		if line["fault"] == context.DeadlineExceeded.Error() && within < testutil.Longest/8 {
+		if line["fault"] == context.DeadlineExceeded.Error() && within < testkit.Longest/8 {
 			continue
 		}
 		if line["level"] != "error" || !strings.Contains(fmt.Sprint(line["fault"]), "clients") {
@@ -183,7 +183,7 @@ func TestSurvivesReaderOfLines(t *testing.T) {
 	if err != nil {
 		t.Fatal(err)
 	}
-	clients := testutil.Free(t)
+	clients := testkit.Free(t)
 	command := exec.Command(os.Args[0], append(at.arguments(), "--listen", clients, "--log-requests")...)
 	command.Env = append(os.Environ(), childKey+"=1", intervalKey+"=20ms")
 	command.Stderr = write

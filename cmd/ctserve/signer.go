@@ -12,10 +12,10 @@ import (
 	"strings"
 	"time"
 
-	"wagtenib/internal/httpserver"
-	"wagtenib/internal/settingsfile"
-	"wagtenib/internal/signer"
-	"wagtenib/internal/stores"
+	"wagtenib/internal/blob"
+	"wagtenib/internal/command/eventlog"
+	"wagtenib/internal/command/settingsfile"
+	"wagtenib/internal/log/signer"
 )
 
 const (
@@ -139,7 +139,7 @@ func runSigner(arguments []string, stdin io.Reader, stdout, stderr io.Writer) in
 	if status, ends := settingsfile.Ends(err, stderr); ends {
 		return status
 	}
-	lines := httpserver.NewLines(stderr)
+	lines := eventlog.NewLines(stderr)
 	s.socket.Refused = func(caller signer.Caller, count int) {
 		lines.Warn("refused-caller", "uid", caller.UID, "pid", caller.PID, "refused", count)
 	}
@@ -159,7 +159,7 @@ func (s *signerSettings) serve(stdin io.Reader, stdout io.Writer) error {
 	}
 	var signs signer.Signer = key
 	if s.guard {
-		state, err := stores.LockAt(ctx, s.state)
+		state, err := blob.LockAt(ctx, s.state)
 		if err != nil {
 			return err
 		}

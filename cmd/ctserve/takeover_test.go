@@ -8,9 +8,9 @@ import (
 	"testing"
 	"time"
 
-	"wagtenib/internal/logcheck"
-	"wagtenib/internal/logservice"
-	"wagtenib/internal/signer"
+	"wagtenib/internal/audit/judge"
+	"wagtenib/internal/log/service"
+	"wagtenib/internal/log/signer"
 )
 
 // testdata/before has the folder, the guard's state and the latest head of a log with three entries, which an earlier
@@ -27,7 +27,7 @@ func takenOver(t *testing.T) (*place, []string) {
 		t.Fatal(err)
 	}
 	now := time.Now()
-	if err := logservice.NameDay(p.path("log.day"), now.UTC().Format("2006-01-02"), now); err != nil {
+	if err := service.NameDay(p.path("log.day"), now.UTC().Format("2006-01-02"), now); err != nil {
 		t.Fatal(err)
 	}
 	return p, append(patient(), "--listen", "127.0.0.1:0", "--operator-listen", "127.0.0.1:0", "--origin",
@@ -89,7 +89,7 @@ func (p *place) goesOn(arguments []string) {
 		p.t.Fatal(err)
 	}
 	defer key.Close()
-	if report, err := logcheck.Folder(p.path("log/objects"), key.Key(), nil); err != nil || report.Leaves != 4 ||
+	if report, err := judge.Folder(p.path("log/objects"), key.Key(), nil); err != nil || report.Leaves != 4 ||
 		report.Repeats != 0 {
 		p.t.Errorf("%+v, %v", report, err)
 	}

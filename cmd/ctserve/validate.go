@@ -9,11 +9,11 @@ import (
 	"strings"
 	"time"
 
-	"wagtenib/internal/httpserver"
-	"wagtenib/internal/privatefile"
-	"wagtenib/internal/settingsfile"
-	"wagtenib/internal/signer"
-	"wagtenib/internal/stores"
+	"wagtenib/internal/blob"
+	"wagtenib/internal/command/privatefile"
+	"wagtenib/internal/command/settingsfile"
+	"wagtenib/internal/log/httpd"
+	"wagtenib/internal/log/signer"
 	"wagtenib/internal/witness"
 )
 
@@ -80,7 +80,7 @@ func checkKeyFiles(keys ...named) error {
 // checkTLS returns an error if a store on another machine is called without TLS.
 func checkTLS(addresses ...named) error {
 	for _, address := range addresses {
-		if err := stores.CheckTLS(address.value); err != nil {
+		if err := blob.CheckTLS(address.value); err != nil {
 			return fmt.Errorf("--%s: %w", address.name, err)
 		}
 	}
@@ -152,8 +152,8 @@ func (s *settings) validateLimits() error {
 		{"submission-rate-per-address", int64(l.SubmissionRate), 0},
 		{"read-rate-per-address", int64(l.ReadRate), 0},
 		{"max-checks", int64(l.Checks), 1},
-		{"max-queued-bytes", l.WaitingBytes, httpserver.MaxBody},
-		{"max-response-bytes", l.AnswerBytes, stores.MaxObject},
+		{"max-queued-bytes", l.WaitingBytes, httpd.MaxBody},
+		{"max-response-bytes", l.AnswerBytes, blob.MaxObject},
 		{"max-queue", int64(n.maxQueue), 1},
 		{"max-batch", int64(n.maxBatch), 1},
 		{"max-write-rate", int64(n.maxWritten), 1},
@@ -196,7 +196,7 @@ func (n *node) setDefaultStores() error {
 			"use PostgreSQL (--index postgres://HOST/DATABASE?log=NAME)")
 	}
 	if strings.HasPrefix(n.index, "sqlite:") {
-		return fmt.Errorf("--index: %w", stores.CheckIndex(n.index))
+		return fmt.Errorf("--index: %w", blob.CheckIndex(n.index))
 	}
 	return nil
 }

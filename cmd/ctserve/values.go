@@ -7,8 +7,8 @@ import (
 	"strings"
 	"time"
 
-	"wagtenib/internal/httpserver"
-	"wagtenib/internal/settingsfile"
+	"wagtenib/internal/command/settingsfile"
+	"wagtenib/internal/log/httpd"
 )
 
 func prefixes(text string) (found []netip.Prefix, err error) {
@@ -33,7 +33,7 @@ func prefixOf(text string) (netip.Prefix, error) {
 }
 
 // submitters parses prefixes, each with a bound. No prefix may occur twice.
-func submitters(text string) (found []httpserver.Submitter, err error) {
+func submitters(text string) (found []httpd.Submitter, err error) {
 	for _, part := range strings.Split(text, ",") {
 		of, number, _ := strings.Cut(part, "=")
 		prefix, err := prefixOf(of)
@@ -49,7 +49,7 @@ func submitters(text string) (found []httpserver.Submitter, err error) {
 				return nil, fmt.Errorf("%s occurs twice", prefix)
 			}
 		}
-		found = append(found, httpserver.Submitter{Prefix: prefix, Max: bound})
+		found = append(found, httpd.Submitter{Prefix: prefix, Max: bound})
 	}
 	return found, nil
 }

@@ -19,9 +19,9 @@ import (
 
 	"golang.org/x/mod/sumdb/note"
 
-	"wagtenib/internal/signer"
-	"wagtenib/internal/stores"
-	"wagtenib/internal/testutil"
+	"wagtenib/internal/blob"
+	"wagtenib/internal/log/signer"
+	"wagtenib/internal/testkit"
 	"wagtenib/internal/witness"
 )
 
@@ -29,12 +29,12 @@ import (
 // a comma and its verifier key, and the verifier of its cosignatures.
 func (p *place) aWitness(name string, with ...func(log *witness.Log)) (one string, key note.Verifier) {
 	p.t.Helper()
-	must := func(err error) { p.t.Helper(); testutil.Must(p.t, err) }
+	must := func(err error) { p.t.Helper(); testkit.Must(p.t, err) }
 	public, private, err := ed25519.GenerateKey(rand.Reader)
 	must(err)
 	s, err := witness.New(witness.Options{Name: name, Key: private})
 	must(err)
-	state, err := stores.OpenFile(p.path(name))
+	state, err := blob.OpenFile(p.path(name))
 	must(err)
 	p.t.Cleanup(func() { state.Close() })
 	of, err := signer.OpenKey(p.path("log.pem"))
@@ -56,7 +56,7 @@ func (p *place) aWitness(name string, with ...func(log *witness.Log)) (one strin
 func (p *place) comesIn(at *program) {
 	p.t.Helper()
 	submission := p.submission()
-	for until := testutil.Limited(p.t, testutil.Longest); ; time.Sleep(50 * time.Millisecond) {
+	for until := testkit.Limited(p.t, testkit.Longest); ; time.Sleep(50 * time.Millisecond) {
 		status, answer := post(at.clients, submission)
 		if status == 200 {
 			return
@@ -105,7 +105,7 @@ func TestWitnessedLog(t *testing.T) {
 	}
 	p.signal(syscall.SIGTERM)
 	p.ends()
-	for until := time.Now().Add(testutil.Longest); ; {
+	for until := time.Now().Add(testkit.Longest); ; {
 		for _, part := range parts {
 			if err := os.RemoveAll(at.path(part)); err != nil {
 				t.Fatal(err)
@@ -149,7 +149,7 @@ func TestWatchedWitness(t *testing.T) {
 		t.Fatalf("go build: %v: %s", err, output)
 	}
 	key, err := signer.OpenKey(at.path("log.pem"))
-	testutil.Must(t, err)
+	testkit.Must(t, err)
 	of := []string{"--folder", at.path("store"), "--log", "tiled+http://" + p.clients + " " +
 		base64.StdEncoding.EncodeToString(key.Key()) + " log.example/test"}
 	_, one, _ := strings.Cut(first, ",")
@@ -184,7 +184,7 @@ func TestWatchedWitness(t *testing.T) {
 			t.Fatalf("with %d entries: status %d: %s", entries, status, output)
 		}
 		kept, err := os.ReadFile(at.path("cosigned"))
-		testutil.Must(t, err)
+		testkit.Must(t, err)
 		if opened, err := note.Open(kept, note.VerifierList(thirdKey)); err != nil || len(opened.Sigs) != 1 ||
 			len(opened.UnverifiedSigs) != 3 {
 			t.Errorf("%q: %v", kept, err)

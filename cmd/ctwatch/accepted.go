@@ -7,8 +7,8 @@ import (
 	"path/filepath"
 	"sync"
 
-	"wagtenib/internal/httpserver"
-	"wagtenib/internal/stores"
+	"wagtenib/internal/blob"
+	"wagtenib/internal/command/eventlog"
 	"wagtenib/internal/watch"
 )
 
@@ -17,13 +17,13 @@ import (
 type acceptedFolder struct {
 	watch.Keeper
 	folder string
-	lines  *httpserver.Lines
+	lines  *eventlog.Lines
 	mutex  sync.Mutex
 	shown  map[watch.LogID]uint64 // the timestamp of the head in the folder, by log
 }
 
 // newAcceptedFolder creates the folder, unless it exists.
-func newAcceptedFolder(keeper watch.Keeper, folder string, lines *httpserver.Lines) (*acceptedFolder, error) {
+func newAcceptedFolder(keeper watch.Keeper, folder string, lines *eventlog.Lines) (*acceptedFolder, error) {
 	if err := os.MkdirAll(folder, 0o755); err != nil {
 		return nil, fmt.Errorf("ctwatch: accepted-folder: %w", err)
 	}
@@ -45,7 +45,7 @@ func (a *acceptedFolder) Keep(log watch.Log, next watch.State, entries []watch.E
 	if !log.IsTiled() || len(head.Signed) == 0 || a.shown[log.ID] == head.Timestamp {
 		return nil
 	}
-	if err := stores.ShowFile(filepath.Join(a.folder, acceptedName(log.Origin)), head.Signed); err != nil {
+	if err := blob.ShowFile(filepath.Join(a.folder, acceptedName(log.Origin)), head.Signed); err != nil {
 		a.lines.Error("accepted-folder", "log", log.Name, "fault", err)
 		return nil
 	}

@@ -11,7 +11,7 @@ import (
 	"golang.org/x/mod/sumdb/note"
 
 	"wagtenib/bindings/go/wagtenib"
-	"wagtenib/internal/httpserver"
+	"wagtenib/internal/command/eventlog"
 	"wagtenib/internal/watch"
 	"wagtenib/internal/witness"
 )
@@ -58,7 +58,7 @@ func (failing) Keep(watch.Log, watch.State, []watch.Entry) error {
 // TestWritesNoHeadThatTheStoreRefuses: a head that could not be stored is not written for a witness.
 func TestWritesNoHeadThatTheStoreRefuses(t *testing.T) {
 	folder := filepath.Join(t.TempDir(), "accepted")
-	keeper, err := newAcceptedFolder(failing{}, folder, httpserver.NewLines(io.Discard))
+	keeper, err := newAcceptedFolder(failing{}, folder, eventlog.NewLines(io.Discard))
 	must(t, err)
 	log := watch.Log{ID: watch.LogID{1}, Origin: "log.example"}
 	head := watch.Head{TreeHead: wagtenib.TreeHead{TreeSize: 1, Timestamp: 1}, Signed: []byte("a checkpoint")}

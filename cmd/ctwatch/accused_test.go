@@ -6,7 +6,7 @@ import (
 	"testing"
 	"time"
 
-	"wagtenib/internal/testcert"
+	"wagtenib/internal/testkit/testcert"
 )
 
 // TestAccusesOnceOfTheSameRoot: a log signs the same wrong root again and again, with a new timestamp each time. This

@@ -10,11 +10,11 @@ import (
 	"path/filepath"
 	"strings"
 
+	"wagtenib/internal/audit"
+	"wagtenib/internal/command/version"
 	"wagtenib/internal/logclient"
-	"wagtenib/internal/version"
 	"wagtenib/internal/watch"
 	"wagtenib/internal/watch/alert"
-	"wagtenib/internal/watch/audit"
 	"wagtenib/internal/watch/loglist"
 )
 

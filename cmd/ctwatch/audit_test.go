@@ -22,8 +22,8 @@ import (
 	"testing"
 	"time"
 
-	"wagtenib/internal/logcheck"
-	"wagtenib/internal/testlog"
+	"wagtenib/internal/audit/judge"
+	"wagtenib/internal/testkit/testlog"
 )
 
 // logArguments serves a log, and returns the arguments that name it as a tiled log.
@@ -101,7 +101,7 @@ func TestAuditsACertificate(t *testing.T) {
 	if status != statusAccused || !strings.Contains(out, ": NEVER: the leaf is not among the 300") {
 		t.Errorf("without the entry: status %d: %s%s", status, out, faults)
 	}
-	if _, err := logcheck.Evidence(filepath.Join(evidence, "1"), log.PublicKey()); err != nil {
+	if _, err := judge.Evidence(filepath.Join(evidence, "1"), log.PublicKey()); err != nil {
 		t.Error(err)
 	}
 	log.Add(entry)
@@ -147,7 +147,7 @@ func TestAuditsByTheTime(t *testing.T) {
 		if status != statusAccused || !strings.Contains(out, expected) {
 			t.Errorf("%q: status %d: %s%s", expected, status, out, faults)
 		}
-		if _, err := logcheck.Evidence(filepath.Join(evidence, "1"), log.PublicKey()); err != nil {
+		if _, err := judge.Evidence(filepath.Join(evidence, "1"), log.PublicKey()); err != nil {
 			t.Errorf("%q: %v", expected, err)
 		}
 	}
@@ -202,7 +202,7 @@ func TestComparesHeads(t *testing.T) {
 		!strings.Contains(out, "1 are not, 0 are not proved, and 1 are signed by no log") {
 		t.Errorf("status %d: %s", status, out)
 	}
-	if _, err := logcheck.Evidence(filepath.Join(evidence, "1"), log.PublicKey()); err != nil {
+	if _, err := judge.Evidence(filepath.Join(evidence, "1"), log.PublicKey()); err != nil {
 		t.Error(err)
 	}
 }

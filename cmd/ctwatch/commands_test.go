@@ -18,8 +18,8 @@ import (
 	"golang.org/x/net/html"
 
 	"wagtenib/bindings/go/wagtenib"
-	"wagtenib/internal/testcert"
-	"wagtenib/internal/testutil"
+	"wagtenib/internal/testkit"
+	"wagtenib/internal/testkit/testcert"
 	"wagtenib/internal/watch"
 	"wagtenib/internal/watch/alert"
 	"wagtenib/internal/watch/namesearch"
@@ -27,7 +27,7 @@ import (
 )
 
 // TestMain runs the tests, or is the program itself.
-func TestMain(m *testing.M) { testutil.Main(m, main) }
+func TestMain(m *testing.M) { testkit.Main(m, main) }
 
 // TestRefusesSettings: a wrong setting is refused with status 2 before a file is created. The message names the remedy.
 func TestRefusesSettings(t *testing.T) {
@@ -310,13 +310,13 @@ func TestRunsUntilASignal(t *testing.T) {
 	arguments := []string{"run", "--name", "example.org", "--folder", folder, "--log", log.setting(true), "--pause",
 		"1s", "--listen", "127.0.0.1:0", "--json", alerts, "--quiet"}
 	go func() { ended <- run(ctx, arguments, &faults, &faults) }()
-	testutil.Eventually(t, "the log is read to its end", func() bool {
+	testkit.Eventually(t, "the log is read to its end", func() bool {
 		status, out, _ := ctwatch(t, "health", "--folder", folder)
 		return status == 0 && strings.HasPrefix(out, "1 log;")
 	})
 	log.add(authority, authority.Issue("shop.example.org"))
 	var one alert.Alert
-	testutil.Eventually(t, "the alert is sent", func() bool {
+	testkit.Eventually(t, "the alert is sent", func() bool {
 		content, err := os.ReadFile(alerts)
 		return err == nil && json.Unmarshal(content, &one) == nil
 	})

@@ -7,10 +7,10 @@ import (
 	"io"
 	"slices"
 
+	"wagtenib/internal/audit"
 	"wagtenib/internal/logclient"
 	"wagtenib/internal/watch"
 	"wagtenib/internal/watch/alert"
-	"wagtenib/internal/watch/audit"
 )
 
 var _ = addCommand("compare", "PLACE compares the heads of logs with those that others saw, in a file, a folder or at "+

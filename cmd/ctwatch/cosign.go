@@ -9,10 +9,10 @@ import (
 	"net/http"
 	"time"
 
-	"wagtenib/internal/stores"
+	"wagtenib/internal/audit"
+	"wagtenib/internal/blob"
 	"wagtenib/internal/watch"
 	"wagtenib/internal/watch/alert"
-	"wagtenib/internal/watch/audit"
 	"wagtenib/internal/watch/watchstore"
 	"wagtenib/internal/witness"
 )
@@ -67,7 +67,7 @@ func runCosign(ctx context.Context, arguments []string, out io.Writer) error {
 		_, err = out.Write(cosigned)
 		return err
 	}
-	if err := stores.ShowFile(*into, cosigned); err != nil {
+	if err := blob.ShowFile(*into, cosigned); err != nil {
 		return err
 	}
 	_, err = fmt.Fprintf(out, "%d leaves are cosigned by %s\n", head.TreeSize, alert.Safe(one.Name))

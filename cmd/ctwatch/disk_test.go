@@ -8,8 +8,8 @@ import (
 	"syscall"
 	"testing"
 
-	"wagtenib/internal/testcert"
-	"wagtenib/internal/testutil"
+	"wagtenib/internal/testkit"
+	"wagtenib/internal/testkit/testcert"
 )
 
 // TestFullDiskLosesNoAlert runs the program on a disk that gets full while it reads a log. The program reports this
@@ -46,11 +46,11 @@ func runFull(t *testing.T, folder, expected string, isLimited bool, makeRoom fun
 	arguments := []string{"run", "--once", "--from-start", "--quiet", "--name", "example.org", "--folder",
 		filepath.Join(folder, "store"), "--json", alerts, "--log", log.setting(true)}
 	var out bytes.Buffer
-	program := testutil.Program(t, arguments...)
+	program := testkit.Program(t, arguments...)
 	program.Stdout, program.Stderr = &out, &out
 	if isLimited {
 		// The program inherits the bound.
-		_ = testutil.ShortFiles(t, 512<<10, program.Run)
+		_ = testkit.ShortFiles(t, 512<<10, program.Run)
 	} else {
 		_ = program.Run()
 	}

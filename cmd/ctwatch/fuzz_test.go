@@ -11,7 +11,7 @@ import (
 	"testing"
 	"time"
 
-	"wagtenib/internal/testcert"
+	"wagtenib/internal/testkit/testcert"
 	"wagtenib/internal/watch"
 	"wagtenib/internal/watch/namesearch"
 )

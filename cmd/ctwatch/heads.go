@@ -8,9 +8,9 @@ import (
 	"sync"
 	"time"
 
-	"wagtenib/internal/httpserver"
+	"wagtenib/internal/audit"
+	"wagtenib/internal/command/eventlog"
 	"wagtenib/internal/logclient"
-	"wagtenib/internal/watch/audit"
 )
 
 // othersHeads reads the signed heads that others saw, from a file, a folder or a URL. All logs use the same reading,
@@ -19,7 +19,7 @@ type othersHeads struct {
 	place  string
 	pause  time.Duration
 	client logclient.Options
-	lines  *httpserver.Lines
+	lines  *eventlog.Lines
 	mutex  sync.Mutex
 	read   time.Time
 	heads  [][]byte
@@ -28,7 +28,7 @@ type othersHeads struct {
 // newOthersHeads returns a function that returns the heads at a place, or nil if there is no place. If they cannot be
 // read, it logs this, and the function returns the heads of the last reading. The error says that a file does not exist.
 func newOthersHeads(settings logSettings, client logclient.Options,
-	lines *httpserver.Lines) (func(context.Context) [][]byte, error) {
+	lines *eventlog.Lines) (func(context.Context) [][]byte, error) {
 	place := settings.policy.heads
 	if place == "" {
 		return nil, nil

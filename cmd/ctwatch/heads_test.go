@@ -8,9 +8,9 @@ import (
 	"testing"
 	"time"
 
-	"wagtenib/internal/logcheck"
-	"wagtenib/internal/testcert"
-	"wagtenib/internal/testlog"
+	"wagtenib/internal/audit/judge"
+	"wagtenib/internal/testkit/testcert"
+	"wagtenib/internal/testkit/testlog"
 )
 
 // TestRunComparesHeadsOfOthers: a run compares the log with the heads in a file. A fork of the log that lags is accused
@@ -53,7 +53,7 @@ func TestRunComparesHeadsOfOthers(t *testing.T) {
 		if status, out, faults = ctwatch(t, "evidence", number, written, "--folder", store); status != 0 {
 			t.Fatalf("status %d: %s%s", status, out, faults)
 		}
-		if shown, err := logcheck.Evidence(written, log.PublicKey()); err != nil || !strings.Contains(shown, expected) {
+		if shown, err := judge.Evidence(written, log.PublicKey()); err != nil || !strings.Contains(shown, expected) {
 			t.Errorf("evidence %s: %s, %v", number, shown, err)
 		}
 	}

@@ -6,8 +6,8 @@ import (
 	"strings"
 	"testing"
 
-	"wagtenib/internal/testcert"
-	"wagtenib/internal/testutil"
+	"wagtenib/internal/testkit"
+	"wagtenib/internal/testkit/testcert"
 )
 
 // TestHintNamesTheProgramAsItWasCalled: an alert says how to get the certificate, with the path by which the program
@@ -18,7 +18,7 @@ func TestHintNamesTheProgramAsItWasCalled(t *testing.T) {
 	for called, hint := range map[string]string{"cmd/out/ctwatch": "; cmd/out/ctwatch certificate ",
 		"/usr/bin/ctwatch": "; /usr/bin/ctwatch certificate ", "ctwatch": "; ctwatch certificate ",
 		"/a folder/ctwatch": "; ctwatch certificate ", "/a$b/ctwatch": "; ctwatch certificate "} {
-		program := testutil.Program(t, "run", "--once", "--from-start", "--name", "example.org", "--folder", t.TempDir(),
+		program := testkit.Program(t, "run", "--once", "--from-start", "--name", "example.org", "--folder", t.TempDir(),
 			"--log", log.setting(true))
 		program.Args[0] = called
 		out, err := program.Output()

@@ -7,7 +7,7 @@ import (
 	"net/http"
 	"testing"
 
-	"wagtenib/internal/testutil"
+	"wagtenib/internal/testkit"
 )
 
 // TestPageRefusesOtherHosts: the page answers for addresses, localhost and the names of the settings. A page elsewhere
@@ -35,7 +35,7 @@ func TestPageRefusesOtherHosts(t *testing.T) {
 		must(t, answer.Body.Close())
 		return answer.StatusCode
 	}
-	testutil.Eventually(t, "the page answers", func() bool { return ask(address, "/") == http.StatusOK })
+	testkit.Eventually(t, "the page answers", func() bool { return ask(address, "/") == http.StatusOK })
 	for host, expected := range map[string]int{address: 200, "localhost:8650": 200, "LOCALHOST": 200, "[::1]:8650": 200,
 		"192.0.2.7": 200, "watch.example.org": 200, "watch.example.org.:80": 200, "evil.example": 421,
 		"evil.example:8650": 421, "127.0.0.1.evil.example": 421, "a.watch.example.org": 421, "localhost.evil.example": 421} {

@@ -7,8 +7,8 @@ import (
 	"syscall"
 	"testing"
 
-	"wagtenib/internal/testcert"
-	"wagtenib/internal/testutil"
+	"wagtenib/internal/testkit"
+	"wagtenib/internal/testkit/testcert"
 )
 
 // maxMemory is the maximum memory of ctwatch, in bytes, while a log gives hostile answers. The systemd unit allows
@@ -37,7 +37,7 @@ func TestHostileAnswersTakeBoundedMemory(t *testing.T) {
 			_, _ = w.Write(answer)
 			return true
 		})
-		program := testutil.Program(t, "run", "--once", "--from-start", "--name", "example.org", "--folder", t.TempDir(),
+		program := testkit.Program(t, "run", "--once", "--from-start", "--name", "example.org", "--folder", t.TempDir(),
 			"--log", log.setting(what == "tile/data/"))
 		out, err := program.CombinedOutput()
 		if program.ProcessState.ExitCode() != statusUnread && program.ProcessState.ExitCode() != statusAccused {

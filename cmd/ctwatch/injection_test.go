@@ -18,8 +18,8 @@ import (
 
 	"golang.org/x/net/html"
 
-	"wagtenib/internal/testcert"
-	"wagtenib/internal/testutil"
+	"wagtenib/internal/testkit"
+	"wagtenib/internal/testkit/testcert"
 	"wagtenib/internal/watch/alert"
 	"wagtenib/internal/watch/watchstore"
 )
@@ -55,7 +55,7 @@ func injected(t *testing.T) (folder, out string) {
 	} {
 		must(t, os.WriteFile(filepath.Join(folder, name), []byte("#!/bin/sh\n"+script+"\n"), 0o700))
 	}
-	program := testutil.Program(t, "run", "--once", "--from-start", "--name", "example.org", "--folder",
+	program := testkit.Program(t, "run", "--once", "--from-start", "--name", "example.org", "--folder",
 		filepath.Join(folder, "store"), "--log-list", filepath.Join(folder, "list"), "--json", filepath.Join(folder, "lines"),
 		"--mail", "owner@example.org", "--sendmail", filepath.Join(folder, "sendmail"), "--command",
 		filepath.Join(folder, "notify"))

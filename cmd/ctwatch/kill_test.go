@@ -13,9 +13,9 @@ import (
 	"testing"
 	"time"
 
-	"wagtenib/internal/logcheck"
-	"wagtenib/internal/testcert"
-	"wagtenib/internal/testutil"
+	"wagtenib/internal/audit/judge"
+	"wagtenib/internal/testkit"
+	"wagtenib/internal/testkit/testcert"
 	"wagtenib/internal/watch/alert"
 )
 
@@ -98,7 +98,7 @@ func judgeFork(t *testing.T, folder string, key []byte) {
 	if status != 0 || !strings.Contains(out, "fork") {
 		t.Fatalf("the evidence: status %d: %s%s", status, out, faults)
 	}
-	if shown, err := logcheck.Evidence(evidence, key); err != nil || !strings.Contains(shown, "two roots") {
+	if shown, err := judge.Evidence(evidence, key); err != nil || !strings.Contains(shown, "two roots") {
 		t.Errorf("the judge says %q, %v", shown, err)
 	}
 }
@@ -110,7 +110,7 @@ func killAt(t *testing.T, arguments []string, asked chan struct{}, requests int,
 	for len(asked) > 0 {
 		<-asked
 	}
-	program := testutil.Program(t, arguments...)
+	program := testkit.Program(t, arguments...)
 	var faults bytes.Buffer
 	program.Stderr = &faults
 	must(t, program.Start())

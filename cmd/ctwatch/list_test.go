@@ -17,8 +17,8 @@ import (
 	"syscall"
 	"testing"
 
-	"wagtenib/internal/testcert"
-	"wagtenib/internal/testutil"
+	"wagtenib/internal/testkit"
+	"wagtenib/internal/testkit/testcert"
 )
 
 // refusingList serves a log list with one log. It refuses every request until isOpen is set.
@@ -98,7 +98,7 @@ func nextEvent(t *testing.T, from *bufio.Scanner, name string) event {
 // started starts the program, and returns a scanner of its standard error.
 func started(t *testing.T, arguments ...string) (*exec.Cmd, *bufio.Scanner) {
 	t.Helper()
-	program := testutil.Program(t, arguments...)
+	program := testkit.Program(t, arguments...)
 	lines, err := program.StderrPipe()
 	must(t, err)
 	must(t, program.Start())
@@ -121,7 +121,7 @@ func TestReportsTheFirstFailureAtOnce(t *testing.T) {
 			!strings.Contains(lines.Text(), "status 503") || !strings.Contains(lines.Text(), "it is tried again") {
 			t.Errorf("%s: the first line is %q", arguments[0], lines.Text())
 		}
-		testutil.Eventually(t, "the list is asked for three times", func() bool { return list.asked.Load() >= 3 })
+		testkit.Eventually(t, "the list is asked for three times", func() bool { return list.asked.Load() >= 3 })
 		list.isOpen.Store(true)
 		for lines.Scan() {
 			if strings.Contains(lines.Text(), "it is tried again") {
@@ -175,7 +175,7 @@ func TestReportsAListThatWasNeverRead(t *testing.T) {
 	if one := nextEvent(t, lines, "log-list"); one.Logs != 1 || one.Fault != "" || one.List != list.address {
 		t.Errorf("the line of the list that was read is %+v", one)
 	}
-	testutil.Eventually(t, "/healthz is well", func() bool {
+	testkit.Eventually(t, "/healthz is well", func() bool {
 		status, line := healthOf(t, page)
 		return status == http.StatusOK && strings.HasPrefix(line, "1 log; all are read")
 	})
@@ -309,7 +309,7 @@ func TestWatchesTheLogsOfTheLastList(t *testing.T) {
 		}
 	}
 	w.write(t, listOf(t, w.log))
-	testutil.Eventually(t, "/healthz is well", func() bool {
+	testkit.Eventually(t, "/healthz is well", func() bool {
 		status, line := healthOf(t, page)
 		return status == http.StatusOK && strings.HasPrefix(line, "1 log; all are read")
 	})

@@ -13,9 +13,9 @@ import (
 	"sync"
 	"time"
 
-	"wagtenib/internal/httpserver"
+	"wagtenib/internal/command/eventlog"
+	"wagtenib/internal/command/version"
 	"wagtenib/internal/logclient"
-	"wagtenib/internal/version"
 	"wagtenib/internal/watch"
 	"wagtenib/internal/watch/alert"
 	"wagtenib/internal/watch/loglist"
@@ -89,7 +89,7 @@ type follower struct {
 	settings logSettings
 	list     *loglist.Source // nil if no list is followed
 	group    *watch.Group
-	lines    *httpserver.Lines
+	lines    *eventlog.Lines
 	lists    *watchstore.Store // stores the list that was last read; must be set before logs are read
 	listed   listStatus
 }
@@ -138,7 +138,7 @@ func (l *listStatus) silence(now time.Time, after time.Duration) string {
 	return fmt.Sprintf("it could not be read for %v: %v", now.Sub(l.since).Round(time.Minute), l.fault)
 }
 
-func newFollower(settings logSettings, keeper watch.Keeper, lines *httpserver.Lines) (*follower, error) {
+func newFollower(settings logSettings, keeper watch.Keeper, lines *eventlog.Lines) (*follower, error) {
 	agent, err := logclient.UserAgent("ctwatch", version.Number(), settings.contact)
 	if err != nil {
 		return nil, fmt.Errorf("%w: %w", errUsage, err)

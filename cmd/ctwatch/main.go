@@ -17,8 +17,8 @@ import (
 	"strings"
 	"syscall"
 
-	"wagtenib/internal/settingsfile"
-	"wagtenib/internal/version"
+	"wagtenib/internal/command/settingsfile"
+	"wagtenib/internal/command/version"
 	"wagtenib/internal/watch/watchstore"
 )
 

@@ -11,9 +11,9 @@ import (
 	"testing"
 	"time"
 
-	"wagtenib/internal/testcert"
-	"wagtenib/internal/testlog"
-	"wagtenib/internal/testutil"
+	"wagtenib/internal/testkit"
+	"wagtenib/internal/testkit/testcert"
+	"wagtenib/internal/testkit/testlog"
 	"wagtenib/internal/watch/alert"
 )
 
@@ -76,7 +76,7 @@ func reportAll(t *testing.T, count int, output ...string) {
 	t.Helper()
 	arguments := []string{"run", "--once", "--from-start", "--quiet", "--name", "example.org", "--folder", t.TempDir(),
 		"--log", manyIssuances(t, count).setting(true)}
-	program := testutil.Program(t, append(arguments, output...)...)
+	program := testkit.Program(t, append(arguments, output...)...)
 	began := time.Now()
 	out, err := program.CombinedOutput()
 	duration := time.Since(began)

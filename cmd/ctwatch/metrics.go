@@ -5,7 +5,7 @@ import (
 
 	"github.com/prometheus/client_golang/prometheus"
 
-	"wagtenib/internal/version"
+	"wagtenib/internal/command/version"
 	"wagtenib/internal/watch/alert"
 	"wagtenib/internal/watch/watchstore"
 )

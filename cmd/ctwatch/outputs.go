@@ -6,8 +6,8 @@ import (
 	"io"
 	"strings"
 
+	"wagtenib/internal/command/version"
 	"wagtenib/internal/logclient"
-	"wagtenib/internal/version"
 	"wagtenib/internal/watch/alert"
 )
 

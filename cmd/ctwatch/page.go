@@ -18,7 +18,7 @@ import (
 	"github.com/prometheus/client_golang/prometheus"
 	"github.com/prometheus/client_golang/prometheus/promhttp"
 
-	"wagtenib/internal/httpserver"
+	"wagtenib/internal/command/eventlog"
 	"wagtenib/internal/watch/alert"
 	"wagtenib/internal/watch/namesearch"
 	"wagtenib/internal/watch/watchstore"
@@ -60,7 +60,7 @@ type pageServer struct {
 
 // listen serves the page at the address of the settings. If the address is empty, it serves nothing.
 func listen(settings serveSettings, store *watchstore.Store, listed *listStatus,
-	lines *httpserver.Lines) (*pageServer, error) {
+	lines *eventlog.Lines) (*pageServer, error) {
 	if settings.listen == "" {
 		return &pageServer{}, nil
 	}
@@ -118,7 +118,7 @@ func onlyHosts(next http.Handler, names []string) http.Handler {
 }
 
 // pageHandler returns the handler of the page, of /metrics and of /healthz.
-func pageHandler(store *watchstore.Store, listed *listStatus, lines *httpserver.Lines) http.Handler {
+func pageHandler(store *watchstore.Store, listed *listStatus, lines *eventlog.Lines) http.Handler {
 	h := &pages{store, listed, lines}
 	mux := http.NewServeMux()
 	mux.HandleFunc("GET /{$}", h.search)
@@ -147,7 +147,7 @@ func pageHandler(store *watchstore.Store, listed *listStatus, lines *httpserver.
 type pages struct {
 	store  *watchstore.Store
 	listed *listStatus
-	lines  *httpserver.Lines
+	lines  *eventlog.Lines
 }
 
 // content holds the values that the template shows.

@@ -9,7 +9,7 @@ import (
 	"testing"
 	"time"
 
-	"wagtenib/internal/testcert"
+	"wagtenib/internal/testkit/testcert"
 )
 
 // The pages about the program, the pattern of code in them, and the pattern of flags in a help text.

@@ -5,8 +5,8 @@ import (
 	"fmt"
 	"os"
 
+	"wagtenib/internal/audit"
 	"wagtenib/internal/watch"
-	"wagtenib/internal/watch/audit"
 )
 
 // policyFlags holds the values of the flags for what others say of a log: a policy of witnesses, and heads that they saw.

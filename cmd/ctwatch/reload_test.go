@@ -10,8 +10,8 @@ import (
 	"syscall"
 	"testing"
 
-	"wagtenib/internal/testcert"
-	"wagtenib/internal/testutil"
+	"wagtenib/internal/testkit"
+	"wagtenib/internal/testkit/testcert"
 	"wagtenib/internal/watch/alert"
 )
 
@@ -27,7 +27,7 @@ func TestReloadsSettings(t *testing.T) {
 			strings.Join(names, "\nname "), log.setting(true), folder, alerts)), 0o600))
 	}
 	write(first, "example.org")
-	program := testutil.Program(t, "run", "--config", config)
+	program := testkit.Program(t, "run", "--config", config)
 	stderr, err := os.Create(filepath.Join(folder, "stderr"))
 	must(t, err)
 	defer stderr.Close()
@@ -35,12 +35,12 @@ func TestReloadsSettings(t *testing.T) {
 	must(t, program.Start())
 	awaitText := func(text string) {
 		t.Helper()
-		testutil.Eventually(t, text, func() bool {
+		testkit.Eventually(t, text, func() bool {
 			content, err := os.ReadFile(stderr.Name())
 			return err == nil && bytes.Contains(content, []byte(text))
 		})
 	}
-	testutil.Eventually(t, "the log is read to its end", func() bool {
+	testkit.Eventually(t, "the log is read to its end", func() bool {
 		status, out, _ := ctwatch(t, "health", "--folder", folder)
 		return status == 0 && strings.HasPrefix(out, "1 log;")
 	})
@@ -70,7 +70,7 @@ func TestReloadsSettings(t *testing.T) {
 // checkHosts waits until a file has as many alerts as there are hosts, and checks that they are for these hosts.
 func checkHosts(t *testing.T, path string, hosts ...string) {
 	t.Helper()
-	testutil.Eventually(t, "the alert is sent", func() bool {
+	testkit.Eventually(t, "the alert is sent", func() bool {
 		content, err := os.ReadFile(path)
 		return err == nil && bytes.Count(content, []byte("\n")) >= len(hosts)
 	})

@@ -9,7 +9,7 @@ import (
 	"strings"
 	"testing"
 
-	"wagtenib/internal/testcert"
+	"wagtenib/internal/testkit/testcert"
 	"wagtenib/internal/watch/alert"
 	"wagtenib/internal/watch/watchstore"
 )

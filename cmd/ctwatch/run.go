@@ -15,7 +15,7 @@ import (
 
 	"github.com/coreos/go-systemd/v22/daemon"
 
-	"wagtenib/internal/httpserver"
+	"wagtenib/internal/command/eventlog"
 	"wagtenib/internal/watch"
 	"wagtenib/internal/watch/alert"
 	"wagtenib/internal/watch/namesearch"
@@ -33,7 +33,7 @@ type watching struct {
 	store    *watchstore.Store
 	outputs  []alert.Output
 	follower *follower
-	lines    *httpserver.Lines
+	lines    *eventlog.Lines
 	wakes    []chan struct{}
 }
 
@@ -47,7 +47,7 @@ func runWatch(ctx context.Context, arguments []string, out io.Writer) error {
 	if err != nil {
 		return err
 	}
-	lines := httpserver.NewLines(os.Stderr)
+	lines := eventlog.NewLines(os.Stderr)
 	if s.logs.once || s.serve.config == "" {
 		return s.watch(ctx, out, lines)
 	}
@@ -70,7 +70,7 @@ func runWatch(ctx context.Context, arguments []string, out io.Writer) error {
 
 // reload reads the settings again at each SIGHUP, and returns the first correct ones. It returns nil after the context
 // has ended.
-func reload(ctx context.Context, arguments []string, hangups <-chan os.Signal, lines *httpserver.Lines) *settings {
+func reload(ctx context.Context, arguments []string, hangups <-chan os.Signal, lines *eventlog.Lines) *settings {
 	for {
 		select {
 		case <-ctx.Done():
@@ -91,7 +91,7 @@ func reload(ctx context.Context, arguments []string, hangups <-chan os.Signal, l
 
 // check opens the outputs and the log list that the settings name, as a new run would. It does not open the store,
 // which the current run has open.
-func (s *settings) check(lines *httpserver.Lines) error {
+func (s *settings) check(lines *eventlog.Lines) error {
 	_, closeOutputs, err := s.outputs.open(io.Discard, s.logs.contact)
 	if err == nil {
 		_, err = newFollower(s.logs, nil, lines)
@@ -101,7 +101,7 @@ func (s *settings) check(lines *httpserver.Lines) error {
 
 // watch opens the store and the outputs, and follows logs until the context ends, or with --once up to their newest
 // heads.
-func (s *settings) watch(ctx context.Context, out io.Writer, lines *httpserver.Lines) (err error) {
+func (s *settings) watch(ctx context.Context, out io.Writer, lines *eventlog.Lines) (err error) {
 	outputs, closeOutputs, err := s.outputs.open(out, s.logs.contact)
 	defer func() { err = errors.Join(err, closeOutputs()) }()
 	if err != nil {

@@ -14,8 +14,8 @@ import (
 	"testing"
 	"time"
 
-	"wagtenib/internal/testcert"
-	"wagtenib/internal/testlog"
+	"wagtenib/internal/testkit/testcert"
+	"wagtenib/internal/testkit/testlog"
 	"wagtenib/internal/watch/alert"
 )
 

@@ -12,7 +12,7 @@ import (
 	"strings"
 	"time"
 
-	"wagtenib/internal/settingsfile"
+	"wagtenib/internal/command/settingsfile"
 	"wagtenib/internal/watch"
 	"wagtenib/internal/watch/namesearch"
 	"wagtenib/internal/watch/watchstore"

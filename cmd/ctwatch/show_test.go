@@ -12,9 +12,9 @@ import (
 	"strings"
 	"testing"
 
-	"wagtenib/internal/logcheck"
-	"wagtenib/internal/testcert"
-	"wagtenib/internal/testlog"
+	"wagtenib/internal/audit/judge"
+	"wagtenib/internal/testkit/testcert"
+	"wagtenib/internal/testkit/testlog"
 	"wagtenib/internal/watch"
 )
 
@@ -68,7 +68,7 @@ func TestWritesTheProofOfAnEntry(t *testing.T) {
 		if status != 0 || !strings.Contains(out, folder+" has the files") {
 			t.Fatalf("tiled %v: status %d: %s%s", isTiled, status, out, faults)
 		}
-		shown, err := logcheck.Evidence(folder, log.PublicKey())
+		shown, err := judge.Evidence(folder, log.PublicKey())
 		if err != nil || !strings.Contains(shown, "its leaf 6 is the file leaf") {
 			t.Errorf("tiled %v: %v: %s", isTiled, err, shown)
 		}
@@ -82,7 +82,7 @@ func TestWritesTheProofOfAnEntry(t *testing.T) {
 			changed := slices.Clone(content)
 			changed[len(changed)/2] ^= 1
 			must(t, os.WriteFile(path, changed, 0o600))
-			if shown, err := logcheck.Evidence(folder, log.PublicKey()); !errors.Is(err, logcheck.ErrEvidence) {
+			if shown, err := judge.Evidence(folder, log.PublicKey()); !errors.Is(err, judge.ErrEvidence) {
 				t.Errorf("tiled %v: %s is changed: %v: %s", isTiled, name, err, shown)
 			}
 			must(t, os.WriteFile(path, content, 0o600))

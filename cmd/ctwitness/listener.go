@@ -6,7 +6,7 @@ import (
 	"net/netip"
 	"sync"
 
-	"wagtenib/internal/httpserver"
+	"wagtenib/internal/command/eventlog"
 )
 
 // maxPerAddress is the maximum number of connections from one address, an eighth of all, so that one host cannot keep
@@ -108,4 +108,4 @@ func (c *countedConnection) Close() error {
 }
 
 // logOf returns a logger for net/http that writes log lines.
-func logOf(lines *httpserver.Lines) *stdlog.Logger { return stdlog.New(lines, "", 0) }
+func logOf(lines *eventlog.Lines) *stdlog.Logger { return stdlog.New(lines, "", 0) }

@@ -17,9 +17,9 @@ import (
 	"testing"
 	"time"
 
-	"wagtenib/internal/httpserver"
-	"wagtenib/internal/stores"
-	"wagtenib/internal/testutil"
+	"wagtenib/internal/blob"
+	"wagtenib/internal/command/eventlog"
+	"wagtenib/internal/testkit"
 )
 
 // fakeListener returns a connection, or an error if it has one, each time that it is asked.
@@ -55,7 +55,7 @@ func (c *fakeConnection) RemoteAddr() net.Addr {
 // TestLimitedListener checks that a connection above the limit waits until another one is closed, and that closing
 // twice counts once. If Accept fails, the slot is free again.
 func TestLimitedListener(t *testing.T) {
-	ctx := testutil.Limited(t, testutil.Longest)
+	ctx := testkit.Limited(t, testkit.Longest)
 	of := &fakeListener{}
 	b := limitedListener{of, make(chan struct{}, 2), &addresses{connections: map[netip.Prefix]int{}}}
 	var first []net.Conn
@@ -109,7 +109,7 @@ func TestOneHost(t *testing.T) {
 	clients, err := clientsAt("127.0.0.1:0")
 	must(t, err)
 	server := serverOf(http.HandlerFunc(func(w http.ResponseWriter, r *http.Request) { io.WriteString(w, "answered") }),
-		httpserver.NewLines(io.Discard))
+		eventlog.NewLines(io.Discard))
 	go server.Serve(clients)
 	defer server.Close()
 	from := func(host byte) net.Conn {
@@ -138,7 +138,7 @@ func TestOneHost(t *testing.T) {
 		}
 	}
 	idle[0].Close()
-	testutil.Eventually(t, "a free slot", func() bool { return answers(from(2)) })
+	testkit.Eventually(t, "a free slot", func() bool { return answers(from(2)) })
 }
 
 // TestGroups checks that an IPv6 address counts with its /64 network, and that a proxy on this machine has no limit.
@@ -175,14 +175,14 @@ func TestClientsAt(t *testing.T) {
 func TestListenerThatFails(t *testing.T) {
 	broken, failed := errors.New("the listener is broken"), make(chan error, 1)
 	failed <- broken
-	if err := (&running{}).wait(&settings{}, httpserver.NewLines(io.Discard), nil, failed); !errors.Is(err, broken) {
+	if err := (&running{}).wait(&settings{}, eventlog.NewLines(io.Discard), nil, failed); !errors.Is(err, broken) {
 		t.Error(err)
 	}
 }
 
 // closing is a lock that counts how often it is closed.
 type closing struct {
-	stores.Lock
+	blob.Lock
 	closed int
 }
 
@@ -193,11 +193,11 @@ func (c *closing) Close() error {
 
 // TestOpenedOnce checks that a log's state is opened once, however often the logs are reloaded, and closed at the end.
 func TestOpenedOnce(t *testing.T) {
-	ctx := testutil.Limited(t, testutil.Longest)
+	ctx := testkit.Limited(t, testkit.Longest)
 	p, _ := ofOneLog(t)
 	s, err := parse(p.arguments(), io.Discard)
 	must(t, err)
-	w, err := open(s, httpserver.NewLines(io.Discard))
+	w, err := open(s, eventlog.NewLines(io.Discard))
 	must(t, err)
 	must(t, w.useLogs(s))
 	of, found := s.log("a.example")
@@ -223,7 +223,7 @@ func TestRemovedLogIsClosed(t *testing.T) {
 	p, _ := ofOneLog(t)
 	s, err := parse(p.arguments(), io.Discard)
 	must(t, err)
-	w, err := open(s, httpserver.NewLines(io.Discard))
+	w, err := open(s, eventlog.NewLines(io.Discard))
 	must(t, err)
 	must(t, w.useLogs(s))
 	removed := &closing{Lock: w.locks["a.example"]}
@@ -241,7 +241,7 @@ func TestRemovedLogIsClosed(t *testing.T) {
 }
 
 // hangingLock is a lock that never answers.
-type hangingLock struct{ stores.Lock }
+type hangingLock struct{ blob.Lock }
 
 func (hangingLock) Read(ctx context.Context) (string, error) {
 	<-ctx.Done()
@@ -259,11 +259,11 @@ func TestOpenTimeout(t *testing.T) {
 	p, _ := ofOneLog(t)
 	s, err := parse(p.arguments("--open-timeout", "10ms", "--create", "a.example"), io.Discard)
 	must(t, err)
-	w, err := open(s, httpserver.NewLines(io.Discard))
+	w, err := open(s, eventlog.NewLines(io.Discard))
 	must(t, err)
 	w.locks["a.example"] = hangingLock{}
 	for what, opens := range map[string]func() error{"opens": func() error { return w.useLogs(s) },
-		"creates": func() error { return w.create(s, httpserver.NewLines(io.Discard)) }} {
+		"creates": func() error { return w.create(s, eventlog.NewLines(io.Discard)) }} {
 		if err := opens(); !errors.Is(err, context.DeadlineExceeded) {
 			t.Errorf("it %s: %v", what, err)
 		}
@@ -274,7 +274,7 @@ func TestOpenTimeout(t *testing.T) {
 // logs becomes a log line.
 func TestServerOf(t *testing.T) {
 	var lines strings.Builder
-	s := serverOf(http.NotFoundHandler(), httpserver.NewLines(&lines))
+	s := serverOf(http.NotFoundHandler(), eventlog.NewLines(&lines))
 	if s.ErrorLog.Print("a handler that fails"); !strings.Contains(lines.String(), "a handler that fails") {
 		t.Errorf("the log has %q", lines.String())
 	}
@@ -315,7 +315,7 @@ func ofOneLog(t *testing.T) (p place, signed func(size int) []byte) {
 
 // heldLock is a lock whose next Read can be made to wait.
 type heldLock struct {
-	stores.Lock
+	blob.Lock
 	waitsNext     atomic.Bool
 	asked, answer chan struct{}
 }
@@ -340,11 +340,11 @@ func (p place) startOver(more ...string) (*process, *heldLock) {
 	must(p.t, err)
 	of := &heldLock{asked: make(chan struct{}), answer: make(chan struct{})}
 	one := p.startBy(func(to io.Writer, signals chan os.Signal) int {
-		lines := httpserver.NewLines(to)
+		lines := eventlog.NewLines(to)
 		w, err := open(s, lines)
 		must(p.t, err)
 		defer w.close()
-		of.Lock, err = stores.LockOf(testutil.Limited(p.t, testutil.Longest), s.state, "a.example")
+		of.Lock, err = blob.LockOf(testkit.Limited(p.t, testkit.Longest), s.state, "a.example")
 		must(p.t, err)
 		w.locks["a.example"] = of
 		return statusOf(w.serve(s, lines, signals), lines)
@@ -407,7 +407,7 @@ func TestEndIsLate(t *testing.T) {
 	if status := <-one.status; status != 1 || !strings.Contains(end, "waiting requests were not answered") {
 		t.Errorf("status %d: %s", status, end)
 	}
-	if duration := time.Since(start); duration > testutil.Longest/2 {
+	if duration := time.Since(start); duration > testkit.Longest/2 {
 		t.Errorf("the end took %v", duration)
 	}
 	<-unanswered

@@ -17,10 +17,10 @@ import (
 	"syscall"
 	"time"
 
-	"wagtenib/internal/httpserver"
-	"wagtenib/internal/settingsfile"
-	"wagtenib/internal/stores"
-	"wagtenib/internal/version"
+	"wagtenib/internal/blob"
+	"wagtenib/internal/command/eventlog"
+	"wagtenib/internal/command/settingsfile"
+	"wagtenib/internal/command/version"
 	"wagtenib/internal/witness"
 )
 
@@ -55,7 +55,7 @@ func run(arguments []string, out, to io.Writer, signals <-chan os.Signal) int {
 	if status, ends := settingsfile.Ends(err, to); ends {
 		return status
 	}
-	lines := httpserver.NewLines(to)
+	lines := eventlog.NewLines(to)
 	w, err := open(s, lines)
 	if err == nil {
 		defer w.close()
@@ -73,7 +73,7 @@ func run(arguments []string, out, to io.Writer, signals <-chan os.Signal) int {
 }
 
 // statusOf logs the end, and returns the exit status.
-func statusOf(err error, lines *httpserver.Lines) int {
+func statusOf(err error, lines *eventlog.Lines) int {
 	if err != nil {
 		lines.Error("end", "fault", err)
 		if errors.Is(err, witness.ErrState) {
@@ -88,10 +88,10 @@ func statusOf(err error, lines *httpserver.Lines) int {
 // running is a witness, with the locks that it opened.
 type running struct {
 	server *witness.Server
-	locks  map[string]stores.Lock
+	locks  map[string]blob.Lock
 }
 
-func open(s *settings, lines *httpserver.Lines) (*running, error) {
+func open(s *settings, lines *eventlog.Lines) (*running, error) {
 	key, err := readKey(s.key)
 	if err != nil {
 		return nil, err
@@ -100,7 +100,7 @@ func open(s *settings, lines *httpserver.Lines) (*running, error) {
 	if err != nil {
 		return nil, err
 	}
-	return &running{server, map[string]stores.Lock{}}, nil
+	return &running{server, map[string]blob.Lock{}}, nil
 }
 
 // close closes the locks.
@@ -119,7 +119,7 @@ func (w *running) log(ctx context.Context, s *settings, of logSetting) (witness.
 	if log.State != nil {
 		return log, nil
 	}
-	lock, err := stores.LockOf(ctx, s.state, of.origin)
+	lock, err := blob.LockOf(ctx, s.state, of.origin)
 	if err != nil {
 		return log, err
 	}
@@ -128,7 +128,7 @@ func (w *running) log(ctx context.Context, s *settings, of logSetting) (witness.
 }
 
 // create stores the first states of the logs that --create names, of which this witness never cosigned anything.
-func (w *running) create(s *settings, lines *httpserver.Lines) error {
+func (w *running) create(s *settings, lines *eventlog.Lines) error {
 	ctx, cancel := context.WithTimeout(context.Background(), s.openWithin)
 	defer cancel()
 	for _, origin := range s.create {
@@ -179,7 +179,7 @@ func (w *running) closeOthers(s *settings) {
 	}
 }
 
-func (w *running) serve(s *settings, lines *httpserver.Lines, signals <-chan os.Signal) error {
+func (w *running) serve(s *settings, lines *eventlog.Lines, signals <-chan os.Signal) error {
 	if err := w.useLogs(s); err != nil {
 		return err
 	}
@@ -222,7 +222,7 @@ func (w *running) serve(s *settings, lines *httpserver.Lines, signals <-chan os.
 }
 
 // wait waits for a signal that ends the witness, and reloads the logs at SIGHUP.
-func (w *running) wait(s *settings, lines *httpserver.Lines, signals <-chan os.Signal, failed <-chan error) error {
+func (w *running) wait(s *settings, lines *eventlog.Lines, signals <-chan os.Signal, failed <-chan error) error {
 	for {
 		select {
 		case err := <-failed:
@@ -246,7 +246,7 @@ func (w *running) wait(s *settings, lines *httpserver.Lines, signals <-chan os.S
 	}
 }
 
-func serverOf(handler http.Handler, lines *httpserver.Lines) *http.Server {
+func serverOf(handler http.Handler, lines *eventlog.Lines) *http.Server {
 	return &http.Server{
 		Handler: handler, ReadHeaderTimeout: 10 * time.Second, ReadTimeout: 20 * time.Second, WriteTimeout: time.Minute,
 		IdleTimeout: time.Minute, MaxHeaderBytes: maxHeader, ErrorLog: logOf(lines),

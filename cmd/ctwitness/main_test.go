@@ -22,11 +22,11 @@ import (
 
 	"golang.org/x/mod/sumdb/note"
 
-	"wagtenib/internal/testutil"
+	"wagtenib/internal/testkit"
 	"wagtenib/internal/witness"
 )
 
-var must = testutil.Must
+var must = testkit.Must
 
 // place is a folder with a witness's key and its settings file.
 type place struct {
@@ -89,7 +89,7 @@ func (p place) start(more ...string) *process {
 	var arguments []string
 	for _, name := range []string{"open-timeout", "shutdown-timeout"} {
 		// If a setting occurs several times, the last value counts.
-		arguments = append(arguments, "--"+name, testutil.Longest.String())
+		arguments = append(arguments, "--"+name, testkit.Longest.String())
 	}
 	arguments = append(arguments, more...)
 	return p.startBy(func(to io.Writer, signals chan os.Signal) int { return run(arguments, io.Discard, to, signals) })
@@ -104,7 +104,7 @@ func (p place) startBy(run func(to io.Writer, signals chan os.Signal) int) *proc
 		to.Close()
 	}()
 	read := make(chan string)
-	go testutil.PassOn(read, one.lines)
+	go testkit.PassOn(read, one.lines)
 	go func() {
 		defer close(read)
 		for scanner := bufio.NewScanner(from); scanner.Scan(); {

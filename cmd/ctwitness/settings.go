@@ -11,9 +11,9 @@ import (
 
 	"golang.org/x/mod/sumdb/note"
 
-	"wagtenib/internal/privatefile"
-	"wagtenib/internal/settingsfile"
-	"wagtenib/internal/stores"
+	"wagtenib/internal/blob"
+	"wagtenib/internal/command/privatefile"
+	"wagtenib/internal/command/settingsfile"
 	"wagtenib/internal/witness"
 )
 
@@ -106,7 +106,7 @@ func (s *settings) validate() error {
 	if err := privatefile.CheckPath(s.key, keySecret); errors.Is(err, privatefile.ErrShared) {
 		return fmt.Errorf("--key: %w", err)
 	}
-	if err := stores.CheckTLS(s.state); err != nil && !s.allowPlaintext {
+	if err := blob.CheckTLS(s.state); err != nil && !s.allowPlaintext {
 		return fmt.Errorf("--state: %w", err)
 	}
 	for origin := range s.accepted {

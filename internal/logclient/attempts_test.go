@@ -7,7 +7,7 @@ import (
 	"testing"
 
 	"wagtenib/internal/logclient"
-	"wagtenib/internal/testutil"
+	"wagtenib/internal/testkit"
 )
 
 // TestLimitsAttempts checks that a server that fails is asked exactly as often as the limit permits.
@@ -18,7 +18,7 @@ func TestLimitsAttempts(t *testing.T) {
 			requests.Add(1)
 			w.WriteHeader(http.StatusInternalServerError)
 		}), logclient.Options{Clock: newClock(), Limits: logclient.Limits{Attempts: attempts}})
-		if _, err := c.STH(testutil.Limited(t, testutil.Longest)); !errors.Is(err, logclient.ErrStatus) {
+		if _, err := c.STH(testkit.Limited(t, testkit.Longest)); !errors.Is(err, logclient.ErrStatus) {
 			t.Error(err)
 		}
 		if requests.Load() != int64(attempts) {

@@ -15,7 +15,7 @@ import (
 	"time"
 
 	"wagtenib/internal/logclient"
-	"wagtenib/internal/testlog"
+	"wagtenib/internal/testkit/testlog"
 )
 
 // clock is a clock whose waits end immediately and advance its time. It records them.

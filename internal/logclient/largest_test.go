@@ -7,9 +7,9 @@ import (
 	"testing"
 
 	"wagtenib/bindings/go/wagtenib"
-	"wagtenib/internal/chains"
+	"wagtenib/internal/log/chain"
+	"wagtenib/internal/log/service"
 	"wagtenib/internal/logclient"
-	"wagtenib/internal/logservice"
 )
 
 // TestReadsTheLargestDataTile reads a full data tile whose entries have as many bytes and as many issuers as a log of
@@ -18,13 +18,13 @@ func TestReadsTheLargestDataTile(t *testing.T) {
 	var largest []byte
 	for index := range uint64(logclient.TileWidth) {
 		largest = binary.BigEndian.AppendUint64(largest, 1_800_000_000_000+index)
-		largest = append(largest, 0, 0, byte(logservice.MaxEntry>>16), byte(logservice.MaxEntry>>8&0xff), byte(logservice.MaxEntry&0xff))
-		largest = append(largest, bytes.Repeat([]byte{byte(index)}, logservice.MaxEntry)...)
+		largest = append(largest, 0, 0, byte(service.MaxEntry>>16), byte(service.MaxEntry>>8&0xff), byte(service.MaxEntry&0xff))
+		largest = append(largest, bytes.Repeat([]byte{byte(index)}, service.MaxEntry)...)
 		// The extension leaf_index (C2SP static-ct-api).
 		largest = append(largest, 0, 8, 0, 0, 5)
 		largest = append(largest, binary.BigEndian.AppendUint64(nil, index)[3:]...)
-		largest = binary.BigEndian.AppendUint16(largest, uint16(32*chains.MaxCertificates))
-		largest = append(largest, make([]byte, 32*chains.MaxCertificates)...)
+		largest = binary.BigEndian.AppendUint16(largest, uint16(32*chain.MaxCertificates))
+		largest = append(largest, make([]byte, 32*chain.MaxCertificates)...)
 	}
 	c := client(t, http.HandlerFunc(func(w http.ResponseWriter, _ *http.Request) { _, _ = w.Write(largest) }),
 		logclient.Options{})

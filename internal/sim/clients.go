@@ -6,8 +6,8 @@ import (
 	"fmt"
 	"time"
 
-	"wagtenib/internal/node"
-	"wagtenib/internal/node/step"
+	"wagtenib/internal/log/node"
+	"wagtenib/internal/log/node/step"
 )
 
 // certificateOf returns the certificate with a number. The simulation does not parse it, so it may be any bytes.

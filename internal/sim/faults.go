@@ -10,8 +10,8 @@ import (
 	"strings"
 	"time"
 
-	"wagtenib/internal/signer"
-	"wagtenib/internal/stores"
+	"wagtenib/internal/blob"
+	"wagtenib/internal/log/signer"
 )
 
 // befalls lets a fault happen at a call of a machine. It returns the fault if the fault decides the outcome of this
@@ -124,7 +124,7 @@ func (w *world) losesNewest() bool {
 func (w *world) losesLock(which int) bool {
 	s := &w.stores
 	happened := s.text != ""
-	s.text, s.published, s.created = "", stores.Published{}, s.created && which%2 == 0
+	s.text, s.published, s.created = "", blob.Published{}, s.created && which%2 == 0
 	return happened
 }
 
@@ -245,7 +245,7 @@ func (w *world) bendsEdge() bool {
 // isPublished reports whether the newest head is published according to the lock. A node may not replace the content of
 // an object of an unpublished state, because the lock may have been rolled back.
 func (w *world) isPublished() bool {
-	newest := stores.Published{Size: w.judge.newest.Size, Timestamp: w.judge.newest.Timestamp}
+	newest := blob.Published{Size: w.judge.newest.Size, Timestamp: w.judge.newest.Timestamp}
 	return w.stores.published == newest
 }
 
@@ -272,7 +272,7 @@ func (w *world) losesPlaces(call int) bool {
 
 // misplaces replaces the place of an identity with that of another entry.
 func (w *world) misplaces(which int) bool {
-	ids := make([]stores.Identity, 0, len(w.stores.index))
+	ids := make([]blob.Identity, 0, len(w.stores.index))
 	for id := range w.stores.index {
 		ids = append(ids, id)
 	}
@@ -349,7 +349,7 @@ func (w *world) killsAll() {
 }
 
 // listedWithin is the maximum time between a node's listing of the heads and the end of its swap (maxUnlisted in
-// internal/node).
+// internal/log/node).
 const listedWithin = 100 * time.Millisecond
 
 // unputHead returns the head that the guard approved last if it is not in the store, or was put so late that a node

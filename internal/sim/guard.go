@@ -15,8 +15,8 @@ import (
 
 	"golang.org/x/mod/sumdb/note"
 
-	"wagtenib/internal/signer"
-	"wagtenib/internal/stores"
+	"wagtenib/internal/blob"
+	"wagtenib/internal/log/signer"
 	"wagtenib/internal/witness"
 )
 
@@ -207,9 +207,9 @@ func (g *guarded) swap(ctx context.Context, old, next signer.State) error {
 			s.setGuard(text)
 			return nil
 		}
-		return stores.ErrLost
+		return blob.ErrLost
 	})
-	if errors.Is(err, stores.ErrLost) {
+	if errors.Is(err, blob.ErrLost) {
 		return signer.ErrMoved
 	}
 	if err == nil {

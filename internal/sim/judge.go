@@ -15,9 +15,9 @@ import (
 	"github.com/transparency-dev/merkle/compact"
 	"github.com/transparency-dev/merkle/rfc6962"
 
-	"wagtenib/internal/node"
-	"wagtenib/internal/signer"
-	"wagtenib/internal/stores"
+	"wagtenib/internal/blob"
+	"wagtenib/internal/log/node"
+	"wagtenib/internal/log/signer"
 )
 
 // judge checks each object when it is put, each head when it is signed, and each answer when it is given. It has one
@@ -30,7 +30,7 @@ type judge struct {
 	// newest is the newest head that was put. raised is how far the log was published at most. tiles holds the contents
 	// that were put of each tile.
 	newest, checkpoint signer.Head
-	raised             stores.Published
+	raised             blob.Published
 	tiles              map[string]*puts
 	// standing holds all heads that were put, in the order in which they were put.
 	standing []standing
@@ -228,7 +228,7 @@ func (j *judge) swaps(by *process, old, new string) {
 		j.breaks("a step is made of a published state",
 			"the lock gets the text of %d entries, and the state before has no head", after.size)
 	}
-	if of := (stores.Published{Size: before.size, Timestamp: before.timestamp}); j.raised.Before(of) && !before.isBegin() {
+	if of := (blob.Published{Size: before.size, Timestamp: before.timestamp}); j.raised.Before(of) && !before.isBegin() {
 		j.breaks("a step is made of a published state",
 			"the lock gets the text of %d entries, and never said that the state before is published", after.size)
 	}
@@ -278,7 +278,7 @@ func cells(text string) *cell {
 
 // raises judges a change of how far the log is published according to the lock: the head is in the store, and the
 // checkpoint is that head or a later one.
-func (j *judge) raises(p stores.Published) {
+func (j *judge) raises(p blob.Published) {
 	if j.raised.Before(p) {
 		j.raised = p
 	}
@@ -286,7 +286,7 @@ func (j *judge) raises(p stores.Published) {
 	if _, ok := j.w.stores.objects[name]; !ok && !j.w.excuses.missing {
 		j.breaks("a published size has a head", "%s is published and not in the store", name)
 	}
-	checkpoint := stores.Published{Size: j.checkpoint.Size, Timestamp: j.checkpoint.Timestamp}
+	checkpoint := blob.Published{Size: j.checkpoint.Size, Timestamp: j.checkpoint.Timestamp}
 	if j.w.plan.Public && !j.w.excuses.missing && checkpoint.Before(p) {
 		j.breaks("a published head is at the checkpoint", "%s is published, and the checkpoint is of %d entries at %d ms",
 			name, checkpoint.Size, checkpoint.Timestamp)
@@ -294,7 +294,7 @@ func (j *judge) raises(p stores.Published) {
 }
 
 // shows judges a head that a machine says to be published: its node put that head, or read it.
-func (j *judge) shows(m *machine, p stores.Published) {
+func (j *judge) shows(m *machine, p blob.Published) {
 	if name := headName(signer.Head{Size: p.Size, Timestamp: p.Timestamp}); !m.process.known.seen[name] {
 		j.breaks("a published head was seen", "%s says that %s is published, and neither put nor read it", m.name, name)
 	}
@@ -360,7 +360,7 @@ func (j *judge) read(m *machine, head signer.Head, note string, before signer.He
 	case head.Size < before.Size || head.Timestamp < before.Timestamp:
 		j.breaks("a reader sees no older head", "%s after one of %d entries at %d ms", what, before.Size,
 			before.Timestamp)
-	case !j.w.excuses.loss && j.w.stores.published.Before(stores.Published{Size: head.Size, Timestamp: head.Timestamp}):
+	case !j.w.excuses.loss && j.w.stores.published.Before(blob.Published{Size: head.Size, Timestamp: head.Timestamp}):
 		j.breaks("a reader sees published heads", "%s, which is not published", what)
 	}
 }

@@ -6,7 +6,7 @@ import (
 	"strings"
 	"time"
 
-	"wagtenib/internal/node"
+	"wagtenib/internal/log/node"
 )
 
 // known holds what one run of a node must know about the lock.

@@ -24,14 +24,14 @@ var all = []planted{
 	}},
 	{"a lost swap counts as won", []edit{
 		{"swap.go",
-			"			return false, nil\n		}\n		if errors.Is(err, stores.ErrUnknown) {",
-			"			return true, nil\n		}\n		if errors.Is(err, stores.ErrUnknown) {",
+			"			return false, nil\n		}\n		if errors.Is(err, blob.ErrUnknown) {",
+			"			return true, nil\n		}\n		if errors.Is(err, blob.ErrUnknown) {",
 		},
 	}},
 	{"a swap of unknown outcome counts as won", []edit{
 		{"swap.go",
 			"		if err == nil {\n			return true, nil\n		}",
-			"		if err == nil || errors.Is(err, stores.ErrUnknown) {\n			return true, nil\n		}",
+			"		if err == nil || errors.Is(err, blob.ErrUnknown) {\n			return true, nil\n		}",
 		},
 	}},
 	{"a state is not compared after the swap", []edit{
@@ -56,12 +56,12 @@ var all = []planted{
 		{"pass.go", "			return p.index(ctx)\n", "			return nil\n"},
 	}},
 	{"no leaf is added", []edit{
-		{"pass.go", "Leaf: stores.Identity(tlog.RecordHash(r.Sign)),", "Leaf: t.identity,"},
+		{"pass.go", "Leaf: blob.Identity(tlog.RecordHash(r.Sign)),", "Leaf: t.identity,"},
 		{"pass.go", "	\"golang.org/x/mod/sumdb/tlog\"\n\n", ""},
 		{"start.go", "	isKnown = isKnown && at.Index == index && len(places) > 0", "	_, isKnown = at, len(places) > 0"},
 	}},
 	{"a resumed step's leaves are not added", []edit{
-		{"names.go", "Leaf: stores.Identity(l.Hash()), Place:", "Place:"},
+		{"names.go", "Leaf: blob.Identity(l.Hash()), Place:", "Place:"},
 		{"start.go", "	isKnown = isKnown && at.Index == index && len(places) > 0", "	_, isKnown = at, len(places) > 0"},
 	}},
 	{"a node that ends forgets its queue", []edit{
@@ -125,56 +125,56 @@ var all = []planted{
 		{"witnesses.go", "			l.witnessed[which] = old\n", ""},
 	}},
 	{"a partial tile goes at once", []edit{
-		{"node/janitor/pass.go", "newest.Head, now, keep.Tiles)", "newest.Head, now, 0)"},
+		{"log/node/janitor/pass.go", "newest.Head, now, keep.Tiles)", "newest.Head, now, 0)"},
 	}},
 	{"the partial tiles of the newest head's full ones go", []edit{
-		{"node/janitor/pass.go",
-			"		for full := tile.Count(at-1, j.tiles.head.Size); left",
-			"		for full := tile.Count(at-1, newest.Head.Size); left",
+		{"log/node/janitor/pass.go",
+			"		for full := tiles.Count(at-1, j.tiles.head.Size); left",
+			"		for full := tiles.Count(at-1, newest.Head.Size); left",
 		},
 	}},
 	{"a full tile is not compared", []edit{
-		{"node/janitor/pass.go",
+		{"log/node/janitor/pass.go",
 			"	if err := j.whole(ctx, full, newest); err != nil {",
 			"	if err := error(nil); err != nil {",
 		},
 	}},
 	{"an old head goes at once", []edit{
-		{"node/janitor/pass.go", "newest.Head, now, keep.Heads)", "newest.Head, now, 0)"},
+		{"log/node/janitor/pass.go", "newest.Head, now, keep.Heads)", "newest.Head, now, 0)"},
 	}},
 	{"heads are thinned at once", []edit{
-		{"node/janitor/pass.go", "newest.Head, now, keep.Thin)", "newest.Head, now, 0)"},
+		{"log/node/janitor/pass.go", "newest.Head, now, keep.Thin)", "newest.Head, now, 0)"},
 	}},
 	{"all but the newest heads are thinned", []edit{
-		{"node/janitor/heads.go", "one/apart == two/apart", "one < two"},
+		{"log/node/janitor/heads.go", "one/apart == two/apart", "one < two"},
 	}},
 	{"the decider is not asked for a staged batch", []edit{
-		{"node/janitor/pass.go",
+		{"log/node/janitor/pass.go",
 			"		if next.Do != decider.Delete || next.Batch != name {",
 			"		if next == nil {",
 		},
 	}},
 	{"no partial tile is deleted", []edit{
-		{"node/janitor/pass.go", "	if err != nil || len(partials) == 0 {", "	if true {"},
+		{"log/node/janitor/pass.go", "	if err != nil || len(partials) == 0 {", "	if true {"},
 	}},
 	{"no head is deleted", []edit{
-		{"node/janitor/heads.go", "		if name >= old && !(isThin", "		if name >= old || !(isThin"},
-		{"node/janitor/heads.go", "j.stays(first)", "name == first"},
+		{"log/node/janitor/heads.go", "		if name >= old && !(isThin", "		if name >= old || !(isThin"},
+		{"log/node/janitor/heads.go", "j.stays(first)", "name == first"},
 	}},
 	{"heads are thinned long after the newest one was looked for", []edit{
-		{"node/janitor/heads.go", "{ return j.config.Keep.Heads - j.config.Keep.Call }", "{ return time.Hour }"},
+		{"log/node/janitor/heads.go", "{ return j.config.Keep.Heads - j.config.Keep.Call }", "{ return time.Hour }"},
 	}},
 	{"heads are thinned by what the node knows", []edit{
-		{"node/janitor/heads.go", "	later, err := j.list(ctx, headsPrefix, newest)", "	later, err := []string{}, error(nil)"},
+		{"log/node/janitor/heads.go", "	later, err := j.list(ctx, headsPrefix, newest)", "	later, err := []string{}, error(nil)"},
 	}},
 	{"no staged batch is listed", []edit{
-		{"node/janitor/pass.go", "	if newest.Stepping == nil || now < j.staged.due {", "	if true {"},
+		{"log/node/janitor/pass.go", "	if newest.Stepping == nil || now < j.staged.due {", "	if true {"},
 	}},
 	{"a deleted partial tile is damage", []edit{
 		{"proofs.go",
-			"	return tile.Stored(func(ctx context.Context, name string) ([]byte, error) {\n" +
-				"		return n.config.Stores.Objects.Get(ctx, name, stores.MaxObject)\n	})(ctx, name)",
-			"	content, err := n.config.Stores.Objects.Get(ctx, name, stores.MaxObject)\n	if err != nil {\n" +
+			"	return tiles.Stored(func(ctx context.Context, name string) ([]byte, error) {\n" +
+				"		return n.config.Stores.Objects.Get(ctx, name, blob.MaxObject)\n	})(ctx, name)",
+			"	content, err := n.config.Stores.Objects.Get(ctx, name, blob.MaxObject)\n	if err != nil {\n" +
 				"		err = fmt.Errorf(\"%w: %v\", ErrDamaged, err)\n	}\n	return content, err",
 		},
 	}},

@@ -8,11 +8,11 @@ var mistakes = []planted{
 			"	for _, object := range resumed.Objects {\n" +
 				"		if err := l.putRight(ctx, object.Name, object.Content); err != nil {\n" +
 				"			return Head{}, fmt.Errorf(\"node: %w\", err)\n		}\n	}\n	head, err := l.headOf(ctx, k)\n" +
-				"	if !errors.Is(err, stores.ErrAbsent) && !errors.Is(err, errOtherHead) {\n		return head, err\n	}\n",
+				"	if !errors.Is(err, blob.ErrAbsent) && !errors.Is(err, errOtherHead) {\n		return head, err\n	}\n",
 			"	putObjects := func() (err error) {\n		for _, object := range resumed.Objects {\n" +
 				"			err = errors.Join(err, l.putRight(ctx, object.Name, object.Content))\n		}\n		return err\n	}\n" +
 				"	head, err := l.headOf(ctx, k)\n" +
-				"	if !errors.Is(err, stores.ErrAbsent) && !errors.Is(err, errOtherHead) {\n" +
+				"	if !errors.Is(err, blob.ErrAbsent) && !errors.Is(err, errOtherHead) {\n" +
 				"		return head, errors.Join(err, putObjects())\n	}\n",
 		},
 		{"heads.go", "	return head, nil\n}\n\n// putHead has", "	return head, putObjects()\n}\n\n// putHead has"},
@@ -29,9 +29,9 @@ var mistakes = []planted{
 	}},
 	{"a state counts as published before the lock says so", []edit{
 		{"pass.go",
-			"	if err := p.raise(ctx, stores.Published{}, head, p.from.line); err != nil {",
+			"	if err := p.raise(ctx, blob.Published{}, head, p.from.line); err != nil {",
 			"	p.last.published = p.from.line\n" +
-				"	if err := p.raise(ctx, stores.Published{}, head, p.from.line); err != nil {",
+				"	if err := p.raise(ctx, blob.Published{}, head, p.from.line); err != nil {",
 		},
 	}},
 	{"a state counts as accepted before the memory has it", []edit{
@@ -70,8 +70,8 @@ var mistakes = []planted{
 	}},
 	{"a swap of unknown outcome counts as lost", []edit{
 		{"swap.go",
-			"		if errors.Is(err, stores.ErrLost) {\n			return false, nil",
-			"		if errors.Is(err, stores.ErrLost) || errors.Is(err, stores.ErrUnknown) {\n			return false, nil",
+			"		if errors.Is(err, blob.ErrLost) {\n			return false, nil",
+			"		if errors.Is(err, blob.ErrLost) || errors.Is(err, blob.ErrUnknown) {\n			return false, nil",
 		},
 	}},
 	{"each reading of a text counts as its first", []edit{
@@ -88,21 +88,21 @@ var mistakes = []planted{
 	}},
 	{"the newest entry counts as missing if it cannot be read", []edit{
 		{"index.go",
-			"	if errors.Is(err, ErrDamaged) || errors.Is(err, stores.ErrAbsent) {\n		return nil, nil\n	}\n" +
+			"	if errors.Is(err, ErrDamaged) || errors.Is(err, blob.ErrAbsent) {\n		return nil, nil\n	}\n" +
 				"	if err != nil {\n		return nil, fmt.Errorf(\"node: the newest entry: %w\", err)\n	}\n	return leaf, nil",
 			"	if err != nil {\n		return nil, nil\n	}\n	return leaf, nil",
 		},
 	}},
 	{"another content under a head's name counts as put", []edit{
 		{"heads.go",
-			"	if errors.Is(err, stores.ErrOther) {\n		return l.headOf(ctx, k)\n	}",
-			"	if errors.Is(err, stores.ErrOther) {\n		return made, nil\n	}",
+			"	if errors.Is(err, blob.ErrOther) {\n		return l.headOf(ctx, k)\n	}",
+			"	if errors.Is(err, blob.ErrOther) {\n		return made, nil\n	}",
 		},
 	}},
 	{"a lost swap of the checkpoint counts as done", []edit{
 		{"checkpoint.go",
 			"		if err == nil {\n			l.last.checkpoint = &head",
-			"		if err == nil || errors.Is(err, stores.ErrLost) {\n			l.last.checkpoint = &head",
+			"		if err == nil || errors.Is(err, blob.ErrLost) {\n			l.last.checkpoint = &head",
 		},
 	}},
 	{"the rows behind a repeated entry of a batch are forgotten", []edit{

@@ -12,7 +12,7 @@ import (
 	"testing"
 )
 
-// edit replaces one text of a file, which the file must have once. A file without a folder is one of internal/node.
+// edit replaces one text of a file, which the file must have once. A file without a folder is one of internal/log/node.
 type edit struct{ file, old, new string }
 
 // in returns the file with its folder in internal.
@@ -20,7 +20,7 @@ func (e edit) in() string {
 	if strings.Contains(e.file, "/") {
 		return e.file
 	}
-	return "node/" + e.file
+	return "log/node/" + e.file
 }
 
 // planted is a fault in the node.
@@ -81,7 +81,7 @@ func (c *copies) plant(t *testing.T, at int, p planted) {
 	t.Helper()
 	name := fmt.Sprintf("p%02d", at)
 	edits := p.edits
-	for _, of := range []string{"node", "node/janitor", "sim"} {
+	for _, of := range []string{"log/node", "log/node/janitor", "sim"} {
 		sources, err := filepath.Glob(filepath.Join("..", of, "*.go"))
 		if err != nil {
 			t.Fatal(err)
@@ -104,14 +104,14 @@ func (c *copies) plant(t *testing.T, at int, p planted) {
 				}
 				text = strings.Replace(text, e.old, e.new, 1)
 			}
-			for _, copied := range []string{"node", "node/janitor"} {
+			for _, copied := range []string{"log/node", "log/node/janitor"} {
 				text = strings.ReplaceAll(text, fmt.Sprintf("%q", "wagtenib/internal/"+copied),
 					fmt.Sprintf("%q", "wagtenib/internal/planted/"+name+"/"+copied))
 			}
 			c.write(t, filepath.Join(name, of, filepath.Base(source)), text)
 		}
 	}
-	fmt.Fprintf(&c.imports, "\t%snode \"wagtenib/internal/planted/%s/node\"\n\t%s "+
+	fmt.Fprintf(&c.imports, "\t%snode \"wagtenib/internal/planted/%s/log/node\"\n\t%s "+
 		"\"wagtenib/internal/planted/%s/sim\"\n", name, name, name, name)
 	fmt.Fprintf(&c.cases, "\tfinds(t, %q, func(seed int64) string {\n\t\tr := %s.Run(%s.NewPlan(seed), "+
 		"%snode.Proved{Decider: next, Steps: steps}, false)\n"+
@@ -138,7 +138,7 @@ func (c *copies) finish(t *testing.T) string {
 	t.Helper()
 	c.write(t, "planted_test.go", "package planted\n\nimport (\n\t\"os\"\n\t\"strconv\"\n\t\"testing\"\n\n"+
 		c.imports.String()+
-		"\n\t\"wagtenib/internal/sim\"\n\t\"wagtenib/internal/node/decider\"\n\t\"wagtenib/internal/node/step\"\n)\n"+runner+
+		"\n\t\"wagtenib/internal/sim\"\n\t\"wagtenib/internal/log/node/decider\"\n\t\"wagtenib/internal/log/node/step\"\n)\n"+runner+
 		"\nfunc TestAll(t *testing.T) {\n"+c.cases.String()+"}\n")
 	c.write(t, "planted.go", "package planted\n")
 	overlay, err := json.Marshal(map[string]any{"Replace": c.replaced})

@@ -5,9 +5,9 @@ import (
 	"strings"
 	"time"
 
-	"wagtenib/internal/node"
-	"wagtenib/internal/signer"
-	"wagtenib/internal/stores"
+	"wagtenib/internal/blob"
+	"wagtenib/internal/log/node"
+	"wagtenib/internal/log/signer"
 )
 
 // reading holds what readers saw of one run of a node.
@@ -88,7 +88,7 @@ func (w *world) asksNewest(m *machine, last *reading) {
 			last.newest = head.Head
 		}
 		isCalm := counts == w.judge.counts && !isAway && !w.excuses.loss
-		if isCalm && (stores.Published{Size: head.Size, Timestamp: head.Timestamp}).Before(published) {
+		if isCalm && (blob.Published{Size: head.Size, Timestamp: head.Timestamp}).Before(published) {
 			w.judge.breaks("a reader gets the newest head", "%s returns the head of %d entries at %d ms, and that of %d at "+
 				"%d ms was published", m.name, head.Size, head.Timestamp, published.Size, published.Timestamp)
 		}

@@ -5,9 +5,9 @@ import (
 	"fmt"
 	"time"
 
-	"wagtenib/internal/node"
-	"wagtenib/internal/signer"
-	"wagtenib/internal/stores"
+	"wagtenib/internal/blob"
+	"wagtenib/internal/log/node"
+	"wagtenib/internal/log/signer"
 )
 
 // Result is the outcome of a history.
@@ -115,7 +115,7 @@ func (w *world) ends() {
 // findsLeaves judges whether each entry under the published head is found by the hash of its leaf.
 func (w *world) findsLeaves() {
 	for i := range min(w.stores.published.Size, uint64(len(w.judge.leaves))) {
-		place, ok := w.stores.leaves[stores.Identity(w.judge.leaves[i].hash)]
+		place, ok := w.stores.leaves[blob.Identity(w.judge.leaves[i].hash)]
 		if !ok || place.Index != i || place.Timestamp != w.judge.leaves[i].timestamp {
 			w.judge.breaks("a leaf is found by its hash", "the leaf of entry %d is said to be %+v (%v)", i, place, ok)
 		}

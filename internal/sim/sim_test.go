@@ -10,9 +10,9 @@ import (
 	"testing"
 	"time"
 
-	"wagtenib/internal/node"
-	"wagtenib/internal/node/decider"
-	"wagtenib/internal/node/step"
+	"wagtenib/internal/log/node"
+	"wagtenib/internal/log/node/decider"
+	"wagtenib/internal/log/node/step"
 	"wagtenib/internal/sim"
 )
 

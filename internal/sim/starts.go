@@ -4,8 +4,8 @@ import (
 	"fmt"
 	"strings"
 
-	"wagtenib/internal/signer"
-	"wagtenib/internal/stores"
+	"wagtenib/internal/blob"
+	"wagtenib/internal/log/signer"
 )
 
 // refuses returns the reason why a machine's node must not start with the current stores, or "". It reads the stores
@@ -70,12 +70,12 @@ func (w *world) isBehindGuard(k *cell) string {
 }
 
 // lacksNewest reports whether the index lacks the newest entry of a published state whose tiles are whole.
-func (w *world) lacksNewest(k *cell, published stores.Published) bool {
+func (w *world) lacksNewest(k *cell, published blob.Published) bool {
 	if k.size == 0 || k.size > uint64(len(w.judge.leaves)) || w.excuses.missing ||
-		published != (stores.Published{Size: k.size, Timestamp: k.timestamp}) {
+		published != (blob.Published{Size: k.size, Timestamp: k.timestamp}) {
 		return false
 	}
-	_, ok := w.stores.index[stores.Identity(w.judge.leaves[k.size-1].identity)]
+	_, ok := w.stores.index[blob.Identity(w.judge.leaves[k.size-1].identity)]
 	return !ok
 }
 

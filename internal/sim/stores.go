@@ -9,8 +9,8 @@ import (
 	"strings"
 	"time"
 
-	"wagtenib/internal/signer"
-	"wagtenib/internal/stores"
+	"wagtenib/internal/blob"
+	"wagtenib/internal/log/signer"
 )
 
 // part is a part of the stores that can be rolled back independently.
@@ -32,7 +32,7 @@ type memory struct {
 	lockState
 	guardState
 	// index holds the places by identities, and leaves holds them by the hashes of leaves.
-	index, leaves map[stores.Identity]stores.Place
+	index, leaves map[blob.Identity]blob.Place
 	// call is the number of the newest call. changes holds the changes of each part, in their order, so that the newest
 	// ones can be undone.
 	call    int
@@ -45,7 +45,7 @@ type memory struct {
 type lockState struct {
 	text      string
 	created   bool
-	published stores.Published
+	published blob.Published
 	decided   int
 }
 
@@ -67,8 +67,8 @@ type change struct {
 }
 
 func newMemory() memory {
-	return memory{objects: map[string][]byte{}, index: map[stores.Identity]stores.Place{},
-		leaves: map[stores.Identity]stores.Place{}, guardState: guardState{guard: signer.NoHead}}
+	return memory{objects: map[string][]byte{}, index: map[blob.Identity]blob.Place{},
+		leaves: map[blob.Identity]blob.Place{}, guardState: guardState{guard: signer.NoHead}}
 }
 
 // set sets the content of an object, or removes the object if the content is nil.
@@ -96,7 +96,7 @@ func (s *memory) setCheckpoint(content []byte) {
 }
 
 // setLock sets the lock's text and how far the log is published.
-func (s *memory) setLock(text string, published stores.Published) {
+func (s *memory) setLock(text string, published blob.Published) {
 	before, was := s.text, s.published
 	s.changes[lockPart] = append(s.changes[lockPart], change{call: s.call,
 		undo: func() { s.text, s.published = before, was }})
@@ -109,7 +109,7 @@ func (s *memory) setGuard(text string) {
 	s.guard = text
 }
 
-func (s *memory) setIndex(id stores.Identity, place stores.Place) {
+func (s *memory) setIndex(id blob.Identity, place blob.Place) {
 	before, was := s.index[id]
 	s.changes[indexPart] = append(s.changes[indexPart], change{call: s.call, name: string(id[:]), undo: func() {
 		if was {
@@ -142,7 +142,7 @@ func (o objects) Put(ctx context.Context, name string, content []byte) error {
 	w.judge.remembers(o.m, name)
 	err := o.m.call(ctx, "objects", fmt.Sprintf("put %s (%d bytes)", name, len(content)), true, func() error {
 		if stored, ok := w.stores.objects[name]; ok && !bytes.Equal(stored, content) {
-			return stores.ErrOther
+			return blob.ErrOther
 		}
 		w.judge.put(name, content)
 		w.stores.set(name, content)
@@ -161,10 +161,10 @@ func (o objects) Get(ctx context.Context, name string, max int64) (content []byt
 			stored, ok = o.m.w.stores.checkpoint, o.m.w.stores.checkpoint != nil
 		}
 		if !ok {
-			return stores.ErrAbsent
+			return blob.ErrAbsent
 		}
 		if int64(len(stored)) > max {
-			return stores.TooLong{Length: int64(len(stored))}
+			return blob.TooLong{Length: int64(len(stored))}
 		}
 		content = bytes.Clone(stored)
 		if strings.HasPrefix(name, "heads/") {
@@ -190,7 +190,7 @@ func (c current) Swap(ctx context.Context, name string, old, new []byte) error {
 		case bytes.Equal(before, new):
 			return nil
 		case !bytes.Equal(before, old):
-			return stores.ErrLost
+			return blob.ErrLost
 		}
 		w.judge.putCheckpoint(name, new)
 		w.stores.setCheckpoint(new)
@@ -244,11 +244,11 @@ func (l lock) Create(ctx context.Context, text string) error {
 	isGone := l.m.process.known.isGone
 	return l.m.call(ctx, "lock", "create "+short(text), true, func() error {
 		if s.created {
-			return stores.ErrExists
+			return blob.ErrExists
 		}
 		l.m.w.judge.creates(l.m, isGone)
 		s.created = true
-		s.setLock(text, stores.Published{})
+		s.setLock(text, blob.Published{})
 		return nil
 	})
 }
@@ -259,7 +259,7 @@ func (l lock) Read(ctx context.Context) (text string, err error) {
 	err = l.m.call(ctx, "lock", "read", false, func() error {
 		if text = l.m.w.stores.text; text == "" {
 			l.m.process.known.isGone = len(l.m.w.stores.list("heads/", "")) > 0
-			return stores.ErrAbsent
+			return blob.ErrAbsent
 		}
 		why = l.m.finds(text)
 		return nil
@@ -282,7 +282,7 @@ func (l lock) Swap(ctx context.Context, old, new string) error {
 	err := l.m.call(ctx, "lock", "swap "+short(old)+" for "+short(new), true, func() error {
 		switch s.text {
 		case "":
-			return stores.ErrAbsent
+			return blob.ErrAbsent
 		case new:
 			return nil
 		case old:
@@ -291,14 +291,14 @@ func (l lock) Swap(ctx context.Context, old, new string) error {
 			s.decided = s.call
 			return nil
 		}
-		return stores.ErrLost
+		return blob.ErrLost
 	})
 	l.m.w.judge.stats.meet(by, old, new, err)
 	switch {
 	case err == nil:
 		by.known.read(new, "")
 		by.known.heard = l.m.w.now
-	case errors.Is(err, stores.ErrLost):
+	case errors.Is(err, blob.ErrLost):
 		by.known.old, by.known.why = old, "it saw that text replaced"
 	}
 	return err
@@ -314,34 +314,34 @@ func (c *Contended) meet(by *process, old, new string, err error) {
 	switch {
 	case err == nil:
 		by.unread = new
-	case errors.Is(err, stores.ErrLost):
+	case errors.Is(err, blob.ErrLost):
 		c.Lost++
 		if isUnread {
 			c.Overtaken++
 		}
-	case errors.Is(err, stores.ErrUnknown):
+	case errors.Is(err, blob.ErrUnknown):
 		c.Unknown++
 	}
 }
 
-func (l lock) Published(ctx context.Context) (published stores.Published, err error) {
+func (l lock) Published(ctx context.Context) (published blob.Published, err error) {
 	err = l.m.call(ctx, "lock", "published", false, func() error {
 		published = l.m.w.stores.published
 		return nil
 	})
 	if err != nil {
-		return stores.Published{}, err
+		return blob.Published{}, err
 	}
 	l.m.process.known.heard = l.m.w.now
 	return published, nil
 }
 
-func (l lock) Raise(ctx context.Context, published stores.Published) error {
+func (l lock) Raise(ctx context.Context, published blob.Published) error {
 	s := &l.m.w.stores
 	l.m.w.judge.shows(l.m, published)
 	return l.m.call(ctx, "lock", fmt.Sprintf("raise %d %d", published.Size, published.Timestamp), true, func() error {
 		if s.text == "" {
-			return stores.ErrAbsent
+			return blob.ErrAbsent
 		}
 		if s.published.Before(published) {
 			l.m.w.judge.raises(published)
@@ -362,18 +362,18 @@ func short(text string) string {
 // index implements the deduplication index for a machine's node.
 type index struct{ m *machine }
 
-func (i index) Find(ctx context.Context, identities []stores.Identity) (map[stores.Identity]stores.Place, error) {
+func (i index) Find(ctx context.Context, identities []blob.Identity) (map[blob.Identity]blob.Place, error) {
 	return i.find(ctx, fmt.Sprintf("find %d", len(identities)), i.m.w.stores.index, identities)
 }
 
-func (i index) FindLeaves(ctx context.Context, hashes []stores.Identity) (map[stores.Identity]stores.Place, error) {
+func (i index) FindLeaves(ctx context.Context, hashes []blob.Identity) (map[blob.Identity]blob.Place, error) {
 	return i.find(ctx, fmt.Sprintf("find %d leaves", len(hashes)), i.m.w.stores.leaves, hashes)
 }
 
-func (i index) find(ctx context.Context, what string, in map[stores.Identity]stores.Place,
-	keys []stores.Identity) (found map[stores.Identity]stores.Place, err error) {
+func (i index) find(ctx context.Context, what string, in map[blob.Identity]blob.Place,
+	keys []blob.Identity) (found map[blob.Identity]blob.Place, err error) {
 	err = i.m.call(ctx, "index", what, false, func() error {
-		found = map[stores.Identity]stores.Place{}
+		found = map[blob.Identity]blob.Place{}
 		for _, key := range keys {
 			if place, ok := in[key]; ok {
 				found[key] = place
@@ -403,15 +403,15 @@ func (m *machine) dawdle(ctx context.Context, calls string) error {
 	return nil
 }
 
-func (i index) Add(ctx context.Context, rows []stores.Row) error {
+func (i index) Add(ctx context.Context, rows []blob.Row) error {
 	return i.change(ctx, "add", rows, false)
 }
 
-func (i index) Replace(ctx context.Context, rows []stores.Row) error {
+func (i index) Replace(ctx context.Context, rows []blob.Row) error {
 	return i.change(ctx, "replace", rows, true)
 }
 
-func (i index) change(ctx context.Context, what string, rows []stores.Row, replaces bool) error {
+func (i index) change(ctx context.Context, what string, rows []blob.Row, replaces bool) error {
 	return i.m.call(ctx, "index", fmt.Sprintf("%s %d", what, len(rows)), true, func() error {
 		of := &i.m.w.stores
 		for _, row := range rows {

@@ -7,7 +7,7 @@ import (
 	"strings"
 	"time"
 
-	"wagtenib/internal/node/janitor"
+	"wagtenib/internal/log/node/janitor"
 )
 
 // keep holds the times for which janitors keep objects that are no longer needed.

@@ -9,7 +9,7 @@ import (
 	"github.com/transparency-dev/merkle/compact"
 	"github.com/transparency-dev/merkle/rfc6962"
 
-	"wagtenib/internal/signer"
+	"wagtenib/internal/log/signer"
 )
 
 // ranges makes the judge's trees.

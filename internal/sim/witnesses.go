@@ -15,8 +15,8 @@ import (
 	"golang.org/x/mod/sumdb/note"
 
 	"wagtenib/bindings/go/wagtenib"
-	"wagtenib/internal/node"
-	"wagtenib/internal/signer"
+	"wagtenib/internal/log/node"
+	"wagtenib/internal/log/signer"
 	"wagtenib/internal/witness"
 )
 

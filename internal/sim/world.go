@@ -10,10 +10,10 @@ import (
 	"strings"
 	"time"
 
-	"wagtenib/internal/node"
-	"wagtenib/internal/node/janitor"
-	"wagtenib/internal/signer"
-	"wagtenib/internal/stores"
+	"wagtenib/internal/blob"
+	"wagtenib/internal/log/node"
+	"wagtenib/internal/log/node/janitor"
+	"wagtenib/internal/log/signer"
 )
 
 // Origin is the log's name in checkpoints, which the proved steps need.
@@ -366,7 +366,7 @@ func (m *machine) outcome(ctx *simulated, fate *Fault, err error) error {
 }
 
 // unknown returns an error that does not say whether the call was done.
-func unknown(err error) error { return fmt.Errorf("%w: %w", stores.ErrUnknown, err) }
+func unknown(err error) error { return fmt.Errorf("%w: %w", blob.ErrUnknown, err) }
 
 // latency returns a random duration of a call, mostly some milliseconds.
 func (w *world) latency() time.Duration {

@@ -14,9 +14,9 @@ import (
 	"testing"
 	"time"
 
-	"wagtenib/internal/logcheck"
+	"wagtenib/internal/audit/judge"
 	"wagtenib/internal/logclient"
-	"wagtenib/internal/testlog"
+	"wagtenib/internal/testkit/testlog"
 	"wagtenib/internal/watch"
 )
 
@@ -42,7 +42,7 @@ func checkEvidence(t *testing.T, k *keeper, log watch.Log) {
 	t.Helper()
 	for _, evidence := range k.accused[log.ID] {
 		folder := writeEvidence(t, evidence)
-		shown, err := logcheck.Evidence(folder, log.PublicKey)
+		shown, err := judge.Evidence(folder, log.PublicKey)
 		if err != nil || shown == "" {
 			t.Errorf("%s: the judge says %q, %v", evidence.Verdict, shown, err)
 		}
@@ -59,7 +59,7 @@ func checkEvidence(t *testing.T, k *keeper, log watch.Log) {
 		if bytes.Equal(changed, content) || os.WriteFile(head, changed, 0o600) != nil {
 			t.Fatal("the head cannot be changed")
 		}
-		if _, err := logcheck.Evidence(folder, log.PublicKey); !errors.Is(err, logcheck.ErrEvidence) {
+		if _, err := judge.Evidence(folder, log.PublicKey); !errors.Is(err, judge.ErrEvidence) {
 			t.Errorf("%s: the judge accepts a changed head: %v", evidence.Verdict, err)
 		}
 	}
@@ -86,7 +86,7 @@ func checkNoOtherVerdict(t *testing.T, folder string, evidence watch.Evidence, k
 		if bytes.Equal(changed, own) || os.WriteFile(about, changed, 0o600) != nil {
 			t.Fatal("the verdict cannot be changed")
 		}
-		if shown, err := logcheck.Evidence(folder, key); !errors.Is(err, logcheck.ErrEvidence) {
+		if shown, err := judge.Evidence(folder, key); !errors.Is(err, judge.ErrEvidence) {
 			t.Errorf("the evidence of %q also shows %q: %s, %v", evidence.Verdict, verdict, shown, err)
 		}
 	}

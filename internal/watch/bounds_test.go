@@ -9,7 +9,7 @@ import (
 	"testing"
 	"time"
 
-	"wagtenib/internal/testlog"
+	"wagtenib/internal/testkit/testlog"
 	"wagtenib/internal/watch"
 )
 

@@ -9,10 +9,10 @@ import (
 	"time"
 
 	"wagtenib/bindings/go/wagtenib"
-	"wagtenib/internal/signature"
+	"wagtenib/internal/ct"
 )
 
-// The verdicts of evidence. `ctfsck evidence FOLDER` checks the files of each (wagtenib/internal/logcheck).
+// The verdicts of evidence. `ctfsck evidence FOLDER` checks the files of each (wagtenib/internal/audit/judge).
 const (
 	VerdictFork      = "fork"       // two roots of one size
 	VerdictShrunk    = "shrunk"     // fewer leaves, and no earlier timestamp
@@ -144,7 +144,7 @@ func treeOf(head []byte) []byte {
 	if checkpoint, err := wagtenib.ReadCheckpoint(text + "\n"); err == nil {
 		return fmt.Appendf(nil, "%q %d %x", checkpoint.Origin, checkpoint.TreeSize, checkpoint.Root)
 	}
-	if sth, err := signature.ReadSTH(head); err == nil {
+	if sth, err := ct.ReadSTH(head); err == nil {
 		return fmt.Appendf(nil, "%d %x", sth.TreeSize, sth.Root)
 	}
 	return head

@@ -9,8 +9,8 @@ import (
 	"time"
 
 	"wagtenib/bindings/go/wagtenib"
+	"wagtenib/internal/ct"
 	"wagtenib/internal/logclient"
-	"wagtenib/internal/signature"
 )
 
 // ErrState means that the stored state of a log is damaged.
@@ -81,7 +81,7 @@ const maxAccusations = 16
 // NewFollower returns a follower of a log. It returns an error if the log's address or key is wrong, or if its mirror
 // cannot be opened.
 func NewFollower(log Log, keeper Keeper, options Options) (*Follower, error) {
-	if _, err := signature.ParseKey(log.PublicKey); err != nil {
+	if _, err := ct.ParseKey(log.PublicKey); err != nil {
 		return nil, fmt.Errorf("watch: %s: %w", log.Name, err)
 	}
 	if LogID(wagtenib.LogID(log.PublicKey)) != log.ID {
@@ -254,7 +254,7 @@ func (f *Follower) accuse(next State, verdict, text string, files map[string][]b
 // headError returns why there is no head to judge. A head that the log's key did not sign is evidence: somebody else
 // answers at the log's address, or the log uses another key.
 func (f *Follower) headError(head Head, err error) error {
-	if errors.Is(err, signature.ErrSigner) {
+	if errors.Is(err, ct.ErrSigner) {
 		return f.accuse(*f.state, VerdictSigner, "the log's address answered with a head that the log's key did not sign: "+
 			err.Error(), map[string][]byte{FileHead: head.Signed})
 	}

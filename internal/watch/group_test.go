@@ -13,8 +13,8 @@ import (
 	"time"
 
 	"wagtenib/internal/logclient"
-	"wagtenib/internal/testlog"
-	"wagtenib/internal/testutil"
+	"wagtenib/internal/testkit"
+	"wagtenib/internal/testkit/testlog"
 	"wagtenib/internal/watch"
 )
 
@@ -137,7 +137,7 @@ func TestReportsWhyAnAnswerIsNonsense(t *testing.T) {
 	for _, kind := range kinds {
 		for what, wrong := range nonsense {
 			// Only the drip must be too slow, however slow the machine is.
-			limits := logclient.Limits{Request: testutil.Longest, Grace: testutil.Longest, Attempts: 2}
+			limits := logclient.Limits{Request: testkit.Longest, Grace: testkit.Longest, Attempts: 2}
 			if what == "a drip" {
 				limits.Request, limits.Grace = 2*time.Second, 100*time.Millisecond
 			}
@@ -167,7 +167,7 @@ func TestReportsWhyAnAnswerIsNonsense(t *testing.T) {
 					}
 					checkVerdicts(t, s.keeper, s.watched.ID)
 					s.log.Intercept(nil)
-					late := testutil.Limited(t, testutil.Longest)
+					late := testkit.Limited(t, testkit.Longest)
 					for err := s.follower.Pass(late); err != nil; err = s.follower.Pass(late) {
 						if late.Err() != nil {
 							t.Fatal(err)

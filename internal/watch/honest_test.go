@@ -8,7 +8,7 @@ import (
 	"testing"
 	"time"
 
-	"wagtenib/internal/testlog"
+	"wagtenib/internal/testkit/testlog"
 	"wagtenib/internal/watch"
 )
 

@@ -5,8 +5,8 @@ import (
 	"sync"
 	"testing"
 
-	"wagtenib/internal/testlog"
-	"wagtenib/internal/testutil"
+	"wagtenib/internal/testkit"
+	"wagtenib/internal/testkit/testlog"
 	"wagtenib/internal/watch"
 )
 
@@ -139,4 +139,4 @@ func grow(log *testlog.Log, count uint64) {
 var _ watch.Keeper = (*keeper)(nil)
 
 // within is the maximum time for which a test waits, on a machine that is busy.
-const within = testutil.Longest
+const within = testkit.Longest

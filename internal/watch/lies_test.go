@@ -8,9 +8,9 @@ import (
 	"strings"
 	"testing"
 
-	"wagtenib/internal/logcheck"
+	"wagtenib/internal/audit/judge"
 	"wagtenib/internal/logclient"
-	"wagtenib/internal/testlog"
+	"wagtenib/internal/testkit/testlog"
 	"wagtenib/internal/watch"
 )
 
@@ -188,7 +188,7 @@ func checkLies(t *testing.T, what string, log watch.Log, evidence []watch.Eviden
 	isAccused := false
 	for _, one := range evidence {
 		isAccused = isAccused || one.Verdict != watch.VerdictNotProved
-		if _, err := logcheck.Evidence(writeEvidence(t, one), log.PublicKey); err != nil {
+		if _, err := judge.Evidence(writeEvidence(t, one), log.PublicKey); err != nil {
 			t.Errorf("%s: %s: %v", what, one.Verdict, err)
 		}
 		if !expected && one.Verdict != watch.VerdictNotProved {

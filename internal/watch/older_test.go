@@ -9,9 +9,9 @@ import (
 	"sync/atomic"
 	"testing"
 
-	"wagtenib/internal/logcheck"
+	"wagtenib/internal/audit/judge"
 	"wagtenib/internal/logclient"
-	"wagtenib/internal/testlog"
+	"wagtenib/internal/testkit/testlog"
 	"wagtenib/internal/watch"
 )
 
@@ -71,7 +71,7 @@ func (f *fronts) checkShown(t *testing.T, expected ...string) {
 	t.Helper()
 	checkVerdicts(t, f.keeper, f.watched.ID, expected...)
 	for _, evidence := range f.keeper.accused[f.watched.ID] {
-		shown, err := logcheck.Evidence(writeEvidence(t, evidence), f.watched.PublicKey)
+		shown, err := judge.Evidence(writeEvidence(t, evidence), f.watched.PublicKey)
 		isAccusation := evidence.Verdict != watch.VerdictNotProved
 		if err != nil || strings.Contains(shown, "no accusation") == isAccusation {
 			t.Errorf("%s: the judge says %q, %v", evidence.Verdict, shown, err)

@@ -8,8 +8,8 @@ import (
 	"golang.org/x/mod/sumdb/tlog"
 
 	"wagtenib/bindings/go/wagtenib"
+	"wagtenib/internal/ct"
 	"wagtenib/internal/logclient"
-	"wagtenib/internal/signature"
 )
 
 // ErrAbsent means that a log does not have an entry in the tree of its head.
@@ -23,7 +23,7 @@ type Reader struct {
 
 // NewReader returns a reader of a log. It returns an error if the log's address or key is wrong.
 func NewReader(log Log, options logclient.Options) (*Reader, error) {
-	if _, err := signature.ParseKey(log.PublicKey); err != nil {
+	if _, err := ct.ParseKey(log.PublicKey); err != nil {
 		return nil, fmt.Errorf("watch: %s: %w", log.Name, err)
 	}
 	client, err := logclient.New(log.URL, options)
@@ -33,8 +33,8 @@ func NewReader(log Log, options logclient.Options) (*Reader, error) {
 	return &Reader{log, newSource(log, client)}, nil
 }
 
-// Head returns the log's newest head, whose signature it verifies. The error wraps signature.ErrForm or
-// signature.ErrSigner, or is one of package logclient.
+// Head returns the log's newest head, whose signature it verifies. The error wraps ct.ErrForm or
+// ct.ErrSigner, or is one of package logclient.
 func (r *Reader) Head(ctx context.Context) (Head, error) { return r.source.head(ctx) }
 
 // Consistency returns the log's proof from the first leaves to the second. It is not checked.
@@ -111,5 +111,5 @@ func (r *Reader) Root(ctx context.Context, head Head, size uint64) (wagtenib.Has
 }
 
 // OpenHead reads a head of the log that was kept or seen elsewhere: a checkpoint, or an answer to get-sth. The error
-// wraps signature.ErrForm or signature.ErrSigner.
+// wraps ct.ErrForm or ct.ErrSigner.
 func (r *Reader) OpenHead(signed []byte) (Head, error) { return openHead(r.Log, signed) }

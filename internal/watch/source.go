@@ -45,7 +45,7 @@ func (b *batch) leaves() [][]byte {
 
 // source reads one log of either kind. It verifies only the signatures of heads.
 type source interface {
-	// head returns the newest tree head. The error wraps signature.ErrForm or signature.ErrSigner if the answer is not a
+	// head returns the newest tree head. The error wraps ct.ErrForm or ct.ErrSigner if the answer is not a
 	// signed head of the log. The head then holds the bytes of the answer.
 	head(ctx context.Context) (Head, error)
 	// entries calls use with the entries from `start` to size-1, in order. `more` is true if the next ones have arrived

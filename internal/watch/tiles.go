@@ -11,8 +11,8 @@ import (
 	"golang.org/x/mod/sumdb/tlog"
 
 	"wagtenib/bindings/go/wagtenib"
+	"wagtenib/internal/ct"
 	"wagtenib/internal/logclient"
-	"wagtenib/internal/signature"
 )
 
 // maxTreeSize is the maximum number of leaves of a head that openHead accepts. The index of a leaf of a tiled log has
@@ -25,12 +25,12 @@ func openHead(log Log, signed []byte) (Head, error) {
 	var head wagtenib.TreeHead
 	var err error
 	if log.IsTiled() {
-		head, err = signature.OpenCheckpoint(signed, log.Origin, log.PublicKey)
+		head, err = ct.OpenCheckpoint(signed, log.Origin, log.PublicKey)
 	} else {
-		head, err = signature.OpenSTH(signed, log.PublicKey)
+		head, err = ct.OpenSTH(signed, log.PublicKey)
 	}
 	if err == nil && head.TreeSize > maxTreeSize {
-		err = fmt.Errorf("%w: %d leaves, and a log can have at most %d", signature.ErrForm, head.TreeSize,
+		err = fmt.Errorf("%w: %d leaves, and a log can have at most %d", ct.ErrForm, head.TreeSize,
 			uint64(maxTreeSize))
 	}
 	return Head{TreeHead: head, Signed: signed}, err
@@ -74,7 +74,7 @@ func (t *tiles) entries(ctx context.Context, start, size uint64, use func(b batc
 }
 
 // readDataTile reads a data tile. otherIndex is the first index from next on whose entry names another index in its
-// extensions; nil if there is none. A log may answer with a full tile for a partial one, so only the first tile.Width
+// extensions; nil if there is none. A log may answer with a full tile for a partial one, so only the first tiles.Width
 // entries are read.
 func readDataTile(tile logclient.DataTile, next uint64) (entries []wagtenib.TileEntry, otherIndex *uint64, err error) {
 	content := firstEntries(tile.Bytes, tile.Width)

@@ -12,7 +12,7 @@ import (
 	"time"
 
 	"wagtenib/internal/logclient"
-	"wagtenib/internal/testlog"
+	"wagtenib/internal/testkit/testlog"
 	"wagtenib/internal/watch"
 )
 

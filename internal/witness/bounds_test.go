@@ -12,12 +12,12 @@ import (
 	"golang.org/x/mod/sumdb/tlog"
 
 	"wagtenib/bindings/go/wagtenib"
-	"wagtenib/internal/stores"
+	"wagtenib/internal/blob"
 )
 
 // deadlineLock is a lock that sends the time that remains until the deadline of each read.
 type deadlineLock struct {
-	stores.Lock
+	blob.Lock
 	remaining chan time.Duration
 }
 

@@ -22,7 +22,7 @@ import (
 	"golang.org/x/mod/sumdb/note"
 
 	"wagtenib/bindings/go/wagtenib"
-	"wagtenib/internal/stores"
+	"wagtenib/internal/blob"
 )
 
 var errTried = errors.New("tried")
@@ -42,13 +42,13 @@ func TestFaultyLock(t *testing.T) {
 	}{
 		"it cannot be read":                 {"read", errTried, 1, 503, "state\n", "state", 1, 0},
 		"it cannot be swapped":              {"swap", errTried, 1, 503, "state\n", "state", 1, 0},
-		"another one is there once":         {"swap", stores.ErrLost, 1, 200, "— w.example ", "", 2, 1},
-		"another one is there four times":   {"swap", stores.ErrLost, 4, 200, "— w.example ", "", 5, 4},
-		"another one is there each time":    {"swap", stores.ErrLost, 99, 503, "busy\n", "", 5, 5},
-		"the outcome is unknown once":       {"swap", stores.ErrUnknown, 1, 200, "— w.example ", "", 2, 0},
-		"the outcome is unknown four times": {"swap", stores.ErrUnknown, 4, 200, "— w.example ", "", 5, 0},
-		"the outcome is never known":        {"swap", stores.ErrUnknown, 99, 503, "state\n", "state", 5, 0},
-		"it is gone before the swap":        {"swap", stores.ErrAbsent, 1, 503, "state\n", "state", 1, 0},
+		"another one is there once":         {"swap", blob.ErrLost, 1, 200, "— w.example ", "", 2, 1},
+		"another one is there four times":   {"swap", blob.ErrLost, 4, 200, "— w.example ", "", 5, 4},
+		"another one is there each time":    {"swap", blob.ErrLost, 99, 503, "busy\n", "", 5, 5},
+		"the outcome is unknown once":       {"swap", blob.ErrUnknown, 1, 200, "— w.example ", "", 2, 0},
+		"the outcome is unknown four times": {"swap", blob.ErrUnknown, 4, 200, "— w.example ", "", 5, 0},
+		"the outcome is never known":        {"swap", blob.ErrUnknown, 99, 503, "state\n", "state", 5, 0},
+		"it is gone before the swap":        {"swap", blob.ErrAbsent, 1, 503, "state\n", "state", 1, 0},
 	} {
 		state, calls, events := &memoryLock{}, 0, []string{}
 		s := witnessOver(t, state, newKey(t), by)
@@ -78,7 +78,7 @@ func TestFaultyLock(t *testing.T) {
 	}
 	// These are the errors that a start may find.
 	s := witnessOver(t, &memoryLock{}, newKey(t), by)
-	for _, test := range []struct{ err, kind error }{{stores.ErrAbsent, ErrState}, {errTried, errTried}} {
+	for _, test := range []struct{ err, kind error }{{blob.ErrAbsent, ErrState}, {errTried, errTried}} {
 		of := Log{Origin: origin, Keys: []note.Verifier{by.key},
 			State: &memoryLock{hook: func(string) error { return test.err }}}
 		if err := s.Check(limited(t), of); !errors.Is(err, test.kind) || errors.Is(test.kind, errTried) &&

@@ -23,8 +23,8 @@ import (
 
 	"golang.org/x/mod/sumdb/note"
 
-	"wagtenib/internal/stores"
-	"wagtenib/internal/testutil"
+	"wagtenib/internal/blob"
+	"wagtenib/internal/testkit"
 )
 
 // lockKinds returns the kinds of locks that can have a witness's states. Each function returns an address for a folder
@@ -67,8 +67,8 @@ func onEachLock(t *testing.T, test func(t *testing.T, newAddress func() string))
 	}
 }
 
-func lockAt(t testing.TB, address string) stores.Lock {
-	r, err := stores.LockOf(limited(t), address, origin)
+func lockAt(t testing.TB, address string) blob.Lock {
+	r, err := blob.LockOf(limited(t), address, origin)
 	must(t, err)
 	t.Cleanup(func() { r.Close() })
 	return r
@@ -332,7 +332,7 @@ func TestEngineDies(t *testing.T) {
 func engineDies(t *testing.T, address string, arguments []string, command string) {
 	by := headKey(t, origin)
 	s := witnessOver(t, lockAt(t, address), newKey(t), by)
-	ctx, cancel := context.WithTimeout(context.Background(), testutil.Longest)
+	ctx, cancel := context.WithTimeout(context.Background(), testkit.Longest)
 	defer cancel()
 	killed := make(chan error, 1)
 	go func() {

@@ -21,7 +21,7 @@ import (
 
 	"golang.org/x/mod/sumdb/note"
 
-	"wagtenib/internal/signer"
+	"wagtenib/internal/log/signer"
 )
 
 // The limits of a request, and the types of keys in signature lines (C2SP signed-note, tlog-cosignature,

@@ -13,7 +13,7 @@ import (
 
 	"golang.org/x/mod/sumdb/note"
 
-	"wagtenib/internal/stores"
+	"wagtenib/internal/blob"
 )
 
 // subsets returns the subsets of n witnesses, as bits.
@@ -52,7 +52,7 @@ func TestIsSafe(t *testing.T) {
 
 // memoryLock is a lock in memory. Each call first calls hook, which may change the text, or fail instead of the call.
 type memoryLock struct {
-	stores.Lock
+	blob.Lock
 	mu   sync.Mutex
 	text string
 	hook func(call string) error
@@ -72,7 +72,7 @@ func (h *memoryLock) Create(_ context.Context, text string) error {
 	h.mu.Lock()
 	defer h.mu.Unlock()
 	if h.text != "" {
-		return stores.ErrExists
+		return blob.ErrExists
 	}
 	h.text = text
 	return nil
@@ -94,7 +94,7 @@ func (h *memoryLock) Swap(_ context.Context, old, next string) error {
 	h.mu.Lock()
 	defer h.mu.Unlock()
 	if h.text != old && h.text != next {
-		return stores.ErrLost
+		return blob.ErrLost
 	}
 	h.text = next
 	return nil

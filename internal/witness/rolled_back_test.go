@@ -5,14 +5,14 @@ import (
 	"path/filepath"
 	"testing"
 
-	"wagtenib/internal/stores"
+	"wagtenib/internal/blob"
 )
 
 // TestRefusesRolledBackStateAfterRefusal checks that a state counts as seen after any request has read it, even if that
 // request was refused. If the lock is then rolled back, nothing is cosigned.
 func TestRefusesRolledBackStateAfterRefusal(t *testing.T) {
 	folder, key, by, one := t.TempDir(), newKey(t), headKey(t, origin), leavesOf(t, "a", "b", "c", "d")
-	state, err := stores.OpenFile(folder)
+	state, err := blob.OpenFile(folder)
 	must(t, err)
 	t.Cleanup(func() { must(t, state.Close()) })
 	first, second := witnessOver(t, state, key, by), witnessOver(t, state, key, by)

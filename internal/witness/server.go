@@ -13,7 +13,7 @@ import (
 
 	"golang.org/x/mod/sumdb/note"
 
-	"wagtenib/internal/stores"
+	"wagtenib/internal/blob"
 )
 
 const (
@@ -44,11 +44,11 @@ var (
 type Log struct {
 	Origin   string
 	Keys     []note.Verifier
-	State    stores.Lock
+	State    blob.Lock
 	Accepted func() (size uint64, root [32]byte, err error)
 }
 
-// Create stores the first state of a log that this witness never saw. It returns stores.ErrExists if there is a state.
+// Create stores the first state of a log that this witness never saw. It returns blob.ErrExists if there is a state.
 func (l Log) Create(ctx context.Context) error {
 	text, err := emptyState(l.Origin).text()
 	if err != nil {
@@ -110,7 +110,7 @@ func (s *Server) VerifierKey() string { return VerifierKey(s.options.Name, s.pub
 // Check returns an error if a log's state is missing, or is not a state of this log.
 func (s *Server) Check(ctx context.Context, log Log) error {
 	text, err := log.State.Read(ctx)
-	if errors.Is(err, stores.ErrAbsent) {
+	if errors.Is(err, blob.ErrAbsent) {
 		return fmt.Errorf("%w %s: there is none", ErrState, log.Origin)
 	}
 	if err != nil {
@@ -220,7 +220,7 @@ func (s *Server) decide(ctx context.Context, log *Log, text string, before state
 		return reply, false
 	}
 	switch err := swap(ctx, log.State, text, next); {
-	case errors.Is(err, stores.ErrLost):
+	case errors.Is(err, blob.ErrLost):
 		return answer{}, true
 	case err != nil:
 		return s.failed("state", log.Origin, err), false
@@ -233,13 +233,13 @@ func (s *Server) decide(ctx context.Context, log *Log, text string, before state
 }
 
 // swap stores the next state. If the outcome is unknown it repeats the swap, which determines the outcome.
-func swap(ctx context.Context, lock stores.Lock, old string, next state) error {
+func swap(ctx context.Context, lock blob.Lock, old string, next state) error {
 	text, err := next.text()
 	if err != nil {
 		return err
 	}
 	for try := 0; try < maxTries; try++ {
-		if err = lock.Swap(ctx, old, text); !errors.Is(err, stores.ErrUnknown) {
+		if err = lock.Swap(ctx, old, text); !errors.Is(err, blob.ErrUnknown) {
 			break
 		}
 	}

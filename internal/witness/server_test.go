@@ -22,14 +22,14 @@ import (
 	"golang.org/x/mod/sumdb/note"
 	"golang.org/x/mod/sumdb/tlog"
 
-	"wagtenib/internal/signer"
-	"wagtenib/internal/stores"
-	"wagtenib/internal/testutil"
+	"wagtenib/internal/blob"
+	"wagtenib/internal/log/signer"
+	"wagtenib/internal/testkit"
 )
 
-var must = testutil.Must
+var must = testkit.Must
 
-func limited(t testing.TB) context.Context { return testutil.Limited(t, testutil.Longest) }
+func limited(t testing.TB) context.Context { return testkit.Limited(t, testkit.Longest) }
 
 const origin = "log.example/1"
 
@@ -127,8 +127,8 @@ func newKey(t testing.TB) ed25519.PrivateKey {
 	return private
 }
 
-func stateIn(t testing.TB, folder string) stores.Lock {
-	r, err := stores.OpenFile(filepath.Join(folder, "state"))
+func stateIn(t testing.TB, folder string) blob.Lock {
+	r, err := blob.OpenFile(filepath.Join(folder, "state"))
 	must(t, err)
 	t.Cleanup(func() { r.Close() })
 	return r
@@ -140,11 +140,11 @@ func witnessOf(t testing.TB, folder string, key ed25519.PrivateKey, by signing) 
 }
 
 // witnessOver returns a witness of one log, whose state is in a lock.
-func witnessOver(t testing.TB, state stores.Lock, key ed25519.PrivateKey, by signing) *Server {
+func witnessOver(t testing.TB, state blob.Lock, key ed25519.PrivateKey, by signing) *Server {
 	s, err := New(Options{Name: "w.example", Key: key})
 	must(t, err)
 	log := Log{Origin: origin, Keys: []note.Verifier{by.key}, State: state}
-	if err := log.Create(limited(t)); err != nil && !errors.Is(err, stores.ErrExists) {
+	if err := log.Create(limited(t)); err != nil && !errors.Is(err, blob.ErrExists) {
 		t.Fatal(err)
 	}
 	must(t, s.Check(limited(t), log))
@@ -349,7 +349,7 @@ func TestOpenssl(t *testing.T) {
 
 // swappedState is a lock that calls functions before each swap, and after each swap that succeeded.
 type swappedState struct {
-	stores.Lock
+	blob.Lock
 	before, after func()
 }
 

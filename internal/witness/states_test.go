@@ -15,7 +15,7 @@ import (
 	"golang.org/x/mod/sumdb/tlog"
 
 	"wagtenib/bindings/go/wagtenib"
-	"wagtenib/internal/stores"
+	"wagtenib/internal/blob"
 )
 
 // acceptsAll accepts every request, and returns the right message for it.
@@ -156,7 +156,7 @@ func TestRefusesWrongStates(t *testing.T) {
 			t.Errorf("%s: %d %s", name, w.Code, w.Body)
 		}
 		if text != "" {
-			if err := log.Create(limited(t)); !errors.Is(err, stores.ErrExists) {
+			if err := log.Create(limited(t)); !errors.Is(err, blob.ErrExists) {
 				t.Errorf("%s is created again: %v", name, err)
 			}
 		}

@@ -136,7 +136,7 @@ def try_go(options, emulator):
         return print("left out: the Go package with SHA instructions (Go and its modules are missing: make deps fetches them)")
     surroundings = {**os.environ, "WAGTENIB_BLOCKS": str(options.blocks), "CGO_ENABLED": "1"}
     words = ["bash", "-c", go, "go", "test", "-count=1", f"-tags={TAG}"]
-    ran([*words, ".", "wagtenib/internal/version"], cwd=PACKAGE, env={**surroundings, **known(has_natively())})
+    ran([*words, ".", "wagtenib/internal/command/version"], cwd=PACKAGE, env={**surroundings, **known(has_natively())})
     if emulator:
         ran([*words, "-exec", " ".join(emulator), "-run", "SHAInstructions", "."], cwd=PACKAGE, env={**surroundings, **known(True)})
     return say(f"the tests of the Go package pass with the tag{', and its hashes by the instructions' if emulator or has_natively() else ''}")

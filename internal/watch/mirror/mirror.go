@@ -20,10 +20,10 @@ import (
 	"path/filepath"
 
 	"wagtenib/bindings/go/wagtenib"
+	"wagtenib/internal/blob"
+	"wagtenib/internal/ct"
 	"wagtenib/internal/logclient"
-	"wagtenib/internal/signature"
-	"wagtenib/internal/stores"
-	datatile "wagtenib/internal/tile"
+	datatile "wagtenib/internal/tiles"
 	"wagtenib/internal/watch"
 )
 
@@ -51,7 +51,7 @@ type Mirror struct {
 	log     watch.Log
 	client  *logclient.Client
 	folder  string
-	objects stores.Objects
+	objects blob.Objects
 	kept    wagtenib.TreeHead // the head of the checkpoint in the folder; its size is 0 if there is no checkpoint
 }
 
@@ -63,19 +63,19 @@ func Open(folder string, log watch.Log, options logclient.Options) (*Mirror, err
 	if err != nil {
 		return nil, err
 	}
-	objects, err := stores.OpenFolder(folder)
+	objects, err := blob.OpenFolder(folder)
 	if err != nil {
 		return nil, fmt.Errorf("mirror: %w", err)
 	}
 	m := &Mirror{log: log, client: client, folder: folder, objects: objects}
-	checkpoint, err := stores.KeptFile(filepath.Join(folder, checkpointName))
-	if errors.Is(err, stores.ErrAbsent) {
+	checkpoint, err := blob.KeptFile(filepath.Join(folder, checkpointName))
+	if errors.Is(err, blob.ErrAbsent) {
 		return m, nil
 	}
 	if err != nil {
 		return nil, fmt.Errorf("mirror: %w", err)
 	}
-	if m.kept, err = signature.OpenCheckpoint(checkpoint, log.Origin, log.PublicKey); err != nil {
+	if m.kept, err = ct.OpenCheckpoint(checkpoint, log.Origin, log.PublicKey); err != nil {
 		return nil, fmt.Errorf("%s: %w: %v", folder, ErrFolder, err)
 	}
 	return m, nil
@@ -119,7 +119,7 @@ func (m *Mirror) Accept(ctx context.Context, head watch.Head) error {
 		}
 	}
 	// Others must be able to read the file, because the server of the folder may run as another user.
-	if err := stores.ShowFile(filepath.Join(m.folder, checkpointName), head.Signed); err != nil {
+	if err := blob.ShowFile(filepath.Join(m.folder, checkpointName), head.Signed); err != nil {
 		return fmt.Errorf("mirror: %w", err)
 	}
 	before := m.kept.TreeSize
@@ -239,7 +239,7 @@ func (m *Mirror) grow(ctx context.Context, size uint64) error {
 // put writes a file, unless it exists. If the existing file has other bytes, put leaves it and returns ErrOther.
 func (m *Mirror) put(ctx context.Context, name string, content []byte) error {
 	err := m.objects.Put(ctx, name, content)
-	if errors.Is(err, stores.ErrOther) {
+	if errors.Is(err, blob.ErrOther) {
 		return fmt.Errorf("%w: %s", ErrOther, name)
 	}
 	if err != nil {

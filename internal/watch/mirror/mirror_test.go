@@ -16,7 +16,7 @@ import (
 	"golang.org/x/mod/sumdb/tlog"
 
 	"wagtenib/internal/logclient"
-	"wagtenib/internal/testlog"
+	"wagtenib/internal/testkit/testlog"
 	"wagtenib/internal/watch"
 	"wagtenib/internal/watch/mirror"
 )

@@ -8,7 +8,7 @@ import (
 
 	"wagtenib/bindings/go/wagtenib"
 	"wagtenib/internal/logclient"
-	datatile "wagtenib/internal/tile"
+	datatile "wagtenib/internal/tiles"
 )
 
 // edge returns the right edge of the stored tree, without the leaves of a partial data tile: the caller pushes them

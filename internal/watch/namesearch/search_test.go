@@ -11,7 +11,7 @@ import (
 	"unicode/utf16"
 
 	"wagtenib/bindings/go/wagtenib"
-	"wagtenib/internal/testcert"
+	"wagtenib/internal/testkit/testcert"
 	"wagtenib/internal/watch/namesearch"
 )
 

@@ -14,7 +14,7 @@ import (
 	"time"
 
 	"wagtenib/bindings/go/wagtenib"
-	"wagtenib/internal/testcert"
+	"wagtenib/internal/testkit/testcert"
 	"wagtenib/internal/watch"
 	"wagtenib/internal/watch/alert"
 	"wagtenib/internal/watch/namesearch"

@@ -10,8 +10,8 @@ import (
 	"strings"
 	"testing"
 
-	"wagtenib/internal/testcert"
-	"wagtenib/internal/testutil"
+	"wagtenib/internal/testkit"
+	"wagtenib/internal/testkit/testcert"
 	"wagtenib/internal/watch"
 	"wagtenib/internal/watch/alert"
 	"wagtenib/internal/watch/watchstore"
@@ -26,7 +26,7 @@ func TestFullDiskLosesNothing(t *testing.T) {
 	must(t, store.UseOutputs([]string{"test"}))
 	one, other := entriesOf(authority.Issue("a.example.org"), 0), entriesOf(authority.Issue("b.example.org"), 2)
 	must(t, store.Keep(logOf(0), watch.State{Read: 2}, one))
-	err := testutil.ShortFiles(t, 4096, func() error { return store.Keep(logOf(0), watch.State{Read: 4}, other) })
+	err := testkit.ShortFiles(t, 4096, func() error { return store.Keep(logOf(0), watch.State{Read: 4}, other) })
 	if err == nil || !strings.Contains(err.Error(), watchstore.FileName) {
 		t.Fatalf("a full disk: %v", err)
 	}

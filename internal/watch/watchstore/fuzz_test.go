@@ -11,7 +11,7 @@ import (
 	"unicode/utf8"
 
 	"wagtenib/bindings/go/wagtenib"
-	"wagtenib/internal/testcert"
+	"wagtenib/internal/testkit/testcert"
 	"wagtenib/internal/watch"
 	"wagtenib/internal/watch/alert"
 	"wagtenib/internal/watch/watchstore"

@@ -13,7 +13,7 @@ import (
 	"strconv"
 	"testing"
 
-	"wagtenib/internal/testcert"
+	"wagtenib/internal/testkit/testcert"
 	"wagtenib/internal/watch"
 	"wagtenib/internal/watch/alert"
 	"wagtenib/internal/watch/watchstore"

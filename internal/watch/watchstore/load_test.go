@@ -9,7 +9,7 @@ import (
 	"testing"
 	"time"
 
-	"wagtenib/internal/testcert"
+	"wagtenib/internal/testkit/testcert"
 	"wagtenib/internal/watch"
 	"wagtenib/internal/watch/alert"
 	"wagtenib/internal/watch/watchstore"

@@ -7,7 +7,7 @@ import (
 	"testing"
 
 	"wagtenib/bindings/go/wagtenib"
-	"wagtenib/internal/testcert"
+	"wagtenib/internal/testkit/testcert"
 	"wagtenib/internal/watch"
 	"wagtenib/internal/watch/alert"
 	"wagtenib/internal/watch/namesearch"

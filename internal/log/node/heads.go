@@ -1,0 +1,344 @@
+package node
+
+import (
+	"context"
+	"encoding/base64"
+	"encoding/binary"
+	"errors"
+	"fmt"
+	"strings"
+
+	"golang.org/x/mod/sumdb/note"
+
+	"wagtenib/internal/blob"
+	"wagtenib/internal/log/node/step"
+	"wagtenib/internal/log/signer"
+	"wagtenib/internal/witness"
+)
+
+// Head is a signed tree head, with its note (C2SP tlog-checkpoint).
+type Head struct {
+	signer.Head
+	Note []byte
+}
+
+func (h Head) published() blob.Published {
+	return blob.Published{Size: h.Size, Timestamp: h.Timestamp}
+}
+
+func (h Head) before(other Head) bool { return h.published().Before(other.published()) }
+
+var (
+	// errOtherHead: the object under a head's name is not that head.
+	errOtherHead = errors.New("node: a head's object is not that head")
+	errNote      = errors.New("it is not a signed head of this log")
+	// errForeign: a note is another log's, or another key signed it.
+	errForeign = errors.New("it is a head of another log")
+)
+
+// isPublished reports whether a state's head is published. Then all of the state is.
+func (l *Loop) isPublished(ctx context.Context, k *state) (bool, error) {
+	if k.IsBegin() || l.last.published == k.line {
+		return true, nil
+	}
+	published, err := l.config.Stores.Lock.Published(ctx)
+	if err != nil {
+		return false, fmt.Errorf("node: the lock: %w", err)
+	}
+	if published.Size < k.Size {
+		return false, nil
+	}
+	head, err := l.headOf(ctx, k)
+	if !published.Before(k.published()) && (errors.Is(err, blob.ErrAbsent) || errors.Is(err, errOtherHead)) {
+		// It was published, so all of the state was in the store.
+		restored, failed := l.restore(ctx, k)
+		if !errors.Is(failed, errNoBatch) {
+			head, err = restored, failed
+		}
+	}
+	if errors.Is(err, blob.ErrAbsent) {
+		return false, nil
+	}
+	if err != nil {
+		return false, err
+	}
+	if err := l.accept(ctx, k, nil); err != nil {
+		return false, err
+	}
+	if err := l.knowsNewest(ctx, k); err != nil {
+		return false, err
+	}
+	if err := l.raise(ctx, published, head, k.line); err != nil {
+		return false, err
+	}
+	l.last.published = k.line
+	return true, nil
+}
+
+// headOf reads the head of a state. A head that is not the state's is an error.
+func (l *Loop) headOf(ctx context.Context, k *state) (Head, error) {
+	head, err := l.readHead(ctx, headName(k.Size, k.Timestamp))
+	if err != nil {
+		return Head{}, err
+	}
+	return head, matches(head, k)
+}
+
+// matches returns an error unless a head is a state's.
+func matches(head Head, k *state) error {
+	name := headName(k.Size, k.Timestamp)
+	if head.Size != k.Size || head.Timestamp != k.Timestamp {
+		return fmt.Errorf("%w: %w: %s has the head of %d entries at %d ms", ErrDamaged, errOtherHead, name, head.Size,
+			head.Timestamp)
+	}
+	if head.Root != k.Root {
+		return fmt.Errorf("%w: the lock's text has another root than the signed head %s", ErrDamaged, name)
+	}
+	return nil
+}
+
+// raise says that a head is published, all of which is in the store, and shows it to readers. The checkpoint comes
+// first: a head that is published is one that readers without a node can fetch.
+func (l *Loop) raise(ctx context.Context, published blob.Published, head Head, line string) error {
+	if err := l.putCheckpoint(ctx, head); err != nil {
+		return err
+	}
+	if published.Before(head.published()) {
+		if err := l.config.Stores.Lock.Raise(ctx, head.published()); err != nil {
+			return fmt.Errorf("node: the lock: %w", err)
+		}
+	}
+	l.show(head, line)
+	return nil
+}
+
+// restore repairs the newest state as far as its staged batch allows: it puts objects that are missing or have another
+// content, and the state's head.
+func (l *Loop) restore(ctx context.Context, k *state) (Head, error) {
+	newest, err := l.learn(ctx)
+	if err != nil {
+		return Head{}, err
+	}
+	if newest.text != k.text {
+		return Head{}, errMoves
+	}
+	l.edge = map[string][]byte{}
+	resumed, err := l.resume(ctx, k)
+	if err != nil {
+		return Head{}, err
+	}
+	if err := l.accept(ctx, k, resumed.Objects); err != nil {
+		return Head{}, err
+	}
+	for _, object := range resumed.Objects {
+		if err := l.putRight(ctx, object.Name, object.Content); err != nil {
+			return Head{}, fmt.Errorf("node: %w", err)
+		}
+	}
+	head, err := l.headOf(ctx, k)
+	if !errors.Is(err, blob.ErrAbsent) && !errors.Is(err, errOtherHead) {
+		return head, err
+	}
+	head, err = l.signedHead(ctx, k, resumed.Head, resumed.Objects)
+	if errors.Is(err, signer.ErrRefused) {
+		err = l.whyRefused(ctx, k, err)
+	}
+	if err != nil {
+		return Head{}, err
+	}
+	if err := l.cosign(ctx, k, &head, resumed.Objects); err != nil {
+		return Head{}, err
+	}
+	if head, err = l.putRestored(ctx, k, head); err != nil {
+		return Head{}, fmt.Errorf("node: %w", err)
+	}
+	return head, nil
+}
+
+// putHead has a state's head signed, and puts it while another function runs. If another node has put the head, that one
+// is used: the signatures of one head differ. The signer refuses a head that is older than its last one. Then the other
+// node's head is in the store, or a later one.
+func (l *Loop) putHead(
+	ctx context.Context, k *state, of step.Head, objects []step.Object, beside func(context.Context) error,
+) (Head, error) {
+	made, err := l.signedHead(ctx, k, of, objects)
+	if errors.Is(err, signer.ErrRefused) {
+		if stored, absent := l.headOf(ctx, k); absent == nil {
+			return stored, nil
+		}
+		err = l.whyRefused(ctx, k, err)
+	}
+	if err != nil {
+		return Head{}, err
+	}
+	if err := l.cosign(ctx, k, &made, objects); err != nil {
+		return Head{}, err
+	}
+	put := func(ctx context.Context) error {
+		return l.config.Stores.Objects.Put(ctx, headName(k.Size, k.Timestamp), made.Note)
+	}
+	err = l.config.Machine.Parallel(ctx, put, beside)
+	if errors.Is(err, blob.ErrOther) {
+		return l.headOf(ctx, k)
+	}
+	if err != nil {
+		return Head{}, fmt.Errorf("node: the head: %w", err)
+	}
+	return made, nil
+}
+
+// whyRefused returns what the signer's refusal of a state's head means. The refusal counts only if the lock still has
+// the state. If it has another one, other nodes went on, and if it cannot be read, they may have.
+func (l *Loop) whyRefused(ctx context.Context, k *state, refused error) error {
+	newest, err := l.learn(ctx)
+	if err != nil {
+		return err
+	}
+	if newest.text != k.text {
+		return errMoves
+	}
+	return refused
+}
+
+// putRestored puts a state's head over anything else under its name, but not over one that another node restored
+// meanwhile. The signatures of one head differ, so its object may have several contents, and no right one is deleted.
+func (l *Loop) putRestored(ctx context.Context, k *state, head Head) (Head, error) {
+	name := headName(k.Size, k.Timestamp)
+	err := l.config.Stores.Objects.Put(ctx, name, head.Note)
+	if errors.Is(err, blob.ErrOther) {
+		stored, wrong := l.headOf(ctx, k)
+		if !errors.Is(wrong, errOtherHead) {
+			return stored, wrong
+		}
+		if err = l.config.Stores.Objects.Delete(ctx, name); err == nil {
+			err = l.config.Stores.Objects.Put(ctx, name, head.Note)
+		}
+	}
+	if err == nil {
+		l.config.Machine.Observer.Repaired(name)
+	}
+	return head, err
+}
+
+// maxAsked is how often the signer is asked again, since another node had it approve a head meanwhile.
+const maxAsked = 5
+
+// signedHead has a state's head signed, over a proof from the signer's last head. That is the one that this node had it
+// sign before, unless the signer refuses: only then it is asked, since another node may have had a later one signed.
+func (l *Loop) signedHead(ctx context.Context, k *state, of step.Head, objects []step.Object) (Head, error) {
+	lastHead, isRemembered, signed := l.last.signed, l.last.signed != nil, []byte(nil)
+	// If the signer does not answer, it may have approved the head.
+	l.last.signed = nil
+	for try := 0; ; try++ {
+		var err error
+		if lastHead == nil {
+			if lastHead, err = l.config.Signer.Last(ctx); err != nil {
+				return Head{}, fmt.Errorf("node: the signer: %w", err)
+			}
+		}
+		var proof [][32]byte
+		if lastHead != nil && lastHead.Size < k.Size {
+			if proof, err = l.consistency(ctx, lastHead.Size, k.head(), l.reading(objects)); err != nil {
+				return Head{}, err
+			}
+		}
+		if signed, err = l.config.Signer.SignHead(ctx, k.head(), proof); err == nil {
+			break
+		}
+		// A refusal over a head that was not asked for says nothing.
+		isOlder := isRemembered && errors.Is(err, signer.ErrRefused)
+		if try+1 == maxAsked || !isOlder && !l.moved(ctx, lastHead, err) {
+			return Head{}, fmt.Errorf("node: the signer: a head of %d entries at %d ms: %w", k.Size, k.Timestamp, err)
+		}
+		lastHead, isRemembered = nil, false
+	}
+	if head := k.head(); l.config.Signer.IsGuarded() {
+		l.last.signed = &head
+	}
+	blob := binary.BigEndian.AppendUint32(nil, l.verifier.KeyHash())
+	blob = append(binary.BigEndian.AppendUint64(blob, k.Timestamp), signed...)
+	made, err := l.parseNote([]byte(of.Checkpoint + "\n" + l.signatureLine() +
+		base64.StdEncoding.EncodeToString(blob) + "\n"))
+	if err != nil || matches(made, k) != nil {
+		return Head{}, fmt.Errorf("node: the step's note is not one of %s: %w", l.config.Origin, errNote)
+	}
+	return made, nil
+}
+
+// moved reports whether the signer refused since its last head is another one by now.
+func (n *Node) moved(ctx context.Context, last *signer.Head, err error) bool {
+	if errors.Is(err, signer.ErrMoved) {
+		return true
+	}
+	if !errors.Is(err, signer.ErrRefused) {
+		return false
+	}
+	now, err := n.config.Signer.Last(ctx)
+	return err == nil && now != nil && (last == nil || *now != *last)
+}
+
+func (n *Node) signatureLine() string { return "— " + n.config.Origin + " " }
+
+// readHead reads a head and checks its signature.
+func (n *Node) readHead(ctx context.Context, name string) (Head, error) {
+	content, err := n.config.Stores.Objects.Get(ctx, name, maxNote)
+	if err != nil {
+		return Head{}, fmt.Errorf("node: %s: %w", name, err)
+	}
+	head, err := n.parseNote(content)
+	if err != nil {
+		return Head{}, fmt.Errorf("%w: %w: %s: %w", ErrDamaged, errOtherHead, name, err)
+	}
+	return head, nil
+}
+
+// foreign returns why a note could not be verified: errForeign if it has another origin than the settings or another key
+// signed it, and errNote if its first signature is not its origin's. It returns nil after any other error, or none.
+func (n *Node) foreign(err error) error {
+	var of *note.UnverifiedNoteError
+	if !errors.As(err, &of) {
+		return nil
+	}
+	origin, _, _ := strings.Cut(of.Note.Text, "\n")
+	switch {
+	case of.Note.UnverifiedSigs[0].Name != origin:
+		return errNote
+	case origin != n.config.Origin:
+		return fmt.Errorf("%w: it has the origin %.80q, and the settings have %q", errForeign, origin, n.config.Origin)
+	}
+	return fmt.Errorf("%w: another key than the settings' signed it", errForeign)
+}
+
+// signatureOf returns the DigitallySigned of a note whose first signature is the log's (C2SP static-ct-api, signatures
+// of type 5).
+func (n *Node) signatureOf(content []byte) ([]byte, error) {
+	opened, err := note.Open(content, note.VerifierList(n.verifier))
+	if err != nil {
+		return nil, errNote
+	}
+	blob, err := base64.StdEncoding.DecodeString(opened.Sigs[0].Base64)
+	if err != nil || len(blob) < 12 {
+		return nil, errNote
+	}
+	return blob[12:], nil
+}
+
+// parseNote reads a head's note. The first signature must be the log's, and it must be right.
+func (n *Node) parseNote(content []byte) (Head, error) {
+	opened, err := note.Open(content, note.VerifierList(n.verifier))
+	if foreign := n.foreign(err); foreign != nil {
+		return Head{}, foreign
+	}
+	if err != nil || !strings.HasPrefix(string(content[len(opened.Text):]), "\n"+n.signatureLine()) {
+		return Head{}, errNote
+	}
+	size, root, err := witness.TreeOf(opened.Text)
+	if err != nil {
+		return Head{}, errNote
+	}
+	blob, err := base64.StdEncoding.DecodeString(opened.Sigs[0].Base64)
+	if err != nil || len(blob) < 12 {
+		return Head{}, errNote
+	}
+	return Head{signer.Head{Size: size, Timestamp: binary.BigEndian.Uint64(blob[4:12]), Root: root}, content}, nil
+}
