@@ -13,7 +13,6 @@ import (
 	"testing"
 
 	"wagtenib/internal/testkit"
-	"wagtenib/internal/testkit/testlog"
 	"wagtenib/internal/watch"
 	"wagtenib/internal/watch/namesearch"
 	"wagtenib/internal/watch/watchstore"
@@ -21,8 +20,7 @@ import (
 
 // TestEvidence checks that two signed heads and the log's key show a fork, and that no other key and no other files do.
 func TestEvidence(t *testing.T) {
-	log, err := testlog.New("log.example/2027")
-	must(t, err)
+	log := testkit.NewLog("log.example/2027")
 	folder, keys := t.TempDir(), t.TempDir()
 	about, err := json.Marshal(map[string]any{"verdict": "fork", "origin": log.Origin, "key": log.PublicKey()})
 	must(t, err)
@@ -35,8 +33,7 @@ func TestEvidence(t *testing.T) {
 		log.PublishRoot(300, 1000, [32]byte{byte(i)})
 		write(folder, name, log.Checkpoint())
 	}
-	other, err := testlog.New("log.example/2027")
-	must(t, err)
+	other := testkit.NewLog("log.example/2027")
 	pemOf := func(der []byte) []byte { return pem.EncodeToMemory(&pem.Block{Type: "PUBLIC KEY", Bytes: der}) }
 	own, stranger := write(keys, "own", pemOf(log.PublicKey())), write(keys, "stranger", pemOf(other.PublicKey()))
 	none := write(keys, "none", []byte("no key"))
@@ -63,10 +60,9 @@ func TestEvidence(t *testing.T) {
 // of ctwatch, with the log's key and without the log, in one command.
 func TestEvidenceOfAFork(t *testing.T) {
 	for _, kind := range []string{"tiled", "RFC 6962"} {
-		log, err := testlog.New("log.example/2027")
-		must(t, err)
+		log := testkit.NewLog("log.example/2027")
 		for i := range uint64(300) {
-			log.Add(testlog.Entry{Timestamp: 1000 + i, Certificate: []byte{0x30, 3, 1, byte(i >> 8), byte(i)}})
+			log.Add(testkit.Entry{Timestamp: 1000 + i, Certificate: []byte{0x30, 3, 1, byte(i >> 8), byte(i)}})
 		}
 		log.Publish(300, 2000)
 		server := httptest.NewServer(log)

@@ -30,7 +30,6 @@ import (
 	"wagtenib/internal/audit/judge"
 	"wagtenib/internal/log/signer"
 	"wagtenib/internal/testkit"
-	"wagtenib/internal/testkit/testbucket"
 	"wagtenib/internal/tiles"
 )
 
@@ -178,7 +177,7 @@ func unpacked(content []byte, encoding string) ([]byte, error) {
 // overHTTP returns a function that reads objects from a plain web server, as a client of a CDN does.
 func overHTTP(url string) func(name string) ([]byte, error) {
 	return func(name string) ([]byte, error) {
-		answer, err := http.Get(url + "/" + testbucket.Name + "/" + name)
+		answer, err := http.Get(url + "/" + testkit.BucketName + "/" + name)
 		if err != nil {
 			return nil, err
 		}
@@ -194,7 +193,7 @@ func overHTTP(url string) func(name string) ([]byte, error) {
 // killed is the handler of a bucket for a node. It kills the node at one of its requests, before or after it carries
 // out the request, and never answers it.
 type killed struct {
-	bucket *testbucket.Bucket
+	bucket *testkit.Bucket
 	// left is the number of requests up to the kill, and after says whether the last one is carried out.
 	left  atomic.Int64
 	after atomic.Bool
@@ -238,7 +237,7 @@ func TestBucketServesThroughKills(t *testing.T) {
 		kills, err = strconv.ParseInt(text, 10, 64)
 		testkit.Must(t, err)
 	}
-	at, bucket := newPlace(t), testbucket.New(true)
+	at, bucket := newPlace(t), testkit.NewBucket(true)
 	key := at.publicKey()
 	object := func(name string) ([]byte, error) {
 		of, ok := bucket.Object(name)
@@ -310,7 +309,7 @@ func TestBucketServesThroughKills(t *testing.T) {
 // bucketArguments returns the arguments of a log whose objects are in a bucket.
 func (p *place) bucketArguments(url string) []string {
 	p.t.Helper()
-	store := "s3://key:secret@" + strings.TrimPrefix(url, "http://") + "/" + testbucket.Name + "?tls=no&region=us-east-1"
+	store := "s3://key:secret@" + strings.TrimPrefix(url, "http://") + "/" + testkit.BucketName + "?tls=no&region=us-east-1"
 	return p.arguments("--store", store, "--lock", "file:"+p.path("lock"), "--index", p.sharedIndex(),
 		"--guard-state", "file:"+p.path("guard"))
 }
@@ -376,7 +375,7 @@ func asked(t *testing.T, url, accepted, ranged string) (body []byte, encoding st
 // compressed tile as it is stored to clients that accept gzip, and decompresses it for others.
 func TestPublicStoreOfALogThatExists(t *testing.T) {
 	t.Parallel()
-	at, bucket := newPlace(t), testbucket.New(true)
+	at, bucket := newPlace(t), testkit.NewBucket(true)
 	server := httptest.NewServer(bucket)
 	defer server.Close()
 	arguments := at.bucketArguments(server.URL)
@@ -432,7 +431,7 @@ func TestPublicFolder(t *testing.T) {
 	t.Parallel()
 	at := newPlace(t)
 	objects := http.FileServer(http.Dir(at.path("log/objects")))
-	files := httptest.NewServer(http.StripPrefix("/"+testbucket.Name+"/", objects))
+	files := httptest.NewServer(http.StripPrefix("/"+testkit.BucketName+"/", objects))
 	defer files.Close()
 	reader := &bucketReader{key: at.publicKey(), get: overHTTP(files.URL)}
 	arguments := at.arguments("--create", "--public-store", "--guard-state", "file:"+at.path("guard"))

@@ -16,7 +16,6 @@ import (
 	"wagtenib/internal/log/httpd"
 	"wagtenib/internal/testkit"
 	"wagtenib/internal/testkit/fakelog"
-	"wagtenib/internal/testkit/softhsm"
 )
 
 // realArguments returns the arguments of a log on a folder.
@@ -147,7 +146,7 @@ func TestRealLog(t *testing.T) {
 // TestKeyInAToken runs a log whose key is in a PKCS#11 token. Its signer must log in to the token, and the token's key
 // must sign everything that is answered and published, also after another start.
 func TestKeyInAToken(t *testing.T) {
-	module, pin := softhsm.Token(t)
+	module, pin := testkit.Token(t)
 	at := newPlace(t)
 	uri := "pkcs11:token=log-token;object=key?module-path=" + module + "&pin-source=file:" + pin
 	arguments := at.realArguments("--signing-key", uri)

@@ -6,7 +6,7 @@ import (
 	"testing"
 	"time"
 
-	"wagtenib/internal/testkit/testcert"
+	"wagtenib/internal/testkit"
 )
 
 // TestAccusesOnceOfTheSameRoot: a log signs the same wrong root again and again, with a new timestamp each time. This
@@ -21,7 +21,7 @@ func TestAccusesOnceOfTheSameRoot(t *testing.T) {
 		alerts  int
 	}{{"fork", 0, now, 1}, {"other root", 2, now, 1}, {"old head", 0, now.Add(-9 * day), 3}} {
 		for _, isTiled := range []bool{true, false} {
-			log, authority, folder := serveLog(t, "a.example"), testcert.NewAuthority(t), t.TempDir()
+			log, authority, folder := serveLog(t, "a.example"), testkit.NewAuthority("Test CA 1"), t.TempDir()
 			log.add(authority, authority.Issue("other.net"))
 			accepted, root := log.Size(), log.Root(log.Size())
 			if one.verdict == "old head" {
@@ -52,7 +52,7 @@ func TestAccusesOnceOfTheSameRoot(t *testing.T) {
 // TestNamesBothOrigins: if the settings have a wrong origin, the alert names it and the origin of the checkpoint, so
 // that the owner sees that the settings are wrong.
 func TestNamesBothOrigins(t *testing.T) {
-	log, authority := serveLog(t, "a.example"), testcert.NewAuthority(t)
+	log, authority := serveLog(t, "a.example"), testkit.NewAuthority("Test CA 1")
 	log.add(authority, authority.Issue("other.net"))
 	setting := strings.TrimSuffix(log.setting(true), "a.example") + "wrong.example"
 	status, out, faults := ctwatch(t, "run", "--once", "--name", "example.org", "--folder", t.TempDir(), "--log", setting)

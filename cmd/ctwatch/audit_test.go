@@ -23,11 +23,11 @@ import (
 	"time"
 
 	"wagtenib/internal/audit/judge"
-	"wagtenib/internal/testkit/testlog"
+	"wagtenib/internal/testkit"
 )
 
 // logArguments serves a log, and returns the arguments that name it as a tiled log.
-func logArguments(t *testing.T, log *testlog.Log) []string {
+func logArguments(t *testing.T, log *testkit.Log) []string {
 	t.Helper()
 	server := httptest.NewServer(log)
 	t.Cleanup(server.Close)
@@ -36,12 +36,11 @@ func logArguments(t *testing.T, log *testlog.Log) []string {
 }
 
 // newTestLog returns a log with this number of made-up entries, and a head with the current time.
-func newTestLog(t *testing.T, size int) *testlog.Log {
+func newTestLog(t *testing.T, size int) *testkit.Log {
 	t.Helper()
-	log, err := testlog.New("log.example/2027")
-	must(t, err)
+	log := testkit.NewLog("log.example/2027")
 	for i := range size {
-		log.Add(testlog.Entry{Timestamp: 1000, Certificate: []byte{0x30, 2, byte(i >> 8), byte(i)}})
+		log.Add(testkit.Entry{Timestamp: 1000, Certificate: []byte{0x30, 2, byte(i >> 8), byte(i)}})
 	}
 	log.Publish(uint64(size), uint64(time.Now().UnixMilli()))
 	return log
@@ -49,13 +48,13 @@ func newTestLog(t *testing.T, size int) *testlog.Log {
 
 // promised makes a certificate with crypto/x509. Its only timestamp promises an entry of a log at an index. promised
 // returns the file with the certificate and its issuer, and the promised entry.
-func promised(t *testing.T, log *testlog.Log, index uint64) (file string, entry testlog.Entry) {
+func promised(t *testing.T, log *testkit.Log, index uint64) (file string, entry testkit.Entry) {
 	t.Helper()
 	return promisedAt(t, log, index, 2000)
 }
 
 // promisedAt is promised with the timestamp of the promise, in milliseconds.
-func promisedAt(t *testing.T, log *testlog.Log, index, timestamp uint64) (file string, entry testlog.Entry) {
+func promisedAt(t *testing.T, log *testkit.Log, index, timestamp uint64) (file string, entry testkit.Entry) {
 	t.Helper()
 	key, err := ecdsa.GenerateKey(elliptic.P256(), rand.Reader)
 	must(t, err)
@@ -76,7 +75,7 @@ func promisedAt(t *testing.T, log *testlog.Log, index, timestamp uint64) (file s
 		return cert
 	}
 	hash := sha256.Sum256(issuer.RawSubjectPublicKeyInfo)
-	entry = testlog.Entry{Timestamp: timestamp, Certificate: issue().RawTBSCertificate, IssuerKeyHash: hash[:]}
+	entry = testkit.Entry{Timestamp: timestamp, Certificate: issue().RawTBSCertificate, IssuerKeyHash: hash[:]}
 	sct := log.SCT(entry, index)
 	list := append(binary.BigEndian.AppendUint16(nil, uint16(len(sct))), sct...)
 	value, err := asn1.Marshal(append(binary.BigEndian.AppendUint16(nil, uint16(len(list))), list...))

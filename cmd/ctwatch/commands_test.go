@@ -19,7 +19,6 @@ import (
 
 	"wagtenib/bindings/go/wagtenib"
 	"wagtenib/internal/testkit"
-	"wagtenib/internal/testkit/testcert"
 	"wagtenib/internal/watch"
 	"wagtenib/internal/watch/alert"
 	"wagtenib/internal/watch/namesearch"
@@ -32,7 +31,7 @@ func TestMain(m *testing.M) { testkit.Main(m, main) }
 // TestRefusesSettings: a wrong setting is refused with status 2 before a file is created. The message names the remedy.
 func TestRefusesSettings(t *testing.T) {
 	folder := filepath.Join(t.TempDir(), "store")
-	issued := testcert.NewAuthority(t).Issue("a.example").Certificate
+	issued := testkit.NewAuthority("Test CA 1").Issue("a.example").Certificate
 	key := base64.StdEncoding.EncodeToString(issued.RawSubjectPublicKeyInfo)
 	for arguments, remedy := range map[string]string{
 		"":                               "write --name example.org",
@@ -176,7 +175,7 @@ func stored(t *testing.T, hosts ...string) *watchstore.Store {
 	must(t, err)
 	t.Cleanup(func() { must(t, store.Close()) })
 	must(t, store.UseOutputs([]string{"<b>output</b>"}))
-	one := testcert.NewAuthority(t).Issue(append(hosts, "shop.example.org")...)
+	one := testkit.NewAuthority("Test CA 1").Issue(append(hosts, "shop.example.org")...)
 	log := watch.Log{ID: watch.LogID{1}, Name: "<i>log</i>\xff", URL: "javascript:alert(1)"}
 	must(t, store.Keep(log, watch.State{}, []watch.Entry{{Index: 3, Timestamp: 1_770_000_000_000,
 		Type: wagtenib.X509Entry, Certificate: one.Certificate.Raw}}))
@@ -299,7 +298,7 @@ func TestWritesEvidence(t *testing.T) {
 // TestRunsUntilASignal: run follows a log, sends an alert as JSON soon after the log has a new certificate, and ends
 // with status 0.
 func TestRunsUntilASignal(t *testing.T) {
-	authority := testcert.NewAuthority(t)
+	authority := testkit.NewAuthority("Test CA 1")
 	log := serveLog(t, "a.example")
 	log.add(authority, authority.Issue("other.net"))
 	folder := t.TempDir()
@@ -331,7 +330,7 @@ func TestRunsUntilASignal(t *testing.T) {
 
 // TestSendsAtTheEnd: a run ends while a webhook has not answered. The alert is then sent again, with Again set.
 func TestSendsAtTheEnd(t *testing.T) {
-	authority, posted := testcert.NewAuthority(t), make(chan alert.Alert, 10)
+	authority, posted := testkit.NewAuthority("Test CA 1"), make(chan alert.Alert, 10)
 	var hung atomic.Bool
 	hook := httptest.NewServer(http.HandlerFunc(func(_ http.ResponseWriter, r *http.Request) {
 		var one alert.Alert

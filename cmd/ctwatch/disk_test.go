@@ -9,7 +9,6 @@ import (
 	"testing"
 
 	"wagtenib/internal/testkit"
-	"wagtenib/internal/testkit/testcert"
 )
 
 // TestFullDiskLosesNoAlert runs the program on a disk that gets full while it reads a log. The program reports this
@@ -41,7 +40,7 @@ func runFull(t *testing.T, folder, expected string, isLimited bool, makeRoom fun
 	for i := range count {
 		wanted[hostOf(i)] = true
 	}
-	log.add(testcert.NewAuthority(t), testcert.NewAuthority(t).Issue("other.net"))
+	log.add(testkit.NewAuthority("Test CA 1"), testkit.NewAuthority("Test CA 1").Issue("other.net"))
 	alerts := filepath.Join(t.TempDir(), "alerts")
 	arguments := []string{"run", "--once", "--from-start", "--quiet", "--name", "example.org", "--folder",
 		filepath.Join(folder, "store"), "--json", alerts, "--log", log.setting(true)}

@@ -11,7 +11,7 @@ import (
 	"testing"
 	"time"
 
-	"wagtenib/internal/testkit/testcert"
+	"wagtenib/internal/testkit"
 	"wagtenib/internal/watch"
 	"wagtenib/internal/watch/namesearch"
 )
@@ -19,7 +19,7 @@ import (
 // FuzzSettings: a config file is refused with errUsage, or its settings have names that can be written and read again,
 // times within their bounds, and logs with the IDs of their keys.
 func FuzzSettings(f *testing.F) {
-	key := base64.StdEncoding.EncodeToString(testcert.NewAuthority(f).Issue("a.b").Certificate.RawSubjectPublicKeyInfo)
+	key := base64.StdEncoding.EncodeToString(testkit.NewAuthority("Test CA 1").Issue("a.b").Certificate.RawSubjectPublicKeyInfo)
 	example, err := os.ReadFile("../../release/ctwatch.conf")
 	must(f, err)
 	f.Add(example)

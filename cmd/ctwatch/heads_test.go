@@ -9,17 +9,16 @@ import (
 	"time"
 
 	"wagtenib/internal/audit/judge"
-	"wagtenib/internal/testkit/testcert"
-	"wagtenib/internal/testkit/testlog"
+	"wagtenib/internal/testkit"
 )
 
 // TestRunComparesHeadsOfOthers: a run compares the log with the heads in a file. A fork of the log that lags is accused
 // by the log's own answers. A wrong proof causes an alert that accuses nobody, and is no evidence.
 func TestRunComparesHeadsOfOthers(t *testing.T) {
-	log, authority, folder := serveLog(t, "a.example"), testcert.NewAuthority(t), t.TempDir()
+	log, authority, folder := serveLog(t, "a.example"), testkit.NewAuthority("Test CA 1"), t.TempDir()
 	log.add(authority, authority.Issue("other.net"))
 	fork := log.Fork(1)
-	fork.Add(testlog.Entry{Timestamp: 1000, Certificate: []byte{0x30, 0}})
+	fork.Add(testkit.Entry{Timestamp: 1000, Certificate: []byte{0x30, 0}})
 	fork.Publish(2, uint64(time.Now().Add(-time.Hour).UnixMilli()))
 	heads := filepath.Join(folder, "heads")
 	must(t, os.WriteFile(heads, fork.STH(), 0o600))

@@ -7,13 +7,12 @@ import (
 	"testing"
 
 	"wagtenib/internal/testkit"
-	"wagtenib/internal/testkit/testcert"
 )
 
 // TestHintNamesTheProgramAsItWasCalled: an alert says how to get the certificate, with the path by which the program
 // was called. A path with characters that are special in a shell is replaced with the program's name.
 func TestHintNamesTheProgramAsItWasCalled(t *testing.T) {
-	authority, log := testcert.NewAuthority(t), serveLog(t, "a.example")
+	authority, log := testkit.NewAuthority("Test CA 1"), serveLog(t, "a.example")
 	log.add(authority, authority.Issue("shop.example.org"))
 	for called, hint := range map[string]string{"cmd/out/ctwatch": "; cmd/out/ctwatch certificate ",
 		"/usr/bin/ctwatch": "; /usr/bin/ctwatch certificate ", "ctwatch": "; ctwatch certificate ",

@@ -8,7 +8,6 @@ import (
 	"testing"
 
 	"wagtenib/internal/testkit"
-	"wagtenib/internal/testkit/testcert"
 )
 
 // maxMemory is the maximum memory of ctwatch, in bytes, while a log gives hostile answers. The systemd unit allows
@@ -18,7 +17,7 @@ const maxMemory = 1 << 30
 // TestHostileAnswersTakeBoundedMemory: a log answers with millions of tiny entries, as many as fit into an answer. The
 // log is refused, and ctwatch uses at most maxMemory.
 func TestHostileAnswersTakeBoundedMemory(t *testing.T) {
-	authority := testcert.NewAuthority(t)
+	authority := testkit.NewAuthority("Test CA 1")
 	// This is a TileLeaf of an x509_entry with a certificate of one byte (C2SP static-ct-api).
 	tiny := []byte{0, 0, 0, 0, 0, 0, 0, 1, 0, 0, 0, 0, 1, 0x30, 0, 0, 0, 0}
 	for what, answer := range map[string][]byte{

@@ -19,7 +19,6 @@ import (
 	"golang.org/x/net/html"
 
 	"wagtenib/internal/testkit"
-	"wagtenib/internal/testkit/testcert"
 	"wagtenib/internal/watch/alert"
 	"wagtenib/internal/watch/watchstore"
 )
@@ -37,10 +36,10 @@ var hostileTexts = []string{
 func injected(t *testing.T) (folder, out string) {
 	t.Helper()
 	folder = t.TempDir()
-	log, authority := serveLog(t, "a.example"), testcert.NewAuthority(t)
+	log, authority := serveLog(t, "a.example"), testkit.NewAuthority("Test CA 1")
 	for _, text := range hostileTexts {
-		log.add(authority, authority.IssueNames(testcert.CommonName(12, []byte(text)),
-			testcert.Name{Tag: testcert.DNS, Bytes: []byte(text + ".example.org")}))
+		log.add(authority, authority.IssueNames(testkit.CommonName(12, []byte(text)),
+			testkit.Name{Tag: testkit.DNS, Bytes: []byte(text + ".example.org")}))
 	}
 	id := log.PublicKey()
 	list, err := json.Marshal(map[string]any{"operators": []any{map[string]any{"name": hostileTexts[3], "logs": []any{

@@ -15,7 +15,6 @@ import (
 
 	"wagtenib/internal/audit/judge"
 	"wagtenib/internal/testkit"
-	"wagtenib/internal/testkit/testcert"
 	"wagtenib/internal/watch/alert"
 )
 
@@ -29,7 +28,7 @@ var (
 // middle. At the end, each issuance has its alert, and an alert that was sent twice has Again set. The fork has one
 // alert, and the judge of ctfsck confirms its evidence.
 func TestKillsLoseNoAlert(t *testing.T) {
-	authority, random, folder := testcert.NewAuthority(t), rand.New(rand.NewPCG(*seed, 0)), t.TempDir()
+	authority, random, folder := testkit.NewAuthority("Test CA 1"), rand.New(rand.NewPCG(*seed, 0)), t.TempDir()
 	first, second := serveLog(t, "a.example"), serveLog(t, "b.example")
 	asked, wanted, isGrowing, forked := make(chan struct{}, 1<<16), map[string]bool{}, true, false
 	turn := make(chan struct{}, 1) // It is a mutex for `wanted`, isGrowing and forked.

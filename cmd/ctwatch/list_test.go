@@ -18,7 +18,6 @@ import (
 	"testing"
 
 	"wagtenib/internal/testkit"
-	"wagtenib/internal/testkit/testcert"
 )
 
 // refusingList serves a log list with one log. It refuses every request until isOpen is set.
@@ -31,7 +30,7 @@ type refusingList struct {
 // listOfOneLog returns a log list with one log, which it serves.
 func listOfOneLog(t *testing.T) []byte {
 	t.Helper()
-	log, authority := serveLog(t, "a.example"), testcert.NewAuthority(t)
+	log, authority := serveLog(t, "a.example"), testkit.NewAuthority("Test CA 1")
 	log.add(authority, authority.Issue("other.net"))
 	return listOf(t, log)
 }
@@ -111,7 +110,7 @@ func TestReportsTheFirstFailureAtOnce(t *testing.T) {
 	folder := t.TempDir()
 	certificate := filepath.Join(folder, "certificate")
 	must(t, os.WriteFile(certificate, pem.EncodeToMemory(&pem.Block{Type: "CERTIFICATE",
-		Bytes: testcert.NewAuthority(t).Issue("a.example").Certificate.Raw}), 0o600))
+		Bytes: testkit.NewAuthority("Test CA 1").Issue("a.example").Certificate.Raw}), 0o600))
 	for _, arguments := range [][]string{{"show", "https://a.example", "1"},
 		{"audit", certificate, "--issuer", certificate},
 		{"run", "--once", "--name", "example.org", "--folder", folder}} {
@@ -217,7 +216,7 @@ func TestReadsAListThatAppearsLater(t *testing.T) {
 // the log of the list.
 type watchingList struct {
 	list, store, config, alerts string
-	authority                   *testcert.Authority
+	authority                   *testkit.Authority
 	log                         served
 }
 
@@ -225,7 +224,7 @@ func newWatchingList(t *testing.T) watchingList {
 	t.Helper()
 	folder := t.TempDir()
 	w := watchingList{filepath.Join(folder, "list.json"), filepath.Join(folder, "store"), filepath.Join(folder, "config"),
-		filepath.Join(folder, "alerts"), testcert.NewAuthority(t), serveLog(t, "a.example")}
+		filepath.Join(folder, "alerts"), testkit.NewAuthority("Test CA 1"), serveLog(t, "a.example")}
 	must(t, os.WriteFile(w.config, []byte("name example.org\nfolder "+w.store+"\nlog-list "+w.list+
 		"\nlisten 127.0.0.1:0\npause 1s\nquiet true\njson "+w.alerts+"\n"), 0o600))
 	w.add("other.net")

@@ -12,8 +12,6 @@ import (
 	"time"
 
 	"wagtenib/internal/testkit"
-	"wagtenib/internal/testkit/testcert"
-	"wagtenib/internal/testkit/testlog"
 	"wagtenib/internal/watch/alert"
 )
 
@@ -93,13 +91,13 @@ func reportAll(t *testing.T, count int, output ...string) {
 func manyIssuances(t *testing.T, count int) served {
 	t.Helper()
 	log := serveLog(t, "a.example")
-	der := testcert.NewAuthority(t).Issue(hostOf(0)).Certificate.Raw
+	der := testkit.NewAuthority("Test CA 1").Issue(hostOf(0)).Certificate.Raw
 	if bytes.Count(der, []byte(hostOf(0))) != 1 {
 		t.Fatal("the certificate does not contain its host name exactly once")
 	}
 	now := uint64(time.Now().UnixMilli())
 	for i := range count {
-		log.Add(testlog.Entry{Timestamp: now, Certificate: bytes.Replace(der, []byte(hostOf(0)), []byte(hostOf(i)), 1)})
+		log.Add(testkit.Entry{Timestamp: now, Certificate: bytes.Replace(der, []byte(hostOf(0)), []byte(hostOf(i)), 1)})
 	}
 	log.Publish(log.Size(), now+1)
 	return log

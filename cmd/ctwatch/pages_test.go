@@ -9,7 +9,7 @@ import (
 	"testing"
 	"time"
 
-	"wagtenib/internal/testkit/testcert"
+	"wagtenib/internal/testkit"
 )
 
 // The pages about the program, the pattern of code in them, and the pattern of flags in a help text.
@@ -52,7 +52,7 @@ func TestPagesNameRealFlags(t *testing.T) {
 func TestRunsTheCommandsOfItsPage(t *testing.T) {
 	folder := t.TempDir()
 	t.Setenv("HOME", folder)
-	log, authority := serveLog(t, "a.example"), testcert.NewAuthority(t)
+	log, authority := serveLog(t, "a.example"), testkit.NewAuthority("Test CA 1")
 	one := authority.Issue("shop.example.org")
 	log.add(authority, one)
 	must(t, os.Mkdir(filepath.Join(folder, ".certspotter"), 0o700))

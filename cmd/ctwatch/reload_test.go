@@ -11,14 +11,13 @@ import (
 	"testing"
 
 	"wagtenib/internal/testkit"
-	"wagtenib/internal/testkit/testcert"
 	"wagtenib/internal/watch/alert"
 )
 
 // TestReloadsSettings: after a SIGHUP, ctwatch continues with the new settings of the config file. If they are wrong,
 // it says why and continues with the old ones. It sends no alert to an output twice.
 func TestReloadsSettings(t *testing.T) {
-	authority, folder := testcert.NewAuthority(t), t.TempDir()
+	authority, folder := testkit.NewAuthority("Test CA 1"), t.TempDir()
 	log := serveLog(t, "a.example")
 	log.add(authority, authority.Issue("other.net"))
 	config, first, second := filepath.Join(folder, "settings"), filepath.Join(folder, "1"), filepath.Join(folder, "2")

@@ -9,7 +9,7 @@ import (
 	"testing"
 	"time"
 
-	"wagtenib/internal/testkit/testcert"
+	"wagtenib/internal/testkit"
 	"wagtenib/internal/watch/alert"
 	"wagtenib/internal/watch/watchstore"
 )
@@ -18,7 +18,7 @@ import (
 // there is one alert about it, on each kind of output and on the page, and one that takes it back after a newer
 // certificate was logged.
 func TestReportsRenewals(t *testing.T) {
-	authority, log, folder := testcert.NewAuthority(t), serveLog(t, "a.example"), t.TempDir()
+	authority, log, folder := testkit.NewAuthority("Test CA 1"), serveLog(t, "a.example"), t.TempDir()
 	end := time.Now().Add(6 * 24 * time.Hour)
 	log.add(authority, authority.IssueUntil(end, "www.example.org"))
 	script, notified := filepath.Join(folder, "notify"), filepath.Join(folder, "notified")

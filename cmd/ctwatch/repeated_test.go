@@ -9,7 +9,7 @@ import (
 	"strings"
 	"testing"
 
-	"wagtenib/internal/testkit/testcert"
+	"wagtenib/internal/testkit"
 	"wagtenib/internal/watch/alert"
 	"wagtenib/internal/watch/watchstore"
 )
@@ -18,10 +18,10 @@ import (
 // commands query and show, and the page show that name once, and count two names. query finds the certificate by both
 // names.
 func TestShowsRepeatedNamesOnce(t *testing.T) {
-	authority, log, folder := testcert.NewAuthority(t), serveLog(t, "a.example"), t.TempDir()
-	log.add(authority, authority.IssueNames(testcert.CommonName(12, []byte("shop.example.org")),
-		testcert.Name{Tag: testcert.DNS, Bytes: []byte("shop.example.org")},
-		testcert.Name{Tag: testcert.DNS, Bytes: []byte("www.example.org")}))
+	authority, log, folder := testkit.NewAuthority("Test CA 1"), serveLog(t, "a.example"), t.TempDir()
+	log.add(authority, authority.IssueNames(testkit.CommonName(12, []byte("shop.example.org")),
+		testkit.Name{Tag: testkit.DNS, Bytes: []byte("shop.example.org")},
+		testkit.Name{Tag: testkit.DNS, Bytes: []byte("www.example.org")}))
 	script, notified := filepath.Join(folder, "notify"), filepath.Join(folder, "notified")
 	lines := filepath.Join(folder, "lines")
 	must(t, os.WriteFile(script, []byte("#!/bin/sh\necho \"$CTWATCH_NAME_COUNT: $CTWATCH_NAMES: $CTWATCH_HOSTS\" >"+

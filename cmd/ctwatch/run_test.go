@@ -14,33 +14,31 @@ import (
 	"testing"
 	"time"
 
-	"wagtenib/internal/testkit/testcert"
-	"wagtenib/internal/testkit/testlog"
+	"wagtenib/internal/testkit"
 	"wagtenib/internal/watch/alert"
 )
 
 // served is a log of a test that is served as a tiled log and by the calls of RFC 6962.
 type served struct {
-	*testlog.Log
+	*testkit.Log
 	address string
 }
 
 func serveLog(t *testing.T, origin string) served {
 	t.Helper()
-	log, err := testlog.New(origin)
-	must(t, err)
+	log := testkit.NewLog(origin)
 	server := httptest.NewServer(log)
 	t.Cleanup(server.Close)
 	return served{log, server.URL}
 }
 
 // add adds the precertificate and the certificate, and publishes a head.
-func (s served) add(a *testcert.Authority, one testcert.Issued) {
+func (s served) add(a *testkit.Authority, one testkit.Issued) {
 	issuer := a.IssuerKeyHash()
 	now := uint64(time.Now().UnixMilli())
-	s.Add(testlog.Entry{Timestamp: now, Certificate: one.TBS, IssuerKeyHash: issuer[:],
+	s.Add(testkit.Entry{Timestamp: now, Certificate: one.TBS, IssuerKeyHash: issuer[:],
 		Precertificate: one.Precertificate.Raw},
-		testlog.Entry{Timestamp: now, Certificate: one.Certificate.Raw})
+		testkit.Entry{Timestamp: now, Certificate: one.Certificate.Raw})
 	s.Publish(s.Size(), now+1)
 }
 
@@ -71,7 +69,7 @@ func ctwatch(t *testing.T, arguments ...string) (status int, out, faults string)
 // TestAlertsOnceOverLogs: a precertificate and its certificate are in a tiled log and in two logs of RFC 6962. There is
 // one alert, with the host name, and no second one in a second run. The store then has the certificate, byte for byte.
 func TestAlertsOnceOverLogs(t *testing.T) {
-	authority := testcert.NewAuthority(t)
+	authority := testkit.NewAuthority("Test CA 1")
 	one, other := authority.Issue("shop.example.org"), authority.Issue("other.net")
 	folder := filepath.Join(t.TempDir(), "store")
 	arguments := []string{"run", "--once", "--from-start", "--name", "example.org", "--folder", folder}
@@ -109,7 +107,7 @@ func TestAlertsOnceOverLogs(t *testing.T) {
 // TestOnceSendsWhileALogIsSlow: a log returns its entries only after the alert about a certificate in another log was
 // sent. So that alert does not wait for the slow log. In the end, both certificates have an alert.
 func TestOnceSendsWhileALogIsSlow(t *testing.T) {
-	authority, received := testcert.NewAuthority(t), make(chan string, 2)
+	authority, received := testkit.NewAuthority("Test CA 1"), make(chan string, 2)
 	hook := httptest.NewServer(http.HandlerFunc(func(_ http.ResponseWriter, r *http.Request) {
 		var one alert.Alert
 		if err := json.NewDecoder(r.Body).Decode(&one); err != nil {
@@ -143,7 +141,7 @@ func TestOnceSendsWhileALogIsSlow(t *testing.T) {
 // TestOnceSendsWaitingAlerts: the next run sends an alert that could not be sent, even if that run finds nothing. Again
 // is set in it.
 func TestOnceSendsWaitingAlerts(t *testing.T) {
-	authority := testcert.NewAuthority(t)
+	authority := testkit.NewAuthority("Test CA 1")
 	var posted []alert.Alert
 	hook := httptest.NewServer(http.HandlerFunc(func(w http.ResponseWriter, r *http.Request) {
 		var one alert.Alert

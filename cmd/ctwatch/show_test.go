@@ -13,15 +13,14 @@ import (
 	"testing"
 
 	"wagtenib/internal/audit/judge"
-	"wagtenib/internal/testkit/testcert"
-	"wagtenib/internal/testkit/testlog"
+	"wagtenib/internal/testkit"
 	"wagtenib/internal/watch"
 )
 
 // TestShowsAnEntry: show prints an entry of either kind of log with its names, its certificate, byte for byte, and the
 // head whose tree contains it.
 func TestShowsAnEntry(t *testing.T) {
-	authority := testcert.NewAuthority(t)
+	authority := testkit.NewAuthority("Test CA 1")
 	one := authority.Issue("shop.example.org")
 	log := serveLog(t, "a.example")
 	for range 200 {
@@ -57,7 +56,7 @@ func TestShowsAnEntry(t *testing.T) {
 // TestWritesTheProofOfAnEntry: show writes files that the independent judge confirms later, without the log. The judge
 // refuses a changed leaf, tree head or proof.
 func TestWritesTheProofOfAnEntry(t *testing.T) {
-	authority, log := testcert.NewAuthority(t), serveLog(t, "a.example")
+	authority, log := testkit.NewAuthority("Test CA 1"), serveLog(t, "a.example")
 	for range 5 {
 		log.add(authority, authority.Issue("shop.example.org"))
 	}
@@ -93,18 +92,17 @@ func TestWritesTheProofOfAnEntry(t *testing.T) {
 // TestShowsWhatIsNotProved: show reports an entry that the tree does not contain, and a precertificate that does not
 // belong to the leaf.
 func TestShowsWhatIsNotProved(t *testing.T) {
-	authority := testcert.NewAuthority(t)
+	authority := testkit.NewAuthority("Test CA 1")
 	one, other := authority.Issue("shop.example.org"), authority.Issue("b.example.org")
 	log := serveLog(t, "a.example")
 	log.add(authority, one)
 	issuer := authority.IssuerKeyHash()
-	log.Add(testlog.Entry{Timestamp: 5, Certificate: one.TBS, IssuerKeyHash: issuer[:],
+	log.Add(testkit.Entry{Timestamp: 5, Certificate: one.TBS, IssuerKeyHash: issuer[:],
 		Precertificate: other.Precertificate.Raw})
 	log.Publish(3, 1000)
-	forged, err := testlog.New("a.example")
-	must(t, err)
-	forged.Add(testlog.Entry{Timestamp: 1, Certificate: other.Certificate.Raw},
-		testlog.Entry{Certificate: []byte{1}}, testlog.Entry{Certificate: []byte{2}})
+	forged := testkit.NewLog("a.example")
+	forged.Add(testkit.Entry{Timestamp: 1, Certificate: other.Certificate.Raw},
+		testkit.Entry{Certificate: []byte{1}}, testkit.Entry{Certificate: []byte{2}})
 	forged.Publish(3, 1000)
 	log.Intercept(func(w http.ResponseWriter, r *http.Request) bool {
 		if r.URL.Query().Get("start") != "0" && !strings.HasPrefix(r.URL.Path, "/tile/data/") {

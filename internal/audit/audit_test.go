@@ -26,7 +26,7 @@ import (
 	"wagtenib/internal/audit"
 	"wagtenib/internal/audit/judge"
 	"wagtenib/internal/logclient"
-	"wagtenib/internal/testkit/testlog"
+	"wagtenib/internal/testkit"
 	"wagtenib/internal/watch"
 )
 
@@ -81,9 +81,9 @@ func (a *authority) issue(extensions ...pkix.Extension) *x509.Certificate {
 }
 
 // entry returns the log entry of the certificate that issue returns. Its TBSCertificate has no list of timestamps yet.
-func (a *authority) entry() testlog.Entry {
+func (a *authority) entry() testkit.Entry {
 	key := sha256.Sum256(a.cert.RawSubjectPublicKeyInfo)
-	return testlog.Entry{Timestamp: epoch, Certificate: a.issue().RawTBSCertificate, IssuerKeyHash: key[:],
+	return testkit.Entry{Timestamp: epoch, Certificate: a.issue().RawTBSCertificate, IssuerKeyHash: key[:],
 		Precertificate: []byte("precertificate")}
 }
 
@@ -101,28 +101,25 @@ func (a *authority) issueWith(scts ...[]byte) []byte {
 }
 
 // newLog returns a log with these entries, and a head with this timestamp.
-func newLog(t testing.TB, entries []testlog.Entry, timestamp uint64) *testlog.Log {
+func newLog(t testing.TB, entries []testkit.Entry, timestamp uint64) *testkit.Log {
 	t.Helper()
-	log, err := testlog.New("log.example/2027")
-	if err != nil {
-		t.Fatal(err)
-	}
+	log := testkit.NewLog("log.example/2027")
 	log.Add(entries...)
 	log.Publish(log.Size(), timestamp)
 	return log
 }
 
 // others returns entries with made-up certificates.
-func others(count int) (entries []testlog.Entry) {
+func others(count int) (entries []testkit.Entry) {
 	for i := range count {
-		entries = append(entries, testlog.Entry{Timestamp: epoch, Certificate: []byte{0x30, 2, byte(i >> 8), byte(i)}})
+		entries = append(entries, testkit.Entry{Timestamp: epoch, Certificate: []byte{0x30, 2, byte(i >> 8), byte(i)}})
 	}
 	return entries
 }
 
 var kinds = []string{"tiled", "RFC 6962"}
 
-func serve(t testing.TB, log *testlog.Log, kind string) watch.Log {
+func serve(t testing.TB, log *testkit.Log, kind string) watch.Log {
 	t.Helper()
 	server := httptest.NewServer(log)
 	t.Cleanup(server.Close)
@@ -189,10 +186,10 @@ func TestAuditsCertificates(t *testing.T) {
 	a := newAuthority(t)
 	promised := a.entry()
 	before, after := others(300), others(40)
-	with := append(append(append([]testlog.Entry{}, before...), promised), after...)
+	with := append(append(append([]testkit.Entry{}, before...), promised), after...)
 	for _, kind := range kinds {
 		for what, test := range map[string]struct {
-			entries   []testlog.Entry
+			entries   []testkit.Entry
 			timestamp uint64
 			expected  audit.Outcome
 			evidence  bool
@@ -263,7 +260,7 @@ func TestAuditsEachTimestamp(t *testing.T) {
 	})
 	damaged := bytes.Clone(good.SCT(promised, 5))
 	damaged[len(damaged)-1] ^= 1
-	other := good.SCT(testlog.Entry{Timestamp: epoch, Certificate: []byte("another certificate")}, 5)
+	other := good.SCT(testkit.Entry{Timestamp: epoch, Certificate: []byte("another certificate")}, 5)
 	certificate := a.issueWith(good.SCT(promised, 5), away.SCT(promised, 5), stranger.SCT(promised, 5), damaged, other,
 		busy.SCT(promised, 5))
 	results, err := audit.New(logs, quick).Certificate(context.Background(), certificate, a.cert.Raw)
@@ -318,7 +315,7 @@ func TestAuditsReturnedTimestamps(t *testing.T) {
 	poison := pkix.Extension{Id: asn1.ObjectIdentifier{1, 3, 6, 1, 4, 1, 11129, 2, 4, 3}, Critical: true,
 		Value: []byte{5, 0}}
 	precertificate := a.issue(poison)
-	plain := testlog.Entry{Timestamp: epoch, Certificate: final.Raw}
+	plain := testkit.Entry{Timestamp: epoch, Certificate: final.Raw}
 	log := newLog(t, append(others(3), plain, a.entry()), epoch+1)
 	watched := serve(t, log, "tiled")
 	for what, test := range map[string]struct {

@@ -5,16 +5,13 @@ import (
 	"testing"
 
 	"wagtenib/internal/audit"
-	"wagtenib/internal/testkit/testlog"
+	"wagtenib/internal/testkit"
 )
 
 // ReadSCTs reads timestamps of any form completely or not at all. Each of them is the same when it is parsed again.
 func FuzzReadSCTs(f *testing.F) {
-	log, err := testlog.New("log.example/2027")
-	if err != nil {
-		f.Fatal(err)
-	}
-	sct := log.SCT(testlog.Entry{Timestamp: 1, Certificate: []byte{1}}, 7)
+	log := testkit.NewLog("log.example/2027")
+	sct := log.SCT(testkit.Entry{Timestamp: 1, Certificate: []byte{1}}, 7)
 	f.Add(sct)
 	f.Add(append([]byte{0, byte(len(sct) + 2), 0, byte(len(sct))}, sct...))
 	f.Add([]byte(`{"sct_version":0,"id":"AAAAAAAAAAAAAAAAAAAAAAAAAAAAAAAAAAAAAAAAAAA=",` +
@@ -42,10 +39,7 @@ func FuzzReadSCTs(f *testing.F) {
 
 // The heads that SplitHeads returns are parts of the file, in their order, whatever the file contains.
 func FuzzSplitHeads(f *testing.F) {
-	log, err := testlog.New("log.example/2027")
-	if err != nil {
-		f.Fatal(err)
-	}
+	log := testkit.NewLog("log.example/2027")
 	log.PublishRoot(7, 1, [32]byte{})
 	f.Add(log.Checkpoint())
 	f.Add(bytes.Repeat(log.Checkpoint(), 3))

@@ -6,7 +6,7 @@ import (
 	"testing"
 
 	"wagtenib/internal/audit"
-	"wagtenib/internal/testkit/testlog"
+	"wagtenib/internal/testkit"
 	"wagtenib/internal/watch"
 )
 
@@ -22,7 +22,7 @@ type timed struct {
 }
 
 // newTimed serves the logs of a description, and returns the log, all logs and the certificate.
-func newTimed(t *testing.T, kind string, test timed, a *authority) (log *testlog.Log, logs []watch.Log,
+func newTimed(t *testing.T, kind string, test timed, a *authority) (log *testkit.Log, logs []watch.Log,
 	certificate []byte) {
 	t.Helper()
 	entry := a.entry()

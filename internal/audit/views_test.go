@@ -22,7 +22,7 @@ import (
 
 	"wagtenib/internal/audit"
 	"wagtenib/internal/ct"
-	"wagtenib/internal/testkit/testlog"
+	"wagtenib/internal/testkit"
 	"wagtenib/internal/watch"
 	"wagtenib/internal/witness"
 )
@@ -184,7 +184,7 @@ func TestComparesViews(t *testing.T) {
 }
 
 // checkView checks the outcome of a view by the name of its file.
-func checkView(t *testing.T, log *testlog.Log, view audit.View) {
+func checkView(t *testing.T, log *testkit.Log, view audit.View) {
 	t.Helper()
 	name := filepath.Base(view.Where)
 	var accused *watch.AccusedError
@@ -353,7 +353,7 @@ func TestComparesBothDirections(t *testing.T) {
 		forked := log.Fork(300)
 		forked.Add(others(50)...)
 		for what, test := range map[string]struct {
-			seen    *testlog.Log
+			seen    *testkit.Log
 			size    uint64
 			at      uint64
 			root    []byte

@@ -16,13 +16,13 @@ import (
 	"sync/atomic"
 	"testing"
 
-	"wagtenib/internal/testkit/testbucket"
+	"wagtenib/internal/testkit"
 )
 
 // publicPlace holds the objects of a public log. Each call of open returns the view of another process.
 type publicPlace struct {
 	open   func(t *testing.T) (Objects, Current)
-	bucket *testbucket.Bucket
+	bucket *testkit.Bucket
 }
 
 // publicPlaces returns a folder and a bucket.
@@ -37,7 +37,7 @@ func publicPlaces(t *testing.T) map[string]publicPlace {
 			return objects, current
 		}
 	}
-	bucket := testbucket.New(true)
+	bucket := testkit.NewBucket(true)
 	at := serve(t, bucket)
 	return map[string]publicPlace{
 		"folder": {open: opened("folder:" + filepath.Join(t.TempDir(), "objects"))},
@@ -164,7 +164,7 @@ func numberOf(content []byte) int {
 // TestLateSwapChangesNothing: a put of an older checkpoint that reaches the bucket after a later one was put is
 // refused there.
 func TestLateSwapChangesNothing(t *testing.T) {
-	bucket := testbucket.New(true)
+	bucket := testkit.NewBucket(true)
 	address := addressOfS3(serve(t, bucket), "")
 	objects, early, err := OpenPublic(limited(t), address)
 	must(t, err)
@@ -174,7 +174,7 @@ func TestLateSwapChangesNothing(t *testing.T) {
 	// The late one knows what is there, so that its next request is the put.
 	must(t, late.Swap(limited(t), "checkpoint", []byte("1"), []byte("2")))
 	held, goOn := make(chan struct{}), make(chan struct{})
-	tag := testbucket.Object{Content: []byte("2")}.ETag()
+	tag := testkit.Object{Content: []byte("2")}.ETag()
 	var isHeld atomic.Bool
 	bucket.Before = func(_ int, r *http.Request) {
 		if r.Method == http.MethodPut && r.Header.Get("If-Match") == tag && !isHeld.Swap(true) {
@@ -199,7 +199,7 @@ func TestLateSwapChangesNothing(t *testing.T) {
 // TestPublicBucketRefusesEnginesWithoutConditions: an engine that ignores If-Match, or an address that says that there
 // are no conditional puts, could let a checkpoint go back.
 func TestPublicBucketRefusesEnginesWithoutConditions(t *testing.T) {
-	bucket := testbucket.New(true)
+	bucket := testkit.NewBucket(true)
 	at := serve(t, bucket)
 	bucket.Matching = false
 	_, _, err := OpenPublic(limited(t), addressOfS3(at, ""))
@@ -215,7 +215,7 @@ func TestPublicBucketRefusesEnginesWithoutConditions(t *testing.T) {
 // returns the tile. One that was put before, without compression, is read as it is. A bucket that is not public
 // compresses nothing, and reads what is compressed.
 func TestDataTilesAreStoredInGzip(t *testing.T) {
-	bucket := testbucket.New(true)
+	bucket := testkit.NewBucket(true)
 	address := addressOfS3(serve(t, bucket), "")
 	public, _, err := OpenPublic(limited(t), address)
 	must(t, err)
@@ -223,7 +223,7 @@ func TestDataTilesAreStoredInGzip(t *testing.T) {
 	must(t, err)
 	content := bytes.Repeat([]byte("an entry of a data tile. "), 4000)
 	const keptForEver = "public, max-age=31536000, immutable"
-	for name, want := range map[string]testbucket.Object{
+	for name, want := range map[string]testkit.Object{
 		"tile/data/000":     {Encoding: "gzip", Type: "application/octet-stream", Cache: keptForEver},
 		"tile/data/001.p/5": {Encoding: "gzip", Type: "application/octet-stream", Cache: "public, max-age=60"},
 		"tile/0/000":        {Type: "application/octet-stream", Cache: keptForEver},
@@ -275,7 +275,7 @@ func TestDataTilesAreStoredInGzip(t *testing.T) {
 
 // TestDamagedGzipIsNoContent: for an object that is cut, changed, or not in gzip, Get returns an error and no bytes.
 func TestDamagedGzipIsNoContent(t *testing.T) {
-	bucket := testbucket.New(true)
+	bucket := testkit.NewBucket(true)
 	public, _, err := OpenPublic(limited(t), addressOfS3(serve(t, bucket), ""))
 	must(t, err)
 	const name = "tile/data/000"
@@ -291,7 +291,7 @@ func TestDamagedGzipIsNoContent(t *testing.T) {
 		"changed": changed, "no gzip": content,
 		"more after it": append(bytes.Clone(whole.Content), whole.Content...),
 	} {
-		bucket.Set(name, testbucket.Object{Content: damaged, Encoding: "gzip"})
+		bucket.Set(name, testkit.Object{Content: damaged, Encoding: "gzip"})
 		if got, err := public.Get(limited(t), name, MaxObject); err == nil || got != nil {
 			t.Errorf("%s: %d bytes, %v", what, len(got), err)
 		}

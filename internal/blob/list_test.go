@@ -6,13 +6,13 @@ import (
 	"net/http"
 	"testing"
 
-	"wagtenib/internal/testkit/testbucket"
+	"wagtenib/internal/testkit"
 )
 
 // TestS3ListEndsWithItsContext ends the context of each list before the response. A list that is cut off must return an
 // error, since it would look like a complete one.
 func TestS3ListEndsWithItsContext(t *testing.T) {
-	bucket := testbucket.New(true)
+	bucket := testkit.NewBucket(true)
 	store, err := OpenS3(limited(t), serve(t, bucket))
 	must(t, err)
 	for i := range 3 {
@@ -39,7 +39,7 @@ func TestS3ListEndsWithItsContext(t *testing.T) {
 // TestSwapComparesTheNameToo swaps a second object from the content that the last swap gave to the first object. The
 // second object does not exist, so nothing is swapped.
 func TestSwapComparesTheNameToo(t *testing.T) {
-	bucket := testbucket.New(true)
+	bucket := testkit.NewBucket(true)
 	objects, current, err := OpenPublic(limited(t), addressOfS3(serve(t, bucket), ""))
 	must(t, err)
 	must(t, current.Swap(limited(t), "checkpoint", nil, []byte("1")))

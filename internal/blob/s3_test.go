@@ -16,21 +16,20 @@ import (
 	"time"
 
 	"wagtenib/internal/testkit"
-	"wagtenib/internal/testkit/testbucket"
 )
 
 // serve serves a bucket until the test ends, and returns its address.
-func serve(t *testing.T, bucket *testbucket.Bucket) S3 {
+func serve(t *testing.T, bucket *testkit.Bucket) S3 {
 	t.Helper()
 	server := httptest.NewServer(bucket)
 	t.Cleanup(server.Close)
 	endpoint := strings.TrimPrefix(server.URL, "http://")
-	return S3{Endpoint: endpoint, Bucket: testbucket.Name, Key: "key", Secret: "secret", Region: "us-east-1",
+	return S3{Endpoint: endpoint, Bucket: testkit.BucketName, Key: "key", Secret: "secret", Region: "us-east-1",
 		Conditional: bucket.Conditional}
 }
 
 func TestS3RefusesUnfitBuckets(t *testing.T) {
-	at := serve(t, testbucket.New(false))
+	at := serve(t, testkit.NewBucket(false))
 	at.Conditional = true
 	if _, err := OpenS3(limited(t), at); !errors.Is(err, ErrUnsafe) {
 		t.Errorf("an engine without conditional puts: %v", err)
@@ -45,7 +44,7 @@ func TestS3RefusesUnfitBuckets(t *testing.T) {
 // fails. Nevertheless each put is done, and no object gets another content.
 func TestS3SurvivesLostResponses(t *testing.T) {
 	for _, conditional := range []bool{true, false} {
-		fake := testbucket.New(conditional)
+		fake := testkit.NewBucket(conditional)
 		store, err := OpenS3(limited(t), serve(t, fake))
 		must(t, err)
 		fake.Losing = func(number int) bool { return number%3 == 0 }
@@ -71,7 +70,7 @@ func TestS3RefusesCutResponse(t *testing.T) {
 		w.Write(make([]byte, 50))
 	}))
 	defer server.Close()
-	at := S3{Endpoint: strings.TrimPrefix(server.URL, "http://"), Bucket: testbucket.Name, Key: "key", Secret: "secret",
+	at := S3{Endpoint: strings.TrimPrefix(server.URL, "http://"), Bucket: testkit.BucketName, Key: "key", Secret: "secret",
 		Region: "us-east-1"}
 	store, err := OpenS3(limited(t), at)
 	must(t, err)
@@ -89,7 +88,7 @@ func TestS3RefusesResponseWithoutLength(t *testing.T) {
 		w.Write(make([]byte, 50))
 	}))
 	defer server.Close()
-	at := S3{Endpoint: strings.TrimPrefix(server.URL, "http://"), Bucket: testbucket.Name, Key: "key", Secret: "secret",
+	at := S3{Endpoint: strings.TrimPrefix(server.URL, "http://"), Bucket: testkit.BucketName, Key: "key", Secret: "secret",
 		Region: "us-east-1"}
 	store, err := OpenS3(limited(t), at)
 	must(t, err)
@@ -138,7 +137,7 @@ func TestS3AcknowledgesAtOnce(t *testing.T) {
 			}()
 		}
 	}()
-	store, err := OpenS3(limited(t), S3{Endpoint: listener.Addr().String(), Bucket: testbucket.Name, Key: "key",
+	store, err := OpenS3(limited(t), S3{Endpoint: listener.Addr().String(), Bucket: testkit.BucketName, Key: "key",
 		Secret: "secret", Region: "us-east-1"})
 	must(t, err)
 	minDuration := time.Hour
@@ -171,7 +170,7 @@ func TestS3ReturnsTheTime(t *testing.T) {
 		w.WriteHeader(status)
 	}))
 	defer server.Close()
-	store, err := OpenS3(limited(t), S3{Endpoint: strings.TrimPrefix(server.URL, "http://"), Bucket: testbucket.Name,
+	store, err := OpenS3(limited(t), S3{Endpoint: strings.TrimPrefix(server.URL, "http://"), Bucket: testkit.BucketName,
 		Key: "key", Secret: "secret", Region: "us-east-1"})
 	must(t, err)
 	date = validDate
@@ -319,9 +318,9 @@ func TestPostgresWithoutItsStandby(t *testing.T) {
 var memoryS3 sync.Map
 
 func openFake(ctx context.Context, place string, conditional bool) (Objects, error) {
-	stored, _ := memoryS3.LoadOrStore(place, testbucket.New(conditional))
-	server := httptest.NewServer(stored.(*testbucket.Bucket))
-	store, err := OpenS3(ctx, S3{Endpoint: strings.TrimPrefix(server.URL, "http://"), Bucket: testbucket.Name, Key: "key",
+	stored, _ := memoryS3.LoadOrStore(place, testkit.NewBucket(conditional))
+	server := httptest.NewServer(stored.(*testkit.Bucket))
+	store, err := OpenS3(ctx, S3{Endpoint: strings.TrimPrefix(server.URL, "http://"), Bucket: testkit.BucketName, Key: "key",
 		Secret: "secret", Region: "us-east-1", Conditional: conditional})
 	return closing{store, server}, err
 }

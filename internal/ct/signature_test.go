@@ -19,7 +19,7 @@ import (
 	"golang.org/x/mod/sumdb/note"
 
 	"wagtenib/internal/ct"
-	"wagtenib/internal/testkit/testlog"
+	"wagtenib/internal/testkit"
 )
 
 // signer holds a key, which may be of a kind that no log may have.
@@ -100,10 +100,7 @@ func TestVerifies(t *testing.T) {
 // TestOpensCheckpoints: a checkpoint is accepted if the log's signature is among the lines, in any place, and refused
 // without it.
 func TestOpensCheckpoints(t *testing.T) {
-	log, err := testlog.New("log.example/2027")
-	if err != nil {
-		t.Fatal(err)
-	}
+	log := testkit.NewLog("log.example/2027")
 	log.PublishRoot(7, 1234, [32]byte{9})
 	own := string(log.Checkpoint())
 	text, line, _ := strings.Cut(own, "\n\n")
@@ -151,7 +148,7 @@ func TestOpensCheckpoints(t *testing.T) {
 func TestOpensSTHs(t *testing.T) {
 	s := signers(t)["RSA"]
 	root := [32]byte{5}
-	signed := s.sign(t, testlog.TreeHead(7, 1234, root))
+	signed := s.sign(t, testkit.TreeHeadSignature(7, 1234, root))
 	answer := func(size, timestamp uint64, root, signed []byte) []byte {
 		content, err := json.Marshal(map[string]any{"tree_size": size, "timestamp": timestamp, "sha256_root_hash": root,
 			"tree_head_signature": signed})

@@ -15,7 +15,7 @@ import (
 	"time"
 
 	"wagtenib/internal/logclient"
-	"wagtenib/internal/testkit/testlog"
+	"wagtenib/internal/testkit"
 )
 
 // clock is a clock whose waits end immediately and advance its time. It records them.
@@ -54,14 +54,11 @@ func client(t testing.TB, handler http.Handler, options logclient.Options) *logc
 }
 
 // newLog returns a log with count entries and a head over them.
-func newLog(t testing.TB, count uint64) *testlog.Log {
+func newLog(t testing.TB, count uint64) *testkit.Log {
 	t.Helper()
-	log, err := testlog.New("log.example/2027")
-	if err != nil {
-		t.Fatal(err)
-	}
+	log := testkit.NewLog("log.example/2027")
 	for i := range count {
-		log.Add(testlog.Entry{Timestamp: 1000 + i, Certificate: []byte{0x30, 3, byte(i >> 16), byte(i >> 8), byte(i)}})
+		log.Add(testkit.Entry{Timestamp: 1000 + i, Certificate: []byte{0x30, 3, byte(i >> 16), byte(i >> 8), byte(i)}})
 	}
 	log.Publish(count, 1000+count)
 	return log
@@ -271,7 +268,7 @@ func TestReadsDespiteRefusals(t *testing.T) {
 	next := uint64(0)
 	err := c.Entries(context.Background(), 0, size, func(page logclient.Page, _ bool) error {
 		for i, entry := range page.Entries {
-			expected := testlog.Entry{Timestamp: 1000 + next,
+			expected := testkit.Entry{Timestamp: 1000 + next,
 				Certificate: []byte{0x30, 3, byte(next >> 16), byte(next >> 8), byte(next)}}
 			if page.Start+uint64(i) != next || !slices.Equal(entry.LeafInput, expected.MerkleLeaf(next)) {
 				return fmt.Errorf("entry %d is %x", next, entry.LeafInput)

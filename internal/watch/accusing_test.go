@@ -16,7 +16,7 @@ import (
 
 	"wagtenib/internal/audit/judge"
 	"wagtenib/internal/logclient"
-	"wagtenib/internal/testkit/testlog"
+	"wagtenib/internal/testkit"
 	"wagtenib/internal/watch"
 )
 
@@ -108,7 +108,7 @@ func writeEvidence(t *testing.T, evidence watch.Evidence) (folder string) {
 
 // scene holds a log and its follower, after a first pass that accepted the log's head.
 type scene struct {
-	log      *testlog.Log
+	log      *testkit.Log
 	watched  watch.Log
 	keeper   *keeper
 	clock    *clock
@@ -146,11 +146,11 @@ func (s *scene) checkAccused(t *testing.T, verdict string) {
 }
 
 // heads holds the lies that a dishonest log signs after 300 entries, by the verdict on each.
-var heads = map[string]func(*testlog.Log){
-	watch.VerdictFork:     func(log *testlog.Log) { log.PublishRoot(300, epoch+310_000, [32]byte{1}) },
-	watch.VerdictShrunk:   func(log *testlog.Log) { log.Publish(299, epoch+310_000) },
-	watch.VerdictNotLater: func(log *testlog.Log) { log.Add(makeEntries(300, 1)...); log.Publish(301, epoch+300_000) },
-	watch.VerdictOtherRoot: func(log *testlog.Log) {
+var heads = map[string]func(*testkit.Log){
+	watch.VerdictFork:     func(log *testkit.Log) { log.PublishRoot(300, epoch+310_000, [32]byte{1}) },
+	watch.VerdictShrunk:   func(log *testkit.Log) { log.Publish(299, epoch+310_000) },
+	watch.VerdictNotLater: func(log *testkit.Log) { log.Add(makeEntries(300, 1)...); log.Publish(301, epoch+300_000) },
+	watch.VerdictOtherRoot: func(log *testkit.Log) {
 		log.Add(makeEntries(300, 5)...)
 		log.PublishRoot(305, epoch+310_000, [32]byte{1})
 	},
@@ -214,7 +214,7 @@ func TestAccusesRewrittenHistory(t *testing.T) {
 // A log is accused of an entry that it must not have, and the entry is searched like the others.
 func TestAccusesByEntries(t *testing.T) {
 	index := uint64(7)
-	for verdict, entry := range map[string]testlog.Entry{
+	for verdict, entry := range map[string]testkit.Entry{
 		watch.VerdictLateMerge:  {Timestamp: epoch + 100, Certificate: []byte{1}},
 		watch.VerdictLaterEntry: {Timestamp: epoch + 900_000, Certificate: []byte{1}},
 		watch.VerdictWrongIndex: {Timestamp: epoch + 305_000, Certificate: []byte{1}, Index: &index},
@@ -249,7 +249,7 @@ func TestLateByTheMaximumMergeDelay(t *testing.T) {
 		for timestamp, expected := range map[uint64][]string{epoch + 180_000: nil,
 			epoch + 179_999: {watch.VerdictLateMerge}} {
 			s := newScene(t, kind, 2*time.Minute) // The timestamp of its head is 300 s after epoch.
-			s.log.Add(testlog.Entry{Timestamp: timestamp, Certificate: []byte{1}})
+			s.log.Add(testkit.Entry{Timestamp: timestamp, Certificate: []byte{1}})
 			s.log.Publish(301, epoch+310_000)
 			if err := s.follower.Pass(context.Background()); err != nil {
 				t.Fatal(err)
@@ -260,7 +260,7 @@ func TestLateByTheMaximumMergeDelay(t *testing.T) {
 			if err := s.follower.Pass(context.Background()); err != nil {
 				t.Fatal(err)
 			}
-			s.log.Add(testlog.Entry{Timestamp: timestamp + 60_000, Certificate: []byte{2}})
+			s.log.Add(testkit.Entry{Timestamp: timestamp + 60_000, Certificate: []byte{2}})
 			s.log.Publish(302, epoch+410_000)
 			if err := s.follower.Pass(context.Background()); err != nil {
 				t.Fatal(err)
@@ -324,10 +324,10 @@ func TestAccusesDamagedTile(t *testing.T) {
 // While the entries of a head cannot be read, the next head is compared with the waiting one, and the evidence has it.
 func TestAccusesByTheWaitingHead(t *testing.T) {
 	for _, kind := range kinds {
-		for verdict, lie := range map[string]func(*testlog.Log){
-			watch.VerdictFork:     func(log *testlog.Log) { log.PublishRoot(320, epoch+330_000, [32]byte{1}) },
-			watch.VerdictShrunk:   func(log *testlog.Log) { log.Publish(310, epoch+330_000) },
-			watch.VerdictNotLater: func(log *testlog.Log) { log.Add(makeEntries(320, 1)...); log.Publish(321, epoch+320_000) },
+		for verdict, lie := range map[string]func(*testkit.Log){
+			watch.VerdictFork:     func(log *testkit.Log) { log.PublishRoot(320, epoch+330_000, [32]byte{1}) },
+			watch.VerdictShrunk:   func(log *testkit.Log) { log.Publish(310, epoch+330_000) },
+			watch.VerdictNotLater: func(log *testkit.Log) { log.Add(makeEntries(320, 1)...); log.Publish(321, epoch+320_000) },
 		} {
 			t.Run(kind+" "+verdict, func(t *testing.T) {
 				s := newScene(t, kind, 0)

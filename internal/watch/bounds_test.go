@@ -9,7 +9,7 @@ import (
 	"testing"
 	"time"
 
-	"wagtenib/internal/testkit/testlog"
+	"wagtenib/internal/testkit"
 	"wagtenib/internal/watch"
 )
 
@@ -60,7 +60,7 @@ func TestComparesUntilAHeadIsAccepted(t *testing.T) {
 	s := newScene(t, "tiled", 0)
 	other := s.log.Fork(300)
 	for other.Size() < 400 {
-		other.Add(testlog.Entry{Timestamp: epoch, Certificate: fmt.Appendf(nil, "other %d", other.Size())})
+		other.Add(testkit.Entry{Timestamp: epoch, Certificate: fmt.Appendf(nil, "other %d", other.Size())})
 	}
 	other.Publish(400, epoch+1000*400)
 	grow(s.log, 100)

@@ -12,7 +12,7 @@ import (
 	"time"
 
 	"wagtenib/internal/logclient"
-	"wagtenib/internal/testkit/testlog"
+	"wagtenib/internal/testkit"
 	"wagtenib/internal/watch"
 )
 
@@ -20,7 +20,7 @@ import (
 var kinds = []string{"tiled", "RFC 6962"}
 
 // watched returns the description of a log of this kind at a URL.
-func watched(log *testlog.Log, url, kind string) watch.Log {
+func watched(log *testkit.Log, url, kind string) watch.Log {
 	description := watch.Log{ID: sha256.Sum256(log.PublicKey()), Name: kind, URL: url, PublicKey: log.PublicKey()}
 	if kind == "tiled" {
 		description.Origin = log.Origin
@@ -29,7 +29,7 @@ func watched(log *testlog.Log, url, kind string) watch.Log {
 }
 
 // serve serves a log, and returns its description.
-func serve(t testing.TB, log *testlog.Log, kind string) watch.Log {
+func serve(t testing.TB, log *testkit.Log, kind string) watch.Log {
 	t.Helper()
 	server := httptest.NewServer(log)
 	t.Cleanup(server.Close)
@@ -257,7 +257,7 @@ func TestLosesNothingWhenKilledWhileAccusing(t *testing.T) {
 					}
 				}
 				passUntil(func(err error) bool { return err == nil })
-				log.Add(testlog.Entry{Timestamp: epoch + 100, Certificate: []byte("late")})
+				log.Add(testkit.Entry{Timestamp: epoch + 100, Certificate: []byte("late")})
 				log.Publish(301, epoch+305_000)
 				passUntil(func(err error) bool { return err == nil })
 				log.PublishRoot(301, epoch+306_000, [32]byte{1})

@@ -13,7 +13,7 @@ import (
 	"testing"
 
 	"wagtenib/internal/logclient"
-	"wagtenib/internal/testkit/testlog"
+	"wagtenib/internal/testkit"
 	"wagtenib/internal/watch"
 )
 
@@ -40,7 +40,7 @@ func (d damage) apply(answer []byte) []byte {
 
 // direct is a transport that asks a log without a network, and changes some of its answers.
 type direct struct {
-	log *testlog.Log
+	log *testkit.Log
 	damage
 }
 
@@ -143,7 +143,7 @@ func FuzzLogAnswers(f *testing.F) {
 }
 
 // passOver makes one pass over a log of this kind, some of whose answers are damaged.
-func passOver(t testing.TB, log *testlog.Log, kind string, k *keeper, d damage) error {
+func passOver(t testing.TB, log *testkit.Log, kind string, k *keeper, d damage) error {
 	options := logclient.Options{Transport: direct{log, d}, Clock: newClock(epoch)}
 	return newFollower(t, watched(log, "http://log.example", kind), k, watch.Options{FromStart: true,
 		Client: options}).Pass(context.Background())

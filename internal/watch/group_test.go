@@ -14,7 +14,6 @@ import (
 
 	"wagtenib/internal/logclient"
 	"wagtenib/internal/testkit"
-	"wagtenib/internal/testkit/testlog"
 	"wagtenib/internal/watch"
 )
 
@@ -44,7 +43,7 @@ func TestSlowLogDelaysNoOther(t *testing.T) {
 	ctx, cancel := context.WithCancel(context.Background())
 	defer cancel()
 	var logs []watch.Log
-	served := map[watch.LogID]*testlog.Log{}
+	served := map[watch.LogID]*testkit.Log{}
 	asked := make(chan struct{}, 100)
 	for i := range 10 {
 		log := newLog(t, 1000)

@@ -8,7 +8,7 @@ import (
 	"testing"
 	"time"
 
-	"wagtenib/internal/testkit/testlog"
+	"wagtenib/internal/testkit"
 	"wagtenib/internal/watch"
 )
 
@@ -38,7 +38,7 @@ func (h *honest) see(size uint64, after int64) {
 }
 
 // seeLog makes a pass over a back end. The pass may fail.
-func (h *honest) seeLog(log *testlog.Log) {
+func (h *honest) seeLog(log *testkit.Log) {
 	h.show.now.Store(log)
 	// A back end that does not answer is no fault of the log, and no accusation.
 	_ = h.follower.Pass(context.Background())

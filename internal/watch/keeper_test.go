@@ -6,7 +6,6 @@ import (
 	"testing"
 
 	"wagtenib/internal/testkit"
-	"wagtenib/internal/testkit/testlog"
 	"wagtenib/internal/watch"
 )
 
@@ -111,27 +110,24 @@ const epoch = 1_800_000_000_000
 
 // makeEntries returns entries with made-up certificates. Their indexes begin with first, and their timestamps are one
 // second apart.
-func makeEntries(first, count uint64) (entries []testlog.Entry) {
+func makeEntries(first, count uint64) (entries []testkit.Entry) {
 	for i := first; i < first+count; i++ {
-		entries = append(entries, testlog.Entry{Timestamp: epoch + 1000*i, Certificate: []byte{0x30, 3, byte(i >> 16),
+		entries = append(entries, testkit.Entry{Timestamp: epoch + 1000*i, Certificate: []byte{0x30, 3, byte(i >> 16),
 			byte(i >> 8), byte(i)}})
 	}
 	return entries
 }
 
 // newLog returns a log with this number of entries, and a head that covers them.
-func newLog(t testing.TB, count uint64) *testlog.Log {
+func newLog(t testing.TB, count uint64) *testkit.Log {
 	t.Helper()
-	log, err := testlog.New("log.example/2027")
-	if err != nil {
-		t.Fatal(err)
-	}
+	log := testkit.NewLog("log.example/2027")
 	grow(log, count)
 	return log
 }
 
 // grow adds entries to a log, and signs a head that covers all of them.
-func grow(log *testlog.Log, count uint64) {
+func grow(log *testkit.Log, count uint64) {
 	log.Add(makeEntries(log.Size(), count)...)
 	log.Publish(log.Size(), epoch+1000*log.Size())
 }

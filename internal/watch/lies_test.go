@@ -10,7 +10,7 @@ import (
 
 	"wagtenib/internal/audit/judge"
 	"wagtenib/internal/logclient"
-	"wagtenib/internal/testkit/testlog"
+	"wagtenib/internal/testkit"
 	"wagtenib/internal/watch"
 )
 
@@ -75,8 +75,8 @@ func sequences(length int) (all [][]lie) {
 
 // liar serves a log with two histories. Each has a back end, which knows only its own entries.
 type liar struct {
-	histories map[string]*testlog.Log
-	shown     *testlog.Log
+	histories map[string]*testkit.Log
+	shown     *testkit.Log
 	// what the back ends refuse, besides heads
 	refusesEntries, refusesProofs bool
 }
@@ -85,13 +85,13 @@ func newLiar(t *testing.T) *liar {
 	t.Helper()
 	a := newLog(t, 0)
 	for i := range uint64(allEntries) {
-		a.Add(testlog.Entry{Timestamp: epoch, Certificate: []byte{0x30, 1, byte(i)}})
+		a.Add(testkit.Entry{Timestamp: epoch, Certificate: []byte{0x30, 1, byte(i)}})
 	}
 	b := a.Fork(sameEntries)
 	for i := range uint64(allEntries - sameEntries) {
-		b.Add(testlog.Entry{Timestamp: epoch, Certificate: []byte{0x30, 1, 100 + byte(i)}})
+		b.Add(testkit.Entry{Timestamp: epoch, Certificate: []byte{0x30, 1, 100 + byte(i)}})
 	}
-	return &liar{histories: map[string]*testlog.Log{"A": a, "B": b}}
+	return &liar{histories: map[string]*testkit.Log{"A": a, "B": b}}
 }
 
 func (l *liar) ServeHTTP(w http.ResponseWriter, r *http.Request) {
@@ -105,7 +105,7 @@ func (l *liar) ServeHTTP(w http.ResponseWriter, r *http.Request) {
 }
 
 // show has the back end of a head's history sign the head, if it did not before, and answer from then on.
-func (l *liar) show(head lie, signed map[lie]*testlog.Log) {
+func (l *liar) show(head lie, signed map[lie]*testkit.Log) {
 	if signed[head] == nil {
 		signed[head] = l.histories[head.history].Fork(allEntries)
 		signed[head].Publish(head.size, epoch+1000+head.time)
@@ -122,7 +122,7 @@ func (l *liar) run(t *testing.T, kind string, heads []lie, fromStart bool) (watc
 	log, k := watched(l.histories["A"], server.URL, kind), newKeeper()
 	f := newFollower(t, log, k, watch.Options{FromStart: fromStart, Client: logclient.Options{Clock: newClock(epoch + 5000),
 		Limits: logclient.Limits{Attempts: 1}}})
-	signed, rounds := map[lie]*testlog.Log{}, 2
+	signed, rounds := map[lie]*testkit.Log{}, 2
 	if l.refusesEntries || l.refusesProofs {
 		rounds = 3
 	}

@@ -11,12 +11,12 @@ import (
 
 	"wagtenib/internal/audit/judge"
 	"wagtenib/internal/logclient"
-	"wagtenib/internal/testkit/testlog"
+	"wagtenib/internal/testkit"
 	"wagtenib/internal/watch"
 )
 
 // showing answers for one of several back ends of a log's address.
-type showing struct{ now atomic.Pointer[testlog.Log] }
+type showing struct{ now atomic.Pointer[testkit.Log] }
 
 func (s *showing) ServeHTTP(w http.ResponseWriter, r *http.Request) { s.now.Load().ServeHTTP(w, r) }
 
@@ -59,7 +59,7 @@ func (f *fronts) pass(t *testing.T) {
 }
 
 // other returns a log with the first entries of the log and then others, and a head over all of them.
-func (f *fronts) other(same, size, timestamp uint64) *testlog.Log {
+func (f *fronts) other(same, size, timestamp uint64) *testkit.Log {
 	other := f.log.Fork(same)
 	other.Add(makeEntries(1_000_000, size-same)...)
 	other.Publish(size, timestamp)
@@ -203,9 +203,9 @@ func TestComparesHeadsOfOthers(t *testing.T) {
 	for _, kind := range kinds {
 		t.Run(kind, func(t *testing.T) {
 			f := newFronts(t, kind)
-			signed := (*testlog.Log).Checkpoint
+			signed := (*testkit.Log).Checkpoint
 			if kind != "tiled" {
-				signed = (*testlog.Log).STH
+				signed = (*testkit.Log).STH
 			}
 			stranger := newLog(t, 3)
 			var heads [][]byte

@@ -12,14 +12,14 @@ import (
 	"time"
 
 	"wagtenib/internal/logclient"
-	"wagtenib/internal/testkit/testlog"
+	"wagtenib/internal/testkit"
 	"wagtenib/internal/watch"
 )
 
 const hour = 3_600_000 // milliseconds
 
 // refuse makes a log answer requests for entries with 403 while isOn is set, or all requests if all is set.
-func refuse(log *testlog.Log, isOn *atomic.Bool, all bool) {
+func refuse(log *testkit.Log, isOn *atomic.Bool, all bool) {
 	log.Intercept(func(w http.ResponseWriter, r *http.Request) bool {
 		isEntries := strings.Contains(r.URL.Path, "/data/") || strings.HasSuffix(r.URL.Path, "get-entries")
 		if !isOn.Load() || !all && !isEntries {

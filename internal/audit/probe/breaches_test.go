@@ -11,7 +11,7 @@ import (
 	"time"
 
 	"wagtenib/internal/audit/probe"
-	"wagtenib/internal/testkit/testlog"
+	"wagtenib/internal/testkit"
 )
 
 // atMinute returns true once, half a minute after this number of minutes. At that time, the probe requests only heads.
@@ -281,10 +281,7 @@ var breaches = map[string]struct {
 		p.listed["monitoring_url"] = "https://cdn.example/2027h1/"
 	}},
 	"another key in log.v3.json": {[]string{probe.CheckListedLogID}, func(p *probed) {
-		other, err := testlog.New("log.example/2027h1")
-		if err != nil {
-			p.t.Fatal(err)
-		}
+		other := testkit.NewLog("log.example/2027h1")
 		other2 := &server{t: p.t, log: other}
 		p.listed["key"], p.listed["log_id"] = other.PublicKey(), other2.id()
 	}},
@@ -338,7 +335,7 @@ func forked(minute time.Duration, larger int) func(s *server, w http.ResponseWri
 		}
 		fork := s.log.Fork(s.log.Size() - 1)
 		for range 1 + larger {
-			fork.Add(testlog.Entry{Timestamp: uint64(s.began.UnixMilli()), Certificate: []byte("another certificate")})
+			fork.Add(testkit.Entry{Timestamp: uint64(s.began.UnixMilli()), Certificate: []byte("another certificate")})
 		}
 		fork.Publish(fork.Size(), uint64(s.clock.Now().UnixMilli()))
 		headersOf(w, "application/json")

@@ -18,7 +18,7 @@ import (
 
 	ctx509 "github.com/google/certificate-transparency-go/x509"
 
-	"wagtenib/internal/testkit/testlog"
+	"wagtenib/internal/testkit"
 )
 
 // mergeDelay is the maximum merge delay of the log of these tests.
@@ -48,10 +48,10 @@ func (c *virtualClock) Wait(ctx context.Context, d time.Duration) error {
 type server struct {
 	t       *testing.T
 	clock   *virtualClock
-	log     *testlog.Log
+	log     *testkit.Log
 	began   time.Time
 	signed  time.Time // when the newest head was signed
-	known   map[[32]byte]testlog.Entry
+	known   map[[32]byte]testkit.Entry
 	indexes map[[32]byte]uint64
 	roots   [][]byte
 	listed  map[string]any
@@ -72,10 +72,7 @@ type planted struct {
 
 func newServer(t *testing.T, roots ...[]byte) *server {
 	t.Helper()
-	log, err := testlog.New("log.example/2027h1")
-	if err != nil {
-		t.Fatal(err)
-	}
+	log := testkit.NewLog("log.example/2027h1")
 	clock := &virtualClock{now: time.Date(2027, 1, 10, 0, 0, 0, 0, time.UTC)}
 	id := sha256.Sum256(log.PublicKey())
 	listed := map[string]any{"description": "a log", "log_id": id[:], "key": log.PublicKey(),
@@ -83,7 +80,7 @@ func newServer(t *testing.T, roots ...[]byte) *server {
 		"submission_url": "https://log.example/2027h1/", "monitoring_url": "https://log.example/2027h1/",
 		"temporal_interval": map[string]string{"start_inclusive": "2027-01-01T00:00:00Z",
 			"end_exclusive": "2027-07-01T00:00:00Z"}}
-	return &server{t: t, clock: clock, log: log, began: clock.Now(), known: map[[32]byte]testlog.Entry{},
+	return &server{t: t, clock: clock, log: log, began: clock.Now(), known: map[[32]byte]testkit.Entry{},
 		indexes: map[[32]byte]uint64{},
 		roots:   roots, listed: listed, count: map[string]int{}}
 }
@@ -171,7 +168,7 @@ func (s *server) add(w http.ResponseWriter, r *http.Request, isPrecertificate bo
 	if s.planted.timestamp != nil {
 		timestamp = s.planted.timestamp(s)
 	}
-	entry := testlog.Entry{Timestamp: uint64(timestamp.UnixMilli()), Certificate: body.Chain[0], Chain: body.Chain[1:]}
+	entry := testkit.Entry{Timestamp: uint64(timestamp.UnixMilli()), Certificate: body.Chain[0], Chain: body.Chain[1:]}
 	first, err := x509.ParseCertificate(body.Chain[0])
 	if err != nil {
 		s.t.Error(err)
@@ -204,7 +201,7 @@ func (s *server) add(w http.ResponseWriter, r *http.Request, isPrecertificate bo
 }
 
 // sctOf returns an SCT in the form of an answer to add-chain (RFC 6962, section 4.1).
-func (s *server) sctOf(entry testlog.Entry, index uint64) map[string]any {
+func (s *server) sctOf(entry testkit.Entry, index uint64) map[string]any {
 	sct := s.log.SCT(entry, index)
 	const fixed = 1 + 32 + 8 + 2
 	extensions := int(binary.BigEndian.Uint16(sct[fixed-2:]))
@@ -243,7 +240,7 @@ func (s *server) signWithout(sct map[string]any) {
 		}
 		leaf := s.known[fingerprint].MerkleLeaf(index)
 		leaf = append(leaf[:len(leaf)-10:len(leaf)-10], 0, 0) // The extensions are 8 bytes, after 2 bytes of length.
-		signed := s.log.SCT(testlog.Entry{Leaf: leaf}, index)
+		signed := s.log.SCT(testkit.Entry{Leaf: leaf}, index)
 		sct["extensions"], sct["signature"] = "", signed[1+32+8+2+8:]
 	}
 }

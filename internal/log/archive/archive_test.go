@@ -24,7 +24,6 @@ import (
 	"wagtenib/internal/log/archive"
 	"wagtenib/internal/logclient"
 	"wagtenib/internal/testkit"
-	"wagtenib/internal/testkit/testlog"
 	"wagtenib/internal/tiles"
 )
 
@@ -33,15 +32,14 @@ const origin = "log.example/2022"
 // world is a log of RFC 6962 and the folder of its archive.
 type world struct {
 	t      *testing.T
-	log    *testlog.Log
+	log    *testkit.Log
 	server *httptest.Server
 	folder string
 }
 
 func newWorld(t *testing.T, entries uint64) *world {
 	t.Helper()
-	log, err := testlog.New(origin)
-	testkit.Must(t, err)
+	log := testkit.NewLog(origin)
 	w := &world{t: t, log: log, server: httptest.NewServer(log), folder: filepath.Join(t.TempDir(), "archive")}
 	t.Cleanup(w.server.Close)
 	w.grow(entries)
@@ -49,7 +47,7 @@ func newWorld(t *testing.T, entries uint64) *world {
 }
 
 // plain returns the MerkleTreeLeaf of a log of RFC 6962, which has no extensions (section 3.4).
-func plain(e testlog.Entry) []byte {
+func plain(e testkit.Entry) []byte {
 	leaf := binary.BigEndian.AppendUint64([]byte{0, 0}, e.Timestamp)
 	if e.IssuerKeyHash != nil {
 		leaf = append(append(leaf, 0, 1), e.IssuerKeyHash...)
@@ -64,7 +62,7 @@ func plain(e testlog.Entry) []byte {
 // as those of logs of RFC 6962 do. Every fifth leaf has the extension leaf_index, as those of logs on tiles have.
 func (w *world) grow(count uint64) {
 	for i := w.log.Size(); count > 0; i, count = i+1, count-1 {
-		e := testlog.Entry{Timestamp: 1_000_000 + i ^ 5, Certificate: fmt.Appendf(nil, "certificate %d", i),
+		e := testkit.Entry{Timestamp: 1_000_000 + i ^ 5, Certificate: fmt.Appendf(nil, "certificate %d", i),
 			Chain: [][]byte{[]byte("issuer"), []byte("root")}}
 		if i%3 == 0 {
 			e.IssuerKeyHash, e.Precertificate = bytes.Repeat([]byte{byte(i)}, 32), fmt.Appendf(nil, "precertificate %d", i)

@@ -9,7 +9,6 @@ import (
 
 	"wagtenib/internal/log/archive"
 	"wagtenib/internal/testkit"
-	"wagtenib/internal/testkit/testlog"
 )
 
 // TestLargeIssuersEndAPart checks that the bytes of issuers count among those in memory before a part is proved and
@@ -17,7 +16,7 @@ import (
 func TestLargeIssuersEndAPart(t *testing.T) {
 	w := newWorld(t, 0)
 	for i := range 512 {
-		e := testlog.Entry{Timestamp: uint64(1000 + i), Certificate: fmt.Appendf(nil, "certificate %d", i)}
+		e := testkit.Entry{Timestamp: uint64(1000 + i), Certificate: fmt.Appendf(nil, "certificate %d", i)}
 		if i < 256 {
 			e.Chain = [][]byte{bytes.Repeat([]byte{byte(i), 1}, 70_000)}
 		}

@@ -17,18 +17,17 @@ import (
 	"wagtenib/internal/log/archive"
 	"wagtenib/internal/logclient"
 	"wagtenib/internal/testkit"
-	"wagtenib/internal/testkit/testlog"
 )
 
 // intercept replaces the answers to one call by those of a function. If the function returns false, the log answers.
-func intercept(of *testlog.Log, call string, respond func(w http.ResponseWriter, r *http.Request) bool) {
+func intercept(of *testkit.Log, call string, respond func(w http.ResponseWriter, r *http.Request) bool) {
 	of.Intercept(func(w http.ResponseWriter, r *http.Request) bool {
 		return r.URL.Path == "/ct/v1/"+call && respond(w, r)
 	})
 }
 
 // changeEntry makes a log answer one entry as a function changes it.
-func changeEntry(of *testlog.Log, index uint64, change func(leaf, extra []byte) (any, bool)) {
+func changeEntry(of *testkit.Log, index uint64, change func(leaf, extra []byte) (any, bool)) {
 	intercept(of, "get-entries", func(w http.ResponseWriter, r *http.Request) bool {
 		start, err := strconv.ParseUint(r.URL.Query().Get("start"), 10, 64)
 		end, failed := strconv.ParseUint(r.URL.Query().Get("end"), 10, 64)
@@ -87,8 +86,7 @@ var lies = map[string]struct {
 	"an older head": {func(_ *testing.T, w *world) { w.log.Publish(200, 2_000_200) }, archive.ErrBehind},
 	"no entries":    {func(_ *testing.T, w *world) { w.log.Publish(0, 2_000_200) }, archive.ErrEmpty},
 	"a head of another key": {func(t *testing.T, w *world) {
-		other, err := testlog.New(origin)
-		testkit.Must(t, err)
+		other := testkit.NewLog(origin)
 		other.PublishRoot(600, 2_000_700, w.log.Root(600))
 		intercept(w.log, "get-sth", func(rw http.ResponseWriter, _ *http.Request) bool {
 			_, err := rw.Write(record(other, "/ct/v1/get-sth"))
@@ -300,7 +298,7 @@ func (w *world) fork(t *testing.T, from, size uint64) {
 	t.Helper()
 	other := w.log.Fork(from)
 	for other.Size() < size {
-		other.Add(testlog.Entry{Timestamp: 5_000_000, Certificate: fmt.Appendf(nil, "other %d", other.Size())})
+		other.Add(testkit.Entry{Timestamp: 5_000_000, Certificate: fmt.Appendf(nil, "other %d", other.Size())})
 	}
 	other.Publish(size, 3_000_000)
 	w.log.Intercept(func(rw http.ResponseWriter, r *http.Request) bool {

@@ -9,12 +9,12 @@ import (
 	"strings"
 	"testing"
 
-	"wagtenib/internal/testkit/softhsm"
+	"wagtenib/internal/testkit"
 )
 
 // TestToken: a key in a token makes signatures that openssl accepts. A key that does not exist is an error.
 func TestToken(t *testing.T) {
-	module, pin := softhsm.Token(t)
+	module, pin := testkit.Token(t)
 	query := "?module-path=" + module + "&pin-source=file:" + pin
 	// This must be done before any key is open, since a session that is logged in to a token needs no PIN.
 	wrong := filepath.Join(t.TempDir(), "pin")
@@ -79,7 +79,7 @@ func TestToken(t *testing.T) {
 // TestTokenIsReleased: a token can be named by its serial number. After the last key is closed, or was not found, no
 // session is logged in to the token.
 func TestTokenIsReleased(t *testing.T) {
-	module, pin := softhsm.Token(t)
+	module, pin := testkit.Token(t)
 	output, err := exec.Command("softhsm2-util", "--show-slots").CombinedOutput()
 	must(t, err)
 	_, serial, _ := strings.Cut(string(output), "Serial number:")

@@ -16,7 +16,7 @@ import (
 	"golang.org/x/mod/sumdb/tlog"
 
 	"wagtenib/internal/logclient"
-	"wagtenib/internal/testkit/testlog"
+	"wagtenib/internal/testkit"
 	"wagtenib/internal/watch"
 	"wagtenib/internal/watch/mirror"
 )
@@ -39,13 +39,13 @@ func (k *keeper) Accuse(watch.Log, watch.State, watch.Evidence) error {
 func (k *keeper) Report(watch.Status) {}
 
 // grow adds certificates and precertificates with two issuers, and signs a head.
-func grow(log *testlog.Log, count uint64) {
+func grow(log *testkit.Log, count uint64) {
 	timestamp := 10 * (log.Size() + count)
 	if count == 0 {
 		timestamp += 5 // The head covers the same tree, but is later.
 	}
 	for i := log.Size(); count > 0; i, count = i+1, count-1 {
-		e := testlog.Entry{Timestamp: i, Certificate: []byte{0x30, 2, byte(i >> 8), byte(i)},
+		e := testkit.Entry{Timestamp: i, Certificate: []byte{0x30, 2, byte(i >> 8), byte(i)},
 			Chain: [][]byte{[]byte("issuer"), []byte("root")}}
 		if i%3 == 0 {
 			e.IssuerKeyHash, e.Precertificate, e.Chain = make([]byte, 32), []byte{0x30, 1, byte(i)}, [][]byte{{byte(i % 5)}}
@@ -57,7 +57,7 @@ func grow(log *testlog.Log, count uint64) {
 
 // world holds a log, the folder of its mirror, and the state of its follower.
 type world struct {
-	log     *testlog.Log
+	log     *testkit.Log
 	watched watch.Log
 	folder  string
 	keeper  *keeper
@@ -65,10 +65,7 @@ type world struct {
 
 func newWorld(t *testing.T) *world {
 	t.Helper()
-	log, err := testlog.New("log.example/2027")
-	if err != nil {
-		t.Fatal(err)
-	}
+	log := testkit.NewLog("log.example/2027")
 	server := httptest.NewServer(log)
 	t.Cleanup(server.Close)
 	watched := watch.Log{ID: sha256.Sum256(log.PublicKey()), Name: "log", Origin: log.Origin, URL: server.URL,
@@ -178,7 +175,7 @@ func TestContinuesAfterAFailure(t *testing.T) {
 	if err != nil {
 		t.Fatal(err)
 	}
-	w.log.Add(testlog.Entry{Timestamp: 100, Certificate: []byte("new"), Chain: [][]byte{[]byte("a new issuer")}})
+	w.log.Add(testkit.Entry{Timestamp: 100, Certificate: []byte("new"), Chain: [][]byte{[]byte("a new issuer")}})
 	grow(w.log, 400)
 	w.log.Intercept(func(out http.ResponseWriter, r *http.Request) bool {
 		if strings.HasPrefix(r.URL.Path, "/issuer/") {

@@ -11,7 +11,7 @@ import (
 	"unicode/utf16"
 
 	"wagtenib/bindings/go/wagtenib"
-	"wagtenib/internal/testkit/testcert"
+	"wagtenib/internal/testkit"
 	"wagtenib/internal/watch/namesearch"
 )
 
@@ -41,19 +41,19 @@ func universal(text string) []byte {
 	return wide
 }
 
-func dns(text string) []testcert.Name {
-	return []testcert.Name{{Tag: testcert.DNS, Bytes: []byte(text)}}
+func dns(text string) []testkit.Name {
+	return []testkit.Name{{Tag: testkit.DNS, Bytes: []byte(text)}}
 }
 
-func alt(tag int, value string) []testcert.Name {
-	return []testcert.Name{{Tag: tag, Bytes: []byte(value)}}
+func alt(tag int, value string) []testkit.Name {
+	return []testkit.Name{{Tag: tag, Bytes: []byte(value)}}
 }
 
 // row describes a certificate, and the places where each watched name is found in it.
 type row struct {
 	what    string
 	subject pkix.Name
-	names   []testcert.Name
+	names   []testkit.Name
 	domain  namesearch.Place // of example.org
 	exact   namesearch.Place // of =www.example.org
 	idn     namesearch.Place // of bücher.example
@@ -70,7 +70,7 @@ const (
 // rows returns the rows of the comparison with certspotter (tests/names/beside.py). certspotter 0.16 reports each
 // certificate that has a place here, except for mail addresses, URIs and IP addresses, which it does not read.
 func rows() []row {
-	common := func(tag int, value []byte) pkix.Name { return testcert.CommonName(tag, value) }
+	common := func(tag int, value []byte) pkix.Name { return testkit.CommonName(tag, value) }
 	return []row{
 		{"host", pkix.Name{}, dns("www.example.org"), san, san, no},
 		{"the name itself", pkix.Name{}, dns("example.org"), san, no, no},
@@ -78,8 +78,8 @@ func rows() []row {
 		{"common name", common(utf8String, []byte("www.example.org")), nil, cn, cn, no},
 		{"capitals", pkix.Name{}, dns("WWW.EXAMPLE.ORG"), san, san, no},
 		{"dot at the end", pkix.Name{}, dns("example.org."), san, no, no},
-		{"mail address", pkix.Name{}, alt(testcert.Mail, "admin@example.org"), san, no, no},
-		{"URI", pkix.Name{}, alt(testcert.URI, "https://www.example.org/"), san, san, no},
+		{"mail address", pkix.Name{}, alt(testkit.Mail, "admin@example.org"), san, no, no},
+		{"URI", pkix.Name{}, alt(testkit.URI, "https://www.example.org/"), san, san, no},
 		{"wildcard above", pkix.Name{}, dns("*.org"), san, no, no},
 		{"IDN", pkix.Name{}, dns("xn--bcher-kva.example"), no, no, san},
 		{"IDN in letters as common name", common(utf8String, []byte("bücher.example")), nil, no, no, cn},
@@ -116,7 +116,7 @@ func rows() []row {
 		{"NUL", pkix.Name{}, dns("www.example.org\x00.evil.net"), likeSAN, likeSAN, no},
 		{"NUL in another host", pkix.Name{}, dns("www.evil.net\x00.evil.com"), no, no, no},
 		{"spaces around a common name", common(utf8String, []byte("  www.example.org ")), nil, likeCN, likeCN, no},
-		{"user and host in a URI", pkix.Name{}, alt(testcert.URI, "https://example.org@evil.net/example.org"), no,
+		{"user and host in a URI", pkix.Name{}, alt(testkit.URI, "https://example.org@evil.net/example.org"), no,
 			no, no},
 		{"empty name", pkix.Name{}, dns(""), no, no, no},
 		{"only dots", pkix.Name{}, dns("..."), no, no, no},
@@ -126,7 +126,7 @@ func rows() []row {
 // TestFindsEachName: in the certificate and the precertificate of each row, the watched names are found at the places
 // of the row, and nowhere else.
 func TestFindsEachName(t *testing.T) {
-	authority := testcert.NewAuthority(t)
+	authority := testkit.NewAuthority("Test CA 1")
 	watched := parseAll(t, "example.org", "=www.example.org", "bücher.example")
 	searcher := namesearch.NewSearcher(watched)
 	for _, row := range rows() {
@@ -156,22 +156,22 @@ func TestFindsEachName(t *testing.T) {
 
 // TestFindsAddresses: an address is found in an iPAddress, in a URI (with and without brackets), and as a common name.
 func TestFindsAddresses(t *testing.T) {
-	authority := testcert.NewAuthority(t)
+	authority := testkit.NewAuthority("Test CA 1")
 	watched := parseAll(t, "192.0.2.7", "2001:db8::1")
 	six := string([]byte{0x20, 0x01, 0x0d, 0xb8, 0, 0, 0, 0, 0, 0, 0, 0, 0, 0, 0, 1})
 	for _, test := range []struct {
 		what    string
 		subject pkix.Name
-		names   []testcert.Name
+		names   []testkit.Name
 		found   []namesearch.Match
 	}{
-		{"four octets", pkix.Name{}, alt(testcert.Address, "\xc0\x00\x02\x07"), []namesearch.Match{{Name: watched[0],
+		{"four octets", pkix.Name{}, alt(testkit.Address, "\xc0\x00\x02\x07"), []namesearch.Match{{Name: watched[0],
 			Place: san}}},
-		{"sixteen octets", pkix.Name{}, alt(testcert.Address, six), []namesearch.Match{{Name: watched[1], Place: san}}},
-		{"three octets", pkix.Name{}, alt(testcert.Address, "\xc0\x00\x02"), nil},
-		{"a URI", pkix.Name{}, alt(testcert.URI, "https://192.0.2.7:8443/"), []namesearch.Match{{Name: watched[0],
+		{"sixteen octets", pkix.Name{}, alt(testkit.Address, six), []namesearch.Match{{Name: watched[1], Place: san}}},
+		{"three octets", pkix.Name{}, alt(testkit.Address, "\xc0\x00\x02"), nil},
+		{"a URI", pkix.Name{}, alt(testkit.URI, "https://192.0.2.7:8443/"), []namesearch.Match{{Name: watched[0],
 			Place: san}}},
-		{"a URI with brackets", pkix.Name{}, alt(testcert.URI, "https://[2001:DB8:0::1]:8443/x"),
+		{"a URI with brackets", pkix.Name{}, alt(testkit.URI, "https://[2001:DB8:0::1]:8443/x"),
 			[]namesearch.Match{{Name: watched[1], Place: likeSAN}}},
 		{"a common name", pkix.Name{CommonName: "192.0.2.7"}, nil, []namesearch.Match{{Name: watched[0], Place: cn}}},
 		{"a longer address", pkix.Name{CommonName: "192.0.2.77"}, dns("1.192.0.2.7"), nil},
@@ -186,7 +186,7 @@ func TestFindsAddresses(t *testing.T) {
 
 // TestSearchesBytesOnlyWithTheOption: a watched name in the organization is found only with the option WithBytes.
 func TestSearchesBytesOnlyWithTheOption(t *testing.T) {
-	one := testcert.NewAuthority(t).IssueNames(pkix.Name{Organization: []string{"Friends of EXAMPLE.org"}},
+	one := testkit.NewAuthority("Test CA 1").IssueNames(pkix.Name{Organization: []string{"Friends of EXAMPLE.org"}},
 		dns("other.net")...)
 	watched := parseAll(t, "example.org", "absent.example")
 	for _, test := range []struct {
@@ -206,7 +206,7 @@ func TestSearchesBytesOnlyWithTheOption(t *testing.T) {
 
 // TestReportsUnreadNames: the result for a certificate that is cut off has a fault, and its bytes are searched.
 func TestReportsUnreadNames(t *testing.T) {
-	one := testcert.NewAuthority(t).Issue("www.example.org")
+	one := testkit.NewAuthority("Test CA 1").Issue("www.example.org")
 	watched := parseAll(t, "example.org", "absent.example")
 	cut := one.Certificate.Raw[:len(one.Certificate.Raw)-1]
 	result, err := namesearch.NewSearcher(watched).Search(wagtenib.X509Entry, cut)
@@ -241,7 +241,7 @@ func TestFindsTheLastOfManyNames(t *testing.T) {
 	for i := range 100_000 {
 		hosts = append(hosts, fmt.Sprintf("h%d.other.net", i))
 	}
-	one := testcert.NewAuthority(t).Issue(append(hosts, "shop.example.org")...)
+	one := testkit.NewAuthority("Test CA 1").Issue(append(hosts, "shop.example.org")...)
 	watched := parseAll(t, "example.org")
 	result, err := namesearch.NewSearcher(watched).Search(wagtenib.PrecertEntry, one.TBS)
 	if err != nil || len(result.Matches) != 1 || len(result.Names) != len(hosts)+1 {
@@ -259,7 +259,7 @@ func TestShowsTheFirstHosts(t *testing.T) {
 	for i := range 25 {
 		hosts = append(hosts, fmt.Sprintf("h%d.example.org", i))
 	}
-	one := testcert.NewAuthority(t).Issue(append([]string{"other.net"}, hosts...)...)
+	one := testkit.NewAuthority("Test CA 1").Issue(append([]string{"other.net"}, hosts...)...)
 	watched := parseAll(t, "example.org")
 	result, err := namesearch.NewSearcher(watched).Search(wagtenib.X509Entry, one.Certificate.Raw)
 	if err != nil || !slices.Equal(watched[0].Hosts(result.Names, 20), hosts[:20]) ||
@@ -271,12 +271,12 @@ func TestShowsTheFirstHosts(t *testing.T) {
 // TestShowsTheHostOfALongName: Hosts returns a name that is longer than any host if the library finds it below a
 // watched name. It does not return it for an exact name with which the long name only ends.
 func TestShowsTheHostOfALongName(t *testing.T) {
-	authority, watched := testcert.NewAuthority(t), parseAll(t, "example.org", "=www.example.org")
+	authority, watched := testkit.NewAuthority("Test CA 1"), parseAll(t, "example.org", "=www.example.org")
 	long := strings.Repeat("a", 100_000)
-	for what, one := range map[string]testcert.Issued{
+	for what, one := range map[string]testkit.Issued{
 		"a dNSName":         authority.IssueNames(pkix.Name{}, dns(long+".www.example.org")...),
-		"a BMPString":       authority.IssueNames(testcert.CommonName(bmpString, bmp(long+".www.example.org"))),
-		"a UniversalString": authority.IssueNames(testcert.CommonName(universalString, universal(long+".www.example.org"))),
+		"a BMPString":       authority.IssueNames(testkit.CommonName(bmpString, bmp(long+".www.example.org"))),
+		"a UniversalString": authority.IssueNames(testkit.CommonName(universalString, universal(long+".www.example.org"))),
 	} {
 		result, err := namesearch.NewSearcher(watched).Search(wagtenib.X509Entry, one.Certificate.Raw)
 		if err != nil || len(result.Matches) != 1 || result.Matches[0].Name != watched[0] {
@@ -294,7 +294,7 @@ func TestShowsTheHostOfALongName(t *testing.T) {
 // TestOneIssuanceForBoth: a precertificate and its certificate are one issuance. Another certificate is another
 // issuance, even with the same serial number and key.
 func TestOneIssuanceForBoth(t *testing.T) {
-	authority := testcert.NewAuthority(t)
+	authority := testkit.NewAuthority("Test CA 1")
 	one := authority.Issue("www.example.org")
 	certificate, precertificate := namesearch.Issuance(wagtenib.X509Entry, one.Certificate.Raw),
 		namesearch.Issuance(wagtenib.PrecertEntry, one.TBS)
@@ -309,7 +309,7 @@ func TestOneIssuanceForBoth(t *testing.T) {
 	if namesearch.Issuance(wagtenib.X509Entry, changed) == certificate {
 		t.Error("a certificate for another name is the same issuance")
 	}
-	plain := testcert.NewAuthority(t).Issue("www.example.org").Precertificate
+	plain := testkit.NewAuthority("Test CA 1").Issue("www.example.org").Precertificate
 	if namesearch.Issuance(wagtenib.X509Entry, plain.Raw) != sha256.Sum256(plain.RawTBSCertificate) {
 		t.Error("without SCTs the issuance is not the hash of the TBSCertificate")
 	}
@@ -320,7 +320,7 @@ func TestOneIssuanceForBoth(t *testing.T) {
 
 // TestReadsDetails: ReadDetails reads the same fields as crypto/x509.
 func TestReadsDetails(t *testing.T) {
-	one := testcert.NewAuthority(t).IssueNames(pkix.Name{CommonName: "a, b+c", Organization: []string{"Ö"},
+	one := testkit.NewAuthority("Test CA 1").IssueNames(pkix.Name{CommonName: "a, b+c", Organization: []string{"Ö"},
 		Country: []string{"DE"}}, dns("a.example")...)
 	key := sha256.Sum256(one.Certificate.RawSubjectPublicKeyInfo)
 	for entryType, der := range map[wagtenib.EntryType][]byte{wagtenib.X509Entry: one.Certificate.Raw,
@@ -363,7 +363,7 @@ func BenchmarkSearch(b *testing.B) {
 		watched = append(watched, parseAll(b, fmt.Sprintf("h%d.example.org", i))...)
 	}
 	searcher := namesearch.NewSearcher(watched)
-	one := testcert.NewAuthority(b).Issue("www.other.net", "*.other.net", "other.example")
+	one := testkit.NewAuthority("Test CA 1").Issue("www.other.net", "*.other.net", "other.example")
 	for b.Loop() {
 		if result, err := searcher.Search(wagtenib.X509Entry, one.Certificate.Raw); err != nil || len(result.Matches) > 0 {
 			b.Fatal(result, err)
@@ -374,7 +374,7 @@ func BenchmarkSearch(b *testing.B) {
 // FuzzSearch: Search, ReadDetails and Issuance do not fail for any bytes. A watched name that is found has a host,
 // unless the result has a fault.
 func FuzzSearch(f *testing.F) {
-	authority := testcert.NewAuthority(f)
+	authority := testkit.NewAuthority("Test CA 1")
 	for _, row := range rows() {
 		one := authority.IssueNames(row.subject, row.names...)
 		f.Add(true, one.TBS)
@@ -405,7 +405,7 @@ func FuzzSearch(f *testing.F) {
 // TestDecomposedLettersAreOneName: a name in decomposed letters is found as the watched name with these letters, and as
 // no other one. Its bytes, read as Latin-1, are no name of DNS.
 func TestDecomposedLettersAreOneName(t *testing.T) {
-	authority := testcert.NewAuthority(t)
+	authority := testkit.NewAuthority("Test CA 1")
 	watched := parseAll(t, "straße.example", "bücher.example", "=a.bücher.example", "=example.org")
 	const decomposed = "bu\u0308cher.example"
 	for what, test := range map[string]struct {

@@ -14,7 +14,7 @@ import (
 	"time"
 
 	"wagtenib/bindings/go/wagtenib"
-	"wagtenib/internal/testkit/testcert"
+	"wagtenib/internal/testkit"
 	"wagtenib/internal/watch"
 	"wagtenib/internal/watch/alert"
 	"wagtenib/internal/watch/namesearch"
@@ -32,7 +32,7 @@ func next(t *testing.T, store *watchstore.Store) []alert.Alert {
 // TestFindsNamesThatAreAddedLater: a name that is added to the watched ones is found in the stored certificates. There
 // is one alert, which says that the certificate is from the store.
 func TestFindsNamesThatAreAddedLater(t *testing.T) {
-	authority, folder := testcert.NewAuthority(t), t.TempDir()
+	authority, folder := testkit.NewAuthority("Test CA 1"), t.TempDir()
 	both, only, neither := authority.Issue("a.example.org", "b.example.net"), authority.Issue("c.example.net"),
 		authority.Issue("d.example.com")
 	for run, test := range []struct {
@@ -48,7 +48,7 @@ func TestFindsNamesThatAreAddedLater(t *testing.T) {
 		must(t, err)
 		must(t, store.UseOutputs([]string{"test"}))
 		if run == 0 {
-			for i, one := range []testcert.Issued{both, only, neither} {
+			for i, one := range []testkit.Issued{both, only, neither} {
 				must(t, store.Keep(logOf(0), watch.State{}, entriesOf(one, uint64(2*i))))
 			}
 		}
@@ -70,7 +70,7 @@ func TestFindsNamesThatAreAddedLater(t *testing.T) {
 // are more of them than one transaction searches.
 func TestFindsAddedNamesInEveryCertificate(t *testing.T) {
 	const many = 1100
-	folder, der := t.TempDir(), testcert.NewAuthority(t).Issue("h0000.example.org").Certificate.Raw
+	folder, der := t.TempDir(), testkit.NewAuthority("Test CA 1").Issue("h0000.example.org").Certificate.Raw
 	var entries []watch.Entry
 	for i := range many {
 		host := fmt.Sprintf("h%04d.example.org", i)
@@ -97,7 +97,7 @@ func TestFindsAddedNamesInEveryCertificate(t *testing.T) {
 
 // TestExpectedCauseNoAlert: a certificate with an expected key or of an expected issuer is stored without an alert.
 func TestExpectedCauseNoAlert(t *testing.T) {
-	one := testcert.NewAuthority(t).Issue("a.example.org")
+	one := testkit.NewAuthority("Test CA 1").Issue("a.example.org")
 	key := sha256.Sum256(one.Certificate.RawSubjectPublicKeyInfo)
 	for what, test := range map[string]struct {
 		expected watchstore.Expected
@@ -127,7 +127,7 @@ func TestExpectedCauseNoAlert(t *testing.T) {
 // TestExpectsNoUnreadCertificate: a certificate whose names cannot be read causes an alert even if its issuer is
 // expected, because nobody knows its purpose.
 func TestExpectsNoUnreadCertificate(t *testing.T) {
-	one := testcert.NewAuthority(t).Issue("a.example.org").Certificate.Raw
+	one := testkit.NewAuthority("Test CA 1").Issue("a.example.org").Certificate.Raw
 	// The length of a dNSName is larger than the list of names. All fields before it can be read.
 	damaged := bytes.Replace(one, []byte("\x82\x0da.example.org"), []byte("\x82\x7fa.example.org"), 1)
 	store := open(t, t.TempDir(), watchstore.Options{Searcher: searcher("example.org"),
@@ -144,7 +144,7 @@ func TestExpectsNoUnreadCertificate(t *testing.T) {
 // TestReportsUnread: the setting decides whether there is an alert about a certificate whose names cannot be read, and
 // about bytes that are not a leaf.
 func TestReportsUnread(t *testing.T) {
-	authority := testcert.NewAuthority(t)
+	authority := testkit.NewAuthority("Test CA 1")
 	mentions, other := authority.Issue("a.example.org").Certificate.Raw, authority.Issue("other.net").Certificate.Raw
 	entries := []watch.Entry{
 		{Index: 0, Type: wagtenib.X509Entry, Certificate: mentions[:len(mentions)-1]},
@@ -323,7 +323,7 @@ func TestKeepsACertificateWithManyNames(t *testing.T) {
 	for i := range 100_000 {
 		hosts = append(hosts, fmt.Sprintf("h%d.other.net", i))
 	}
-	one := testcert.NewAuthority(t).Issue(append(hosts, "shop.example.org")...)
+	one := testkit.NewAuthority("Test CA 1").Issue(append(hosts, "shop.example.org")...)
 	store := open(t, t.TempDir(), watchstore.Options{Searcher: searcher("example.org")})
 	must(t, store.UseOutputs([]string{"test"}))
 	must(t, store.Keep(logOf(0), watch.State{}, entriesOf(one, 0)))
@@ -345,13 +345,13 @@ func TestKeepsACertificateWithManyNames(t *testing.T) {
 // TestFindsByNameAndTime: a query for a name finds it, the names below it and wildcards over it. A query for an exact
 // name finds only itself and wildcards over it. Both find only certificates that are valid at the time of the query.
 func TestFindsByNameAndTime(t *testing.T) {
-	authority := testcert.NewAuthority(t)
+	authority := testkit.NewAuthority("Test CA 1")
 	store := open(t, t.TempDir(), watchstore.Options{KeepAll: true})
 	for i, host := range []string{"example.org", "www.example.org", "*.example.org", "*.org", "notexample.org",
 		"example.org.evil.net", "a.b.example.org", "exampleXorg", "*.www.example.org"} {
 		must(t, store.Keep(logOf(0), watch.State{}, entriesOf(authority.Issue(host), uint64(2*i))))
 	}
-	address := authority.IssueNames(pkix.Name{}, testcert.Name{Tag: testcert.Address, Bytes: []byte{192, 0, 2, 7}})
+	address := authority.IssueNames(pkix.Name{}, testkit.Name{Tag: testkit.Address, Bytes: []byte{192, 0, 2, 7}})
 	must(t, store.Keep(logOf(0), watch.State{}, entriesOf(address, 100)))
 	for word, want := range map[string][]string{
 		"example.org": {"*.example.org", "*.org", "*.www.example.org", "a.b.example.org", "example.org",

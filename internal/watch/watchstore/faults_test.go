@@ -11,7 +11,6 @@ import (
 	"testing"
 
 	"wagtenib/internal/testkit"
-	"wagtenib/internal/testkit/testcert"
 	"wagtenib/internal/watch"
 	"wagtenib/internal/watch/alert"
 	"wagtenib/internal/watch/watchstore"
@@ -20,7 +19,7 @@ import (
 // TestFullDiskLosesNothing: while files cannot grow, Keep fails and stores nothing. Afterwards, the same call stores
 // all.
 func TestFullDiskLosesNothing(t *testing.T) {
-	authority := testcert.NewAuthority(t)
+	authority := testkit.NewAuthority("Test CA 1")
 	folder := t.TempDir()
 	store := open(t, folder, watchstore.Options{Searcher: searcher("example.org")})
 	must(t, store.UseOutputs([]string{"test"}))
@@ -175,7 +174,7 @@ func TestRefusesASecondWriter(t *testing.T) {
 		!strings.Contains(err.Error(), folder) {
 		t.Errorf("a second one: %v", err)
 	}
-	must(t, store.Keep(logOf(0), watch.State{}, entriesOf(testcert.NewAuthority(t).Issue("a.example.org"), 0)))
+	must(t, store.Keep(logOf(0), watch.State{}, entriesOf(testkit.NewAuthority("Test CA 1").Issue("a.example.org"), 0)))
 	reader, err := watchstore.OpenToRead(folder)
 	must(t, err)
 	if counts, err := reader.Counts(); err != nil || counts.Issuances != 1 {
@@ -191,7 +190,7 @@ func TestRefusesASecondWriter(t *testing.T) {
 // TestMarksAlertsThatWereBegun: after a restart, Again is set in alerts that Begin named and Done did not. It is not
 // set in others.
 func TestMarksAlertsThatWereBegun(t *testing.T) {
-	authority, folder := testcert.NewAuthority(t), t.TempDir()
+	authority, folder := testkit.NewAuthority("Test CA 1"), t.TempDir()
 	options := watchstore.Options{Searcher: searcher("example.org")}
 	store, err := watchstore.Open(folder, options)
 	must(t, err)
@@ -228,7 +227,7 @@ func TestMarksAlertsThatWereBegun(t *testing.T) {
 // makeStore returns the path of a closed store with findings.
 func makeStore(t *testing.T) string {
 	t.Helper()
-	folder, authority := t.TempDir(), testcert.NewAuthority(t)
+	folder, authority := t.TempDir(), testkit.NewAuthority("Test CA 1")
 	store, err := watchstore.Open(folder, watchstore.Options{Searcher: searcher("example.org")})
 	must(t, err)
 	for i := range 50 {

@@ -11,7 +11,7 @@ import (
 	"unicode/utf8"
 
 	"wagtenib/bindings/go/wagtenib"
-	"wagtenib/internal/testkit/testcert"
+	"wagtenib/internal/testkit"
 	"wagtenib/internal/watch"
 	"wagtenib/internal/watch/alert"
 	"wagtenib/internal/watch/watchstore"
@@ -20,10 +20,10 @@ import (
 // FuzzKeep stores an entry with any bytes. The store does not fail, returns the same certificate byte for byte, and
 // every alert is safe: a line and the value of a variable contain only printable characters.
 func FuzzKeep(f *testing.F) {
-	authority := testcert.NewAuthority(f)
-	for _, one := range []testcert.Issued{authority.Issue("shop.example.org"), authority.Issue("a\r\n.example.org"),
-		authority.IssueNames(testcert.CommonName(30, []byte("\x00a\x00.")),
-			testcert.Name{Tag: testcert.DNS, Bytes: []byte("\x1b[2J.example.org")})} {
+	authority := testkit.NewAuthority("Test CA 1")
+	for _, one := range []testkit.Issued{authority.Issue("shop.example.org"), authority.Issue("a\r\n.example.org"),
+		authority.IssueNames(testkit.CommonName(30, []byte("\x00a\x00.")),
+			testkit.Name{Tag: testkit.DNS, Bytes: []byte("\x1b[2J.example.org")})} {
 		f.Add(true, false, "a log", one.TBS, one.Precertificate.Raw)
 		f.Add(false, false, "a log\x1b", one.Certificate.Raw, []byte(nil))
 		f.Add(false, true, "", one.Certificate.Raw[:100], []byte(nil))

@@ -13,7 +13,7 @@ import (
 	"strconv"
 	"testing"
 
-	"wagtenib/internal/testkit/testcert"
+	"wagtenib/internal/testkit"
 	"wagtenib/internal/watch"
 	"wagtenib/internal/watch/alert"
 	"wagtenib/internal/watch/watchstore"
@@ -96,7 +96,7 @@ func keepAndSend(folder string) error {
 // process ends by itself. Each alert was then sent, and an alert that was sent twice has Again set.
 func TestSendsAllAlertsDespiteKills(t *testing.T) {
 	folder := t.TempDir()
-	authority := testcert.NewAuthority(t)
+	authority := testkit.NewAuthority("Test CA 1")
 	var entries []watch.Entry
 	missing := map[string]bool{}
 	for i := range issuances {

@@ -9,7 +9,7 @@ import (
 	"testing"
 	"time"
 
-	"wagtenib/internal/testkit/testcert"
+	"wagtenib/internal/testkit"
 	"wagtenib/internal/watch"
 	"wagtenib/internal/watch/alert"
 	"wagtenib/internal/watch/watchstore"
@@ -27,7 +27,7 @@ const (
 // three logs at once. There is one alert for each issuance, with its host name. All of it takes less than a minute of
 // processor time.
 func TestReportsManyFindingsFromThreeLogs(t *testing.T) {
-	authority := testcert.NewAuthority(t)
+	authority := testkit.NewAuthority("Test CA 1")
 	var entries []watch.Entry
 	for i := range manyIssuances {
 		entries = append(entries, entriesOf(authority.Issue(fmt.Sprintf("h%d.example.org", i)), uint64(2*i))...)

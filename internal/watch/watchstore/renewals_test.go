@@ -7,7 +7,7 @@ import (
 	"testing"
 	"time"
 
-	"wagtenib/internal/testkit/testcert"
+	"wagtenib/internal/testkit"
 	"wagtenib/internal/watch"
 	"wagtenib/internal/watch/alert"
 	"wagtenib/internal/watch/watchstore"
@@ -20,7 +20,7 @@ const day = 24 * time.Hour
 type renewing struct {
 	*watchstore.Store
 	t       *testing.T
-	ca      *testcert.Authority
+	ca      *testkit.Authority
 	options watchstore.Options
 	folder  string
 	now     time.Time
@@ -29,7 +29,7 @@ type renewing struct {
 }
 
 func newRenewing(t *testing.T, names ...string) *renewing {
-	r := &renewing{t: t, ca: testcert.NewAuthority(t), folder: t.TempDir(),
+	r := &renewing{t: t, ca: testkit.NewAuthority("Test CA 1"), folder: t.TempDir(),
 		now: time.Date(2026, 12, 1, 0, 0, 0, 0, time.UTC)}
 	r.options = watchstore.Options{Searcher: searcher(names...), Now: func() time.Time { return r.now },
 		Expected: watchstore.Expected{Issuers: []string{"An authority"}}}
@@ -53,7 +53,7 @@ func (r *renewing) report(log byte, status watch.Status) {
 }
 
 // keep stores a precertificate and its certificate from two logs. They end after a time.
-func (r *renewing) keep(after time.Duration, hosts ...string) testcert.Issued {
+func (r *renewing) keep(after time.Duration, hosts ...string) testkit.Issued {
 	r.t.Helper()
 	one := r.ca.IssueUntil(r.now.Add(after), hosts...)
 	for log := range byte(2) {

@@ -7,7 +7,7 @@ import (
 	"testing"
 
 	"wagtenib/bindings/go/wagtenib"
-	"wagtenib/internal/testkit/testcert"
+	"wagtenib/internal/testkit"
 	"wagtenib/internal/watch"
 	"wagtenib/internal/watch/alert"
 	"wagtenib/internal/watch/namesearch"
@@ -15,7 +15,7 @@ import (
 )
 
 // entriesOf returns the entries of a precertificate and of its certificate, from an index on.
-func entriesOf(one testcert.Issued, first uint64) []watch.Entry {
+func entriesOf(one testkit.Issued, first uint64) []watch.Entry {
 	return []watch.Entry{
 		{Index: first, Timestamp: 1_770_000_000_000, Type: wagtenib.PrecertEntry, Certificate: one.TBS,
 			Precertificate: one.Precertificate.Raw},
@@ -63,7 +63,7 @@ func open(t testing.TB, folder string, options watchstore.Options) *watchstore.S
 // TestAlertsOnceForAnIssuance stores a precertificate and its certificate from three logs. There is one alert, which
 // has the host name and the same fields as crypto/x509 reads.
 func TestAlertsOnceForAnIssuance(t *testing.T) {
-	one := testcert.NewAuthority(t).Issue("shop.example.org", "www.other.net")
+	one := testkit.NewAuthority("Test CA 1").Issue("shop.example.org", "www.other.net")
 	store := open(t, t.TempDir(), watchstore.Options{Searcher: searcher("example.org")})
 	must(t, store.UseOutputs([]string{"test"}))
 	for number := byte(0); number < 3; number++ {
@@ -108,7 +108,7 @@ func TestAlertsOnceForAnIssuance(t *testing.T) {
 func TestIgnoresOtherNames(t *testing.T) {
 	store := open(t, t.TempDir(), watchstore.Options{Searcher: searcher("example.org")})
 	must(t, store.UseOutputs([]string{"test"}))
-	other := testcert.NewAuthority(t).Issue("notexample.org", "example.org.evil.net")
+	other := testkit.NewAuthority("Test CA 1").Issue("notexample.org", "example.org.evil.net")
 	must(t, store.Keep(logOf(0), watch.State{}, entriesOf(other, 0)))
 	counts, err := store.Counts()
 	if err != nil || counts.Issuances != 0 || counts.Alerts != 0 {
@@ -120,7 +120,7 @@ func TestIgnoresOtherNames(t *testing.T) {
 // does not sign it. The store still has the honest entry with this precertificate, and finds a name that is added later
 // in it.
 func TestKeepsAPrecertificateForEachIssuance(t *testing.T) {
-	authority, folder := testcert.NewAuthority(t), t.TempDir()
+	authority, folder := testkit.NewAuthority("Test CA 1"), t.TempDir()
 	first, second := entriesOf(authority.Issue("a.other.net"), 0)[:1], entriesOf(authority.Issue("b.example.org"), 1)[:1]
 	first[0].Precertificate = second[0].Precertificate
 	store, err := watchstore.Open(folder, watchstore.Options{KeepAll: true})
@@ -145,7 +145,7 @@ func TestKeepsAPrecertificateForEachIssuance(t *testing.T) {
 // TestReadsManyAlertsAtOnce: each of many alerts that are read together has its own names, matches and entries. Of the
 // entries, it has the earliest 20 at most.
 func TestReadsManyAlertsAtOnce(t *testing.T) {
-	authority := testcert.NewAuthority(t)
+	authority := testkit.NewAuthority("Test CA 1")
 	store := open(t, t.TempDir(), watchstore.Options{Searcher: searcher("example.org")})
 	must(t, store.UseOutputs([]string{"test"}))
 	const many = 30

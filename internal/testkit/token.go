@@ -1,5 +1,4 @@
-// Package softhsm makes PKCS#11 tokens for tests. It needs softhsm2 and opensc.
-package softhsm
+package testkit
 
 import (
 	"os"
@@ -9,9 +8,10 @@ import (
 	"testing"
 )
 
-// Token makes a token with the label log-token. It has a P-256 key with the label key and the id 01, and a P-384 key
+// Token makes a PKCS#11 token with the label log-token. It has a P-256 key with the label key and the id 01, and a P-384 key
 // with the label large and the id 02. Token returns the path of the PKCS#11 module and the path of the file with the
-// PIN. Processes that the test starts find the token, too. If softhsm2 or opensc is not installed, the test is skipped.
+// PIN. Processes that the test starts find the token, too. It needs softhsm2 and opensc: if one is not installed,
+// the test is skipped.
 func Token(t *testing.T) (module, pin string) {
 	t.Helper()
 	found, _ := filepath.Glob("/usr/lib/*/softhsm/libsofthsm2.so")

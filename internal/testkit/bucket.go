@@ -1,6 +1,4 @@
-// Package testbucket implements a bucket in memory for tests. It supports the part of S3's protocol that the stores
-// need. So the stores can be tested on machines without an engine, and with faults that an engine seldom has.
-package testbucket
+package testkit
 
 import (
 	"crypto/md5"
@@ -15,8 +13,8 @@ import (
 	"sync"
 )
 
-// Name is the bucket's name.
-const Name = "bucket"
+// BucketName is the name of a bucket.
+const BucketName = "bucket"
 
 // Object is an object of the bucket: its content and its headers.
 type Object struct {
@@ -31,7 +29,8 @@ func (o Object) ETag() string {
 	return `"` + hex.EncodeToString(sum[:]) + `"`
 }
 
-// Bucket is an HTTP handler for a bucket. Its fields may be set before it is used.
+// Bucket is a bucket in memory, as an HTTP handler. It supports the part of S3's protocol that the stores need. So the
+// stores can be tested on machines without an engine, and with faults that an engine seldom has. Its fields may be set before it is used.
 type Bucket struct {
 	mu      sync.Mutex
 	objects map[string]Object
@@ -46,8 +45,8 @@ type Bucket struct {
 	requests      int
 }
 
-// New returns an empty bucket. conditional is whether it obeys If-None-Match and If-Match.
-func New(conditional bool) *Bucket {
+// NewBucket returns an empty bucket. conditional is whether it obeys If-None-Match and If-Match.
+func NewBucket(conditional bool) *Bucket {
 	return &Bucket{objects: map[string]Object{}, Conditional: conditional, Matching: conditional}
 }
 
@@ -114,7 +113,7 @@ func (b *Bucket) answer(w http.ResponseWriter, r *http.Request, body []byte) {
 	bucket, name, _ := strings.Cut(strings.TrimPrefix(r.URL.Path, "/"), "/")
 	object, exists := b.objects[name]
 	switch {
-	case bucket != Name:
+	case bucket != BucketName:
 		fault(w, http.StatusNotFound, "NoSuchBucket")
 	case name == "":
 		b.list(w, r)

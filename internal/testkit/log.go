@@ -1,13 +1,7 @@
-// Package testlog implements a Certificate Transparency log for tests of programs that read logs. It answers the calls
-// of RFC 6962 and those of a tiled log (C2SP static-ct-api), and can be made to lie.
-//
-// It shares no code with the programs that it tests. Its trees are those of golang.org/x/mod/sumdb/tlog, and it writes
-// each format by its specification.
-package testlog
+package testkit
 
 import (
 	"crypto/ecdsa"
-	"crypto/elliptic"
 	"crypto/rand"
 	"crypto/sha256"
 	"crypto/x509"
@@ -35,7 +29,11 @@ type Entry struct {
 	Index          *uint64
 }
 
-// Log is a log. Its methods may be called while it answers requests.
+// Log is a Certificate Transparency log for tests of programs that read logs. It answers the calls of RFC 6962 and those
+// of a tiled log (C2SP static-ct-api), and can be made to lie. Its methods may be called while it answers requests.
+//
+// It shares no code with the programs that it tests. Its trees are those of golang.org/x/mod/sumdb/tlog, and it writes
+// each format by its specification.
 type Log struct {
 	Origin string
 	Key    *ecdsa.PrivateKey
@@ -57,13 +55,9 @@ type published struct {
 	size            uint64
 }
 
-// New returns an empty log with a new P-256 key.
-func New(origin string) (*Log, error) {
-	key, err := ecdsa.GenerateKey(elliptic.P256(), rand.Reader)
-	if err != nil {
-		return nil, err
-	}
-	return &Log{Origin: origin, Key: key, issuers: map[string][]byte{}, requests: map[string]int{}}, nil
+// NewLog returns an empty log with a new P-256 key.
+func NewLog(origin string) *Log {
+	return &Log{Origin: origin, Key: newKey(), issuers: map[string][]byte{}, requests: map[string]int{}}
 }
 
 // PublicKey returns the log's key, a SubjectPublicKeyInfo in DER.
@@ -212,7 +206,7 @@ func (l *Log) Publish(size, timestamp uint64) { l.PublishRoot(size, timestamp, l
 func (l *Log) PublishRoot(size, timestamp uint64, root [32]byte) {
 	l.mutex.Lock()
 	defer l.mutex.Unlock()
-	signed := l.sign(TreeHead(size, timestamp, root))
+	signed := l.sign(TreeHeadSignature(size, timestamp, root))
 	l.published.size = size
 	l.published.checkpoint = []byte(fmt.Sprintf("%s\n%d\n%s\n\n%s", l.Origin, size,
 		base64.StdEncoding.EncodeToString(root[:]),
@@ -246,8 +240,8 @@ func (l *Log) SetCheckpoint(content []byte) {
 	l.published.checkpoint = content
 }
 
-// TreeHead returns the bytes that the signature of a head covers (RFC 6962, section 3.5).
-func TreeHead(size, timestamp uint64, root [32]byte) []byte {
+// TreeHeadSignature returns the bytes that the signature of a head covers (RFC 6962, section 3.5).
+func TreeHeadSignature(size, timestamp uint64, root [32]byte) []byte {
 	message := binary.BigEndian.AppendUint64([]byte{0, 1}, timestamp)
 	return append(binary.BigEndian.AppendUint64(message, size), root[:]...)
 }
