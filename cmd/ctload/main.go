@@ -8,7 +8,6 @@ package main
 
 import (
 	"context"
-	"crypto/sha256"
 	"encoding/base64"
 	"encoding/json"
 	"flag"
@@ -23,14 +22,13 @@ import (
 	"sort"
 	"strings"
 	"sync"
+	"sync/atomic"
 	"syscall"
 	"time"
 
-	"golang.org/x/sync/errgroup"
-
 	"wagtenib/internal/audit/judge"
 	"wagtenib/internal/command/version"
-	"wagtenib/internal/testkit/fakelog"
+	"wagtenib/internal/testkit"
 )
 
 // load submits certificates to the nodes of a log.
@@ -48,7 +46,7 @@ type load struct {
 // settings determine what is submitted, to which nodes, and how often.
 type settings struct {
 	nodes      []string
-	authority  *fakelog.Authority
+	authority  *testkit.Authority
 	notAfter   time.Time
 	maxAnswers int
 	repeats    int
@@ -139,9 +137,7 @@ func run() error {
 	if *rate > 0 {
 		l.pace = time.Tick(time.Duration(float64(time.Second) / *rate))
 	}
-	if err := l.prepare(*ready); err != nil {
-		return err
-	}
+	l.prepare(*ready)
 	if *long > 0 {
 		timed, cancel := context.WithTimeout(ctx, *long)
 		defer cancel()
@@ -151,11 +147,8 @@ func run() error {
 }
 
 // newRoot creates a CA, adds its root to a file, and runs the command that makes the nodes reload their roots.
-func newRoot(roots, reload string) (*fakelog.Authority, error) {
-	authority, err := fakelog.NewAuthority(fmt.Sprintf("An authority of %d", os.Getpid()))
-	if err != nil {
-		return nil, err
-	}
+func newRoot(roots, reload string) (*testkit.Authority, error) {
+	authority := testkit.NewAuthority(fmt.Sprintf("An authority of %d", os.Getpid()))
 	if err := add(roots, authority.PEM()); err != nil {
 		return nil, err
 	}
@@ -245,10 +238,7 @@ func (l *load) runClient(ctx context.Context, number int) error {
 				return nil
 			}
 		}
-		s, err := l.next(random)
-		if err != nil {
-			return err
-		}
+		s := l.next(random)
 		start := time.Now()
 		answer, err := l.submit(ctx, s, number)
 		if err != nil || answer == nil {
@@ -269,49 +259,48 @@ func (l *load) isDone() bool {
 }
 
 // prepare makes this number of submissions.
-func (l *load) prepare(count int) error {
+func (l *load) prepare(count int) {
 	l.prepared = make(chan submission, count)
-	all := errgroup.Group{}
-	all.SetLimit(runtime.GOMAXPROCS(0))
-	for number := 0; number < count; number++ {
-		random := rand.New(rand.NewSource(int64(number)))
-		all.Go(func() error {
-			made, err := l.make(random)
-			if err == nil {
-				l.prepared <- made
+	var number atomic.Int64
+	var all sync.WaitGroup
+	for range runtime.GOMAXPROCS(0) {
+		all.Add(1)
+		go func() {
+			defer all.Done()
+			for at := number.Add(1); at <= int64(count); at = number.Add(1) {
+				l.prepared <- l.make(rand.New(rand.NewSource(at)))
 			}
-			return err
-		})
+		}()
 	}
-	return all.Wait()
+	all.Wait()
 }
 
 // next returns a new submission, or repeats one that was answered before.
-func (l *load) next(random *rand.Rand) (submission, error) {
+func (l *load) next(random *rand.Rand) submission {
 	l.mu.Lock()
 	if len(l.past) > 0 && random.Intn(100) < l.repeats {
 		defer l.mu.Unlock()
-		return l.past[random.Intn(len(l.past))], nil
+		return l.past[random.Intn(len(l.past))]
 	}
 	l.mu.Unlock()
 	select {
 	case made := <-l.prepared:
-		return made, nil
+		return made
 	default:
 		return l.make(random)
 	}
 }
 
 // make makes a new submission. One in three is a precertificate.
-func (l *load) make(random *rand.Rand) (submission, error) {
+func (l *load) make(random *rand.Rand) submission {
 	if random.Intn(3) > 0 {
-		der, err := l.authority.Issue(false, l.notAfter)
-		return submission{"add-chain", fakelog.Submission(der), judge.Answer{Certificate: der}}, err
+		der := l.authority.Sign(l.authority.Template(l.notAfter))
+		return submission{"add-chain", testkit.Submission(der), judge.Answer{Certificate: der}}
 	}
-	der, tbs, err := l.authority.IssuePair(l.notAfter)
-	issuer := sha256.Sum256(l.authority.Root.RawSubjectPublicKeyInfo)
-	return submission{"add-pre-chain", fakelog.Submission(der),
-		judge.Answer{IssuerKeyHash: issuer[:], TBSCertificate: tbs}}, err
+	der, tbs := l.authority.SignPair(l.authority.Template(l.notAfter))
+	issuer := l.authority.IssuerKeyHash()
+	return submission{"add-pre-chain", testkit.Submission(der),
+		judge.Answer{IssuerKeyHash: issuer[:], TBSCertificate: tbs}}
 }
 
 // submit sends a submission to one node after the other until one answers. It returns nil if the context ends before.

@@ -20,7 +20,6 @@ import (
 
 	"wagtenib/internal/audit/judge"
 	"wagtenib/internal/testkit"
-	"wagtenib/internal/testkit/fakelog"
 )
 
 var must = testkit.Must
@@ -60,8 +59,7 @@ func answerRight(_ int, w http.ResponseWriter) { fmt.Fprint(w, timestamp) }
 
 // loadOf returns a load on nodes, and the text to which its answers are written.
 func loadOf(t testing.TB, nodes ...*node) (*load, *bytes.Buffer) {
-	authority, err := fakelog.NewAuthority("An authority of tests")
-	must(t, err)
+	authority := testkit.NewAuthority("An authority of tests")
 	var answers bytes.Buffer
 	l := &load{settings: settings{authority: authority, notAfter: time.Now().AddDate(0, 6, 0)},
 		answers: json.NewEncoder(&answers), results: results{retries: map[string]int{}},
@@ -147,28 +145,27 @@ func TestNext(t *testing.T) {
 	l, _ := loadOf(t)
 	random := rand.New(zeros{})
 	must(t, l.store(some, judge.Answer{}, time.Second))
-	s, err := l.next(random)
-	if must(t, err); s.call != "add-pre-chain" || len(s.of.TBSCertificate) == 0 || len(s.of.IssuerKeyHash) != 32 ||
+	s := l.next(random)
+	if s.call != "add-pre-chain" || len(s.of.TBSCertificate) == 0 || len(s.of.IssuerKeyHash) != 32 ||
 		s.of.Certificate != nil {
 		t.Errorf("%s of %+v", s.call, s.of)
 	}
 	l.repeats = 1
-	if s, err = l.next(random); err != nil || s.call != "add-chain" || string(s.of.Certificate) != "a certificate" {
-		t.Errorf("%s of %+v, %v", s.call, s.of, err)
+	if s = l.next(random); s.call != "add-chain" || string(s.of.Certificate) != "a certificate" {
+		t.Errorf("%s of %+v", s.call, s.of)
 	}
 }
 
 // TestPrepared checks that prepared submissions are sent first, each once, and that new ones are made after them.
 func TestPrepared(t *testing.T) {
 	l, _ := loadOf(t)
-	must(t, l.prepare(20))
+	l.prepare(20)
 	if len(l.prepared) != 20 {
 		t.Fatalf("%d are prepared", len(l.prepared))
 	}
 	seen, calls := map[string]bool{}, map[string]int{}
 	for i := 0; i < 25; i++ {
-		s, err := l.next(rand.New(zeros{}))
-		must(t, err)
+		s := l.next(rand.New(zeros{}))
 		if seen[string(s.body)] {
 			t.Errorf("%d: %s is repeated", i, s.call)
 		}

@@ -23,7 +23,6 @@ import (
 	"github.com/minio/minio-go/v7/pkg/credentials"
 
 	"wagtenib/internal/testkit"
-	"wagtenib/internal/testkit/fakelog"
 )
 
 // audited is a log on a folder that `ctserve audit` checks, with the files that it needs.
@@ -63,8 +62,7 @@ func newAudited(t *testing.T) audited {
 // authorityKey makes a new authority the only root, and returns its key.
 func (p *place) authorityKey() []byte {
 	p.t.Helper()
-	authority, err := fakelog.NewAuthority("A test CA")
-	testkit.Must(p.t, err)
+	authority := testkit.NewAuthority("A test CA")
 	p.authority = authority
 	p.write("roots.pem", authority.PEM())
 	return authority.KeyPEM()
@@ -197,8 +195,7 @@ func TestAuditFindsMissingRoot(t *testing.T) {
 	t.Parallel()
 	at := newAudited(t)
 	started(t, "", append(at.arguments, "--create")...)
-	other, err := fakelog.NewAuthority("A root that is missing")
-	testkit.Must(t, err)
+	other := testkit.NewAuthority("A root that is missing")
 	at.write("wanted.pem", append(other.PEM(), at.authority.PEM()...))
 	status, stdout, stderr := does(append(at.audit, "--for", "1s", "--wanted-roots", at.path("wanted.pem"))...)
 	if status != 1 || !strings.HasPrefix(stdout, "log.example/2027h1: FAILED: roots\n") || !strings.Contains(stdout,
@@ -212,8 +209,7 @@ func TestAuditFindsMissingRoot(t *testing.T) {
 func TestAuditArguments(t *testing.T) {
 	t.Parallel()
 	at := newAudited(t)
-	other, err := fakelog.NewAuthority("Another CA")
-	testkit.Must(t, err)
+	other := testkit.NewAuthority("Another CA")
 	at.write("other.pem", other.PEM())
 	at.write("leaf.pem", pem.EncodeToMemory(&pem.Block{Type: "CERTIFICATE", Bytes: []byte("no certificate")}))
 	testkit.Must(t, os.Mkdir(at.path("chains"), 0o700))
@@ -288,13 +284,10 @@ func TestAuditFolder(t *testing.T) {
 	p := started(t, "", append(at.arguments, "--create")...)
 	folder := at.path("chains")
 	testkit.Must(t, os.Mkdir(folder, 0o700))
-	for _, isPrecertificate := range []bool{false, true} {
-		der, err := at.authority.Issue(isPrecertificate, time.Date(2027, 3, 1, 0, 0, 0, 0, time.UTC))
-		testkit.Must(t, err)
-		_, err = x509.ParseCertificate(der)
-		testkit.Must(t, err)
-		name := map[bool]string{false: "certificate.pem", true: "precertificate.pem"}[isPrecertificate]
-		text := append(pem.EncodeToMemory(&pem.Block{Type: "CERTIFICATE", Bytes: der}), at.authority.PEM()...)
+	template := at.authority.Template(time.Date(2027, 3, 1, 0, 0, 0, 0, time.UTC))
+	for name, der := range map[string][]byte{"certificate.pem": at.authority.Sign(template),
+		"precertificate.pem": at.authority.Sign(template, testkit.Poison)} {
+		text := append(testkit.CertificatePEM(der), at.authority.PEM()...)
 		testkit.Must(t, os.WriteFile(filepath.Join(folder, name), text, 0o600))
 	}
 	arguments := []string{"audit", at.audit[1], "--chains", folder, "--for", "2s", "--poll-interval", "50ms",

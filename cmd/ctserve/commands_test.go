@@ -17,7 +17,6 @@ import (
 	"time"
 
 	"wagtenib/internal/testkit"
-	"wagtenib/internal/testkit/fakelog"
 )
 
 // does runs a command in this process.
@@ -31,10 +30,7 @@ func does(arguments ...string) (status int, stdout, stderr string) {
 func settingsFile(t *testing.T, lines ...string) (folder, file string) {
 	t.Helper()
 	folder = t.TempDir()
-	authority, err := fakelog.NewAuthority("an authority")
-	if err != nil {
-		t.Fatal(err)
-	}
+	authority := testkit.NewAuthority("an authority")
 	if err := os.WriteFile(filepath.Join(folder, "roots.pem"), authority.PEM(), 0o600); err != nil {
 		t.Fatal(err)
 	}

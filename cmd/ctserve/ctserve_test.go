@@ -11,6 +11,7 @@ import (
 	"errors"
 	"fmt"
 	"io"
+	"net"
 	"net/http"
 	"os"
 	"os/exec"
@@ -206,23 +207,17 @@ func (p *program) signal(which syscall.Signal) {
 type place struct {
 	t         *testing.T
 	folder    string
-	authority *fakelog.Authority
+	authority *testkit.Authority
 	// shared is the address of an index that nodes share, or empty.
 	shared string
 }
 
 func newPlace(t *testing.T) *place {
 	t.Helper()
-	authority, err := fakelog.NewAuthority("A root")
-	if err != nil {
-		t.Fatal(err)
-	}
+	authority := testkit.NewAuthority("A root")
 	p := &place{t: t, folder: t.TempDir(), authority: authority}
 	p.write("roots.pem", authority.PEM())
-	_, key, err := authority.KeyPair()
-	if err != nil {
-		t.Fatal(err)
-	}
+	_, key := authority.KeyPair()
 	p.write("log.pem", key)
 	return p
 }
@@ -255,11 +250,8 @@ func (p *place) arguments(more ...string) []string {
 
 func (p *place) submission() []byte {
 	p.t.Helper()
-	der, err := p.authority.Issue(false, time.Date(2027, 1, 1, 0, 0, 0, 0, time.UTC))
-	if err != nil {
-		p.t.Fatal(err)
-	}
-	return fakelog.Submission(der)
+	der := p.authority.Sign(p.authority.Template(time.Date(2027, 1, 1, 0, 0, 0, 0, time.UTC)))
+	return testkit.Submission(der)
 }
 
 func post(address string, body []byte) (int, string) {
@@ -330,17 +322,14 @@ func TestLeavesOutUnreadableRoots(t *testing.T) {
 
 func TestServesTLSAndAWindow(t *testing.T) {
 	at := newPlace(t)
-	certificate, key, err := at.authority.KeyPair()
-	if err != nil {
-		t.Fatal(err)
-	}
+	certificate, key := at.authority.KeyPair(net.IPv4(127, 0, 0, 1))
 	at.write("tls.pem", certificate)
 	at.write("tls.key", key)
 	p := started(t, "20ms", at.arguments("--tls-certificate", at.path("tls.pem"), "--tls-key", at.path("tls.key"),
 		"--not-after-limit", "2027-01-01")...)
 	roots := x509.NewCertPool()
 	roots.AddCert(at.authority.Root)
-	config := &tls.Config{RootCAs: roots, ServerName: "host-3.example"}
+	config := &tls.Config{RootCAs: roots}
 	client := &http.Client{Transport: &http.Transport{TLSClientConfig: config}}
 	answer, err := client.Post("https://"+p.clients+"/ct/v1/add-chain", "application/json",
 		bytes.NewReader(at.submission()))

@@ -201,11 +201,8 @@ func (at place) mount(t *testing.T) (disk string) {
 // submitted submits a new certificate. It returns the status and text of the answer, and the parsed answer.
 func (at place) submitted(t *testing.T, p *program) (status int, text string, one judge.Answer) {
 	t.Helper()
-	der, err := at.authority.Issue(false, time.Date(2027, 1, 1, 0, 0, 0, 0, time.UTC))
-	if err != nil {
-		t.Fatal(err)
-	}
-	if status, text = post(p.clients, fakelog.Submission(der)); status != 200 {
+	der := at.authority.Sign(at.authority.Template(time.Date(2027, 1, 1, 0, 0, 0, 0, time.UTC)))
+	if status, text = post(p.clients, testkit.Submission(der)); status != 200 {
 		return status, text, one
 	}
 	var read struct {

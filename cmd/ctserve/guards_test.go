@@ -15,7 +15,6 @@ import (
 	"wagtenib/internal/audit/judge"
 	"wagtenib/internal/log/signer"
 	"wagtenib/internal/testkit"
-	"wagtenib/internal/testkit/fakelog"
 )
 
 // TestRefusesRestoredFolder restores the simplest backup of a log, which is a copy of its folder while it is stopped.
@@ -236,14 +235,8 @@ func TestSignerAtASocket(t *testing.T) {
 	if status, text := post(p.clients, at.submission()); status != 503 || !strings.Contains(text, `"store"`) {
 		t.Errorf("without a signer: %d %s", status, text)
 	}
-	other, err := fakelog.NewAuthority("Another")
-	if err != nil {
-		t.Fatal(err)
-	}
-	_, otherKey, err := other.KeyPair()
-	if err != nil {
-		t.Fatal(err)
-	}
+	other := testkit.NewAuthority("Another")
+	_, otherKey := other.KeyPair()
 	at.write("other.pem", otherKey)
 	wrong := listening(at.path("other.pem"))
 	if status, text := post(p.clients, at.submission()); status != 503 || !strings.Contains(text, `"store"`) {

@@ -69,8 +69,7 @@ func TestReadersGroup(t *testing.T) {
 	testkit.Must(t, os.Chmod(at.folder, 0o751))
 	authority := at.authority
 	at.write("roots.pem", authority.PEM())
-	_, key, err := authority.KeyPair()
-	testkit.Must(t, err)
+	_, key := authority.KeyPair()
 	at.write("log.pem", key)
 	at.served("--create")
 	for _, earlier := range []bool{false, true} {
@@ -146,8 +145,7 @@ func TestRefusesOpenFiles(t *testing.T) {
 			"\nindex postgres://store.example/base?log=one"},
 		{"log.pem", ""},
 	} {
-		certificate, key, err := at.authority.KeyPair()
-		testkit.Must(t, err)
+		certificate, key := at.authority.KeyPair()
 		for name, content := range map[string][]byte{"tls.pem": certificate, "tls.key": key, "node.key": key,
 			"settings": []byte(secured + test.lines + "\n")} {
 			at.write(name, content)

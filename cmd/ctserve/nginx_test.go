@@ -172,8 +172,7 @@ func TestExampleOverTLS(t *testing.T) {
 	nginxFound(t)
 	at, address := newPlace(t), testkit.Free(t)
 	p := started(t, "20ms", at.arguments("--trusted-proxies", "127.0.0.1")...)
-	certificate, key, err := at.authority.KeyPair()
-	testkit.Must(t, err)
+	certificate, key := at.authority.KeyPair()
 	at.write("log.example.pem", certificate)
 	at.write("log.example.key", key)
 	nginxWith(t, exampleSite(t, "/etc/ssl/log.example.org.", at.path("log.example."), "log.example.org", "log.example",

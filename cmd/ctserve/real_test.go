@@ -162,11 +162,8 @@ func TestKeyInAToken(t *testing.T) {
 	var answers []judge.Answer
 	for i, create := range []string{"true", "false"} {
 		p := started(t, "", append(arguments, "--create="+create)...)
-		der, err := at.authority.Issue(false, time.Date(2027, 1, 1, 0, 0, 0, 0, time.UTC))
-		if err != nil {
-			t.Fatal(err)
-		}
-		status, text := post(p.clients, fakelog.Submission(der))
+		der := at.authority.Sign(at.authority.Template(time.Date(2027, 1, 1, 0, 0, 0, 0, time.UTC)))
+		status, text := post(p.clients, testkit.Submission(der))
 		var read struct {
 			ID         []byte `json:"id"`
 			Timestamp  uint64 `json:"timestamp"`

@@ -13,7 +13,6 @@ import (
 	"time"
 
 	"wagtenib/internal/testkit"
-	"wagtenib/internal/testkit/fakelog"
 )
 
 // TestEndBySIGTERM checks that at SIGTERM, ctserve answers the waiting requests and ends with status 0. Idle
@@ -109,15 +108,9 @@ func TestSecondSignal(t *testing.T) {
 func TestReloadBySIGHUP(t *testing.T) {
 	at := newPlace(t)
 	p := started(t, "20ms", at.arguments()...)
-	other, err := fakelog.NewAuthority("Another root")
-	if err != nil {
-		t.Fatal(err)
-	}
-	der, err := other.Issue(false, time.Date(2027, 1, 1, 0, 0, 0, 0, time.UTC))
-	if err != nil {
-		t.Fatal(err)
-	}
-	if status, text := post(p.clients, fakelog.Submission(der)); status != 400 ||
+	other := testkit.NewAuthority("Another root")
+	der := other.Sign(other.Template(time.Date(2027, 1, 1, 0, 0, 0, 0, time.UTC)))
+	if status, text := post(p.clients, testkit.Submission(der)); status != 400 ||
 		!strings.Contains(text, "unknown-root") {
 		t.Errorf("before: %d %s", status, text)
 	}
@@ -126,7 +119,7 @@ func TestReloadBySIGHUP(t *testing.T) {
 	if line := p.until("reload"); line["level"] != "info" || line["of"] != "roots" {
 		t.Errorf("the line is %v", line)
 	}
-	if status, text := post(p.clients, fakelog.Submission(der)); status != 200 {
+	if status, text := post(p.clients, testkit.Submission(der)); status != 200 {
 		t.Errorf("after: %d %s", status, text)
 	}
 	at.write("roots.pem", []byte("none"))
@@ -134,7 +127,7 @@ func TestReloadBySIGHUP(t *testing.T) {
 	if line := p.until("reload"); line["level"] != "error" {
 		t.Errorf("the line is %v", line)
 	}
-	if status, text := post(p.clients, fakelog.Submission(der)); status != 200 {
+	if status, text := post(p.clients, testkit.Submission(der)); status != 200 {
 		t.Errorf("with a file of no roots: %d %s", status, text)
 	}
 	if _, text := get(p.operator, "/metrics"); !strings.Contains(text,

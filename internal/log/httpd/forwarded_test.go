@@ -9,7 +9,7 @@ import (
 	"testing"
 
 	"wagtenib/internal/log"
-	"wagtenib/internal/testkit/fakelog"
+	"wagtenib/internal/testkit"
 )
 
 // elsewhereAlways is a Forwarder to a node that answers everything, or fails with an error. It counts the submissions
@@ -40,7 +40,7 @@ func TestForwardsOnce(t *testing.T) {
 		status    int
 		forwarded int
 	}{{f.front, http.StatusTeapot, 1}, {f.front.Nodes(), http.StatusServiceUnavailable, 1}} {
-		body := string(fakelog.Submission(f.issue(false)))
+		body := string(testkit.Submission(f.issue(false)))
 		w := httptest.NewRecorder()
 		of.handler.ServeHTTP(w, httptest.NewRequest(http.MethodPost, "/ct/v1/add-chain", strings.NewReader(body)))
 		if w.Code != of.status || other.got != of.forwarded {
@@ -54,16 +54,10 @@ func TestForwardsOnce(t *testing.T) {
 func TestTakerChecks(t *testing.T) {
 	other := &elsewhereAlways{}
 	f := newFixture(t, 0, func(o *Options) { o.Forward = other })
-	stranger, err := fakelog.NewAuthority("Another root")
-	if err != nil {
-		t.Fatal(err)
-	}
-	unknown, err := stranger.Issue(false, ends)
-	if err != nil {
-		t.Fatal(err)
-	}
+	stranger := testkit.NewAuthority("Another root")
+	unknown := stranger.Sign(stranger.Template(ends))
 	for body, refusal := range map[string]string{"no JSON": "no-submission",
-		string(fakelog.Submission(unknown)): "unknown-root"} {
+		string(testkit.Submission(unknown)): "unknown-root"} {
 		submits := func(to http.Handler) *httptest.ResponseRecorder {
 			w := httptest.NewRecorder()
 			to.ServeHTTP(w, httptest.NewRequest(http.MethodPost, "/ct/v1/add-chain", strings.NewReader(body)))

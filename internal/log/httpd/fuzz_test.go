@@ -16,7 +16,7 @@ import (
 
 	"wagtenib/internal/blob"
 	"wagtenib/internal/command/eventlog"
-	"wagtenib/internal/testkit/fakelog"
+	"wagtenib/internal/testkit"
 )
 
 var statuses = map[int]bool{200: true, 400: true, 404: true, 405: true, 411: true, 413: true}
@@ -28,8 +28,8 @@ func FuzzHandlers(f *testing.F) {
 	for path := range calls {
 		f.Add("GET", path, "", []byte{})
 	}
-	f.Add("POST", "/ct/v1/add-chain", "", fakelog.Submission(x.issue(false)))
-	f.Add("POST", "/ct/v1/add-pre-chain", "", fakelog.Submission(x.issue(true), x.authority.Root.Raw))
+	f.Add("POST", "/ct/v1/add-chain", "", testkit.Submission(x.issue(false)))
+	f.Add("POST", "/ct/v1/add-pre-chain", "", testkit.Submission(x.issue(true), x.authority.Root.Raw))
 	f.Add("HEAD", "/tile/0/000", "", []byte{})
 	f.Add("GET", "/tile/data/001.p/4", "", []byte{})
 	f.Add("GET", "/issuer/"+fingerprintOf(x.authority.Root.Raw), "", []byte{})
@@ -85,7 +85,7 @@ func FuzzConnections(f *testing.F) {
 		o.Limits.ConnectionsByAddress = 4000
 	})
 	address, _ := x.listening(nil)
-	body := fakelog.Submission(x.issue(false))
+	body := testkit.Submission(x.issue(false))
 	for _, text := range []string{
 		"GET /checkpoint HTTP/1.1\r\nHost: log\r\n\r\n", "GET /ct/v1/get-entries?start=0&end=0 HTTP/1.0\r\n\r\n",
 		"POST /ct/v1/add-chain HTTP/1.1\r\nHost: log\r\nContent-Length: 2\r\n\r\n{}GET / HTTP/1.1\r\nHost: log\r\n\r\n",

@@ -12,7 +12,7 @@ import (
 	"time"
 
 	"wagtenib/internal/blob"
-	"wagtenib/internal/testkit/fakelog"
+	"wagtenib/internal/testkit"
 )
 
 func TestMetricsAndHealth(t *testing.T) {
@@ -102,7 +102,7 @@ func TestMetricsAndHealth(t *testing.T) {
 	f.front.uses.requests.max = 64
 	f.front.Refuse()
 	refused(t, "/readyz", ask("/readyz"), 503, "ended")
-	refused(t, "add-chain", f.do("POST", "/ct/v1/add-chain", fakelog.Submission(f.issue(false))), 503, "ended")
+	refused(t, "add-chain", f.do("POST", "/ct/v1/add-chain", testkit.Submission(f.issue(false))), 503, "ended")
 	for _, line := range strings.Split(strings.TrimSpace(f.lines.String()), "\n") {
 		var fields map[string]any
 		if err := json.Unmarshal([]byte(line), &fields); err != nil || fields["event"] != "request" ||

@@ -30,7 +30,7 @@ import (
 type fixture struct {
 	t         testing.TB
 	log       *fakelog.Log
-	authority *fakelog.Authority
+	authority *testkit.Authority
 	checker   *chain.Checker
 	front     *Front
 	lines     *text
@@ -58,10 +58,7 @@ var ends = time.Date(2027, 1, 1, 0, 0, 0, 0, time.UTC)
 
 func newFixture(t testing.TB, every time.Duration, change func(*Options)) *fixture {
 	t.Helper()
-	authority, err := fakelog.NewAuthority("A root")
-	if err != nil {
-		t.Fatal(err)
-	}
+	authority := testkit.NewAuthority("A root")
 	roots, err := chain.ParseRoots(authority.PEM())
 	if err != nil {
 		t.Fatal(err)
@@ -112,11 +109,10 @@ func (f *fixture) get(target string) *httptest.ResponseRecorder { return f.do("G
 
 func (f *fixture) issue(poison bool) []byte {
 	f.t.Helper()
-	der, err := f.authority.Issue(poison, ends)
-	if err != nil {
-		f.t.Fatal(err)
+	if poison {
+		return f.authority.Sign(f.authority.Template(ends), testkit.Poison)
 	}
-	return der
+	return f.authority.Sign(f.authority.Template(ends))
 }
 
 // fill adds entries to the log, without the front.
@@ -158,10 +154,7 @@ func (f *fixture) verifies(signed, signature []byte) bool {
 
 func TestRoots(t *testing.T) {
 	f := newFixture(t, 0, nil)
-	other, err := fakelog.NewAuthority("Another root")
-	if err != nil {
-		t.Fatal(err)
-	}
+	other := testkit.NewAuthority("Another root")
 	for i := 1; i <= 2; i++ {
 		var reply struct {
 			Certificates [][]byte `json:"certificates"`
@@ -368,7 +361,7 @@ func TestReadOnly(t *testing.T) {
 	f := newFixture(t, 10*time.Millisecond, func(o *Options) { o.ReadOnly = true })
 	f.fill(2)
 	for _, path := range []string{"/ct/v1/add-chain", "/ct/v1/add-pre-chain"} {
-		w := f.do("POST", path, fakelog.Submission(f.issue(path == "/ct/v1/add-pre-chain")))
+		w := f.do("POST", path, testkit.Submission(f.issue(path == "/ct/v1/add-pre-chain")))
 		refused(t, path, w, 403, "read-only")
 		if w.Header().Get("Connection") != "close" {
 			t.Errorf("%s: the connection is kept, with a body that nobody read", path)

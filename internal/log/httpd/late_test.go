@@ -13,6 +13,7 @@ import (
 	"time"
 
 	"wagtenib/internal/log"
+	"wagtenib/internal/testkit"
 	"wagtenib/internal/testkit/fakelog"
 )
 
@@ -165,7 +166,7 @@ func TestAnswersComeLast(t *testing.T) {
 		o.Limits.ConnectionsByAddress, o.Limits.ProofsByAddress, o.LogRequests = 1, 1, true
 	})
 	f.fill(300)
-	body := fakelog.Submission(f.issue(false))
+	body := testkit.Submission(f.issue(false))
 	for _, test := range []struct {
 		method, target, call, header, value string
 		status                              int

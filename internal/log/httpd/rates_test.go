@@ -12,7 +12,6 @@ import (
 	"time"
 
 	"wagtenib/internal/testkit"
-	"wagtenib/internal/testkit/fakelog"
 )
 
 // began is the time of the first requests in these tests.
@@ -306,7 +305,7 @@ func TestTooOften(t *testing.T) {
 	if w := f.askedBy("192.0.2.99", "GET", entries, nil); w.Code != 200 {
 		t.Errorf("a client without the proxy, whose address others named: %d %s", w.Code, w.Body)
 	}
-	submission := fakelog.Submission(f.issue(false))
+	submission := testkit.Submission(f.issue(false))
 	if w := f.askedBy("2001:db8::1", "POST", "/ct/v1/add-chain", submission); w.Code != 200 {
 		t.Errorf("a submission, after its reads were refused: %d %s", w.Code, w.Body)
 	}

@@ -14,6 +14,7 @@ import (
 	"golang.org/x/crypto/cryptobyte"
 
 	"wagtenib/internal/log/chain"
+	"wagtenib/internal/testkit"
 	"wagtenib/internal/testkit/fakelog"
 )
 
@@ -210,7 +211,7 @@ func TestEntriesHaveTheHeadsRoot(t *testing.T) {
 func TestEntryOfPrecertificate(t *testing.T) {
 	f := newFixture(t, 5*time.Millisecond, nil)
 	precertificate := f.issue(true)
-	if w := f.do("POST", "/ct/v1/add-pre-chain", fakelog.Submission(precertificate)); w.Code != 200 {
+	if w := f.do("POST", "/ct/v1/add-pre-chain", testkit.Submission(precertificate)); w.Code != 200 {
 		t.Fatal(w.Body)
 	}
 	wanted, err := f.checker.Precertificate([][]byte{precertificate})

@@ -18,7 +18,6 @@ import (
 	"time"
 
 	"wagtenib/internal/testkit"
-	"wagtenib/internal/testkit/fakelog"
 )
 
 // listening serves a front on loopback. It returns the address, and the server to end it.
@@ -275,7 +274,7 @@ func TestServerEnds(t *testing.T) {
 		io.Copy(io.Discard, answer.Body)
 	}
 	fmt.Fprintf(half, "GET /healthz HT")
-	body := fakelog.Submission(f.issue(false))
+	body := testkit.Submission(f.issue(false))
 	fmt.Fprintf(waits, "POST /ct/v1/add-chain HTTP/1.1\r\nHost: log\r\nContent-Length: %d\r\n\r\n%s", len(body), body)
 	for f.log.Metrics().Queue == 0 || f.front.uses.connections.open.Load() < 4 {
 		time.Sleep(time.Millisecond)
@@ -308,7 +307,7 @@ func TestServerEndsWithinItsBound(t *testing.T) {
 	f := newFixture(t, 0, nil)
 	address, server := f.listening(nil)
 	waits := dial(t, address)
-	body := fakelog.Submission(f.issue(false))
+	body := testkit.Submission(f.issue(false))
 	fmt.Fprintf(waits, "POST /ct/v1/add-chain HTTP/1.1\r\nHost: log\r\nContent-Length: %d\r\n\r\n%s", len(body), body)
 	for f.log.Metrics().Queue == 0 {
 		time.Sleep(time.Millisecond)
@@ -331,7 +330,7 @@ func TestSubmissionsWaitLongerThanRequests(t *testing.T) {
 				testkit.Longest
 		})
 		address, _ := f.listening(nil)
-		body := fakelog.Submission(f.issue(false))
+		body := testkit.Submission(f.issue(false))
 		connection := dial(t, address)
 		fmt.Fprintf(connection, "POST /ct/v1/add-chain HTTP/1.1\r\nHost: log\r\nConnection: close\r\nContent-Length: "+
 			"%d\r\n\r\n%s", len(body), body)
@@ -359,7 +358,7 @@ func TestSubmissionsWaitLongerThanRequests(t *testing.T) {
 func TestClientsThatGo(t *testing.T) {
 	f := newFixture(t, 0, nil)
 	address, _ := f.listening(nil)
-	body := fakelog.Submission(f.issue(false))
+	body := testkit.Submission(f.issue(false))
 	connection := dial(t, address)
 	fmt.Fprintf(connection, "POST /ct/v1/add-chain HTTP/1.1\r\nHost: log\r\nContent-Length: %d\r\n\r\n%s",
 		len(body), body)
@@ -408,12 +407,9 @@ func TestClientsThatGoCauseNoAlert(t *testing.T) {
 }
 
 // writeKeyPair writes a new certificate and its key into a folder, and returns the certificate.
-func writeKeyPair(t testing.TB, folder string, authority *fakelog.Authority) []byte {
+func writeKeyPair(t testing.TB, folder string, authority *testkit.Authority) []byte {
 	t.Helper()
-	certificate, key, err := authority.KeyPair()
-	if err != nil {
-		t.Fatal(err)
-	}
+	certificate, key := authority.KeyPair()
 	writeFile(t, folder+"/cert.pem", certificate)
 	writeFile(t, folder+"/key.pem", key)
 	block, _ := pem.Decode(certificate)

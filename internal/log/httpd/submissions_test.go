@@ -17,6 +17,7 @@ import (
 	"wagtenib/internal/command/eventlog"
 	"wagtenib/internal/log"
 	"wagtenib/internal/log/chain"
+	"wagtenib/internal/testkit"
 	"wagtenib/internal/testkit/fakelog"
 	"wagtenib/internal/tiles"
 )
@@ -29,11 +30,11 @@ func TestPrecertificatesWithoutMemory(t *testing.T) {
 	checker := chain.NewChecker(f.checker.Roots(), chain.Rules{}, outOfMemory)
 	f.front = New(f.log, tiles.NewProver(f.log.Object, 4), checker,
 		Options{Limits: DefaultLimits(), Lines: eventlog.NewLines(f.lines)})
-	w := f.do("POST", "/ct/v1/add-pre-chain", fakelog.Submission(f.issue(true), f.authority.Root.Raw))
+	w := f.do("POST", "/ct/v1/add-pre-chain", testkit.Submission(f.issue(true), f.authority.Root.Raw))
 	if w.Code != 503 || w.Header().Get("Retry-After") != "1" || !strings.Contains(w.Body.String(), `"busy"`) {
 		t.Errorf("%d %v %s", w.Code, w.Header(), w.Body)
 	}
-	if w := f.do("POST", "/ct/v1/add-chain", fakelog.Submission(f.issue(false), f.authority.Root.Raw)); w.Code != 200 {
+	if w := f.do("POST", "/ct/v1/add-chain", testkit.Submission(f.issue(false), f.authority.Root.Raw)); w.Code != 200 {
 		t.Errorf("%d %s", w.Code, w.Body)
 	}
 }
@@ -48,7 +49,7 @@ func TestSubmissionsAreAnsweredWithTimestamps(t *testing.T) {
 		{"/ct/v1/add-chain", f.issue(false), f.checker.Certificate},
 		{"/ct/v1/add-pre-chain", f.issue(true), f.checker.Precertificate},
 	} {
-		w := f.do("POST", test.path, fakelog.Submission(test.der, f.authority.Root.Raw))
+		w := f.do("POST", test.path, testkit.Submission(test.der, f.authority.Root.Raw))
 		if w.Code != 200 || w.Header().Get("Content-Type") != "application/json" ||
 			w.Header().Get("Cache-Control") != "no-store" {
 			t.Fatalf("%s: %d %v %s", test.path, w.Code, w.Header(), w.Body)
@@ -77,12 +78,9 @@ func TestSubmissionsAreAnsweredWithTimestamps(t *testing.T) {
 
 func TestChainsAreRefusedByName(t *testing.T) {
 	f := newFixture(t, 10*time.Millisecond, nil)
-	other, err := fakelog.NewAuthority("Another root")
-	if err != nil {
-		t.Fatal(err)
-	}
-	foreign, _ := other.Issue(false, ends)
-	late, _ := f.authority.Issue(false, ends.AddDate(1, 0, 0))
+	other := testkit.NewAuthority("Another root")
+	foreign := other.Sign(other.Template(ends))
+	late := f.authority.Sign(f.authority.Template(ends.AddDate(1, 0, 0)))
 	certificate, precertificate := f.issue(false), f.issue(true)
 	forged := append([]byte(nil), certificate...)
 	forged[len(forged)-1] ^= 1
@@ -103,7 +101,7 @@ func TestChainsAreRefusedByName(t *testing.T) {
 		{"is-precertificate", "add-chain", [][]byte{precertificate}},
 		{"no-poison", "add-pre-chain", [][]byte{certificate}},
 	} {
-		w := f.do("POST", "/ct/v1/"+test.path, fakelog.Submission(test.chain...))
+		w := f.do("POST", "/ct/v1/"+test.path, testkit.Submission(test.chain...))
 		refused(t, test.name, w, 400, test.name)
 	}
 	if size := f.log.Metrics().Entries; size != 0 {
@@ -140,7 +138,7 @@ func TestBytesByAddress(t *testing.T) {
 		f := newFixture(t, 5*time.Millisecond, func(o *Options) { o.Limits.WaitingBytes = int64(test.all) })
 		client, same := netip.MustParseAddr("2001:db8::1"), "[2001:db8::2:3]:7"
 		from := func(peer string) *httptest.ResponseRecorder {
-			r := httptest.NewRequest("POST", "/ct/v1/add-chain", bytes.NewReader(fakelog.Submission(f.issue(false))))
+			r := httptest.NewRequest("POST", "/ct/v1/add-chain", bytes.NewReader(testkit.Submission(f.issue(false))))
 			r.RemoteAddr = peer
 			w := httptest.NewRecorder()
 			f.front.ServeHTTP(w, r)
@@ -167,7 +165,7 @@ func TestBytesByAddress(t *testing.T) {
 func TestTooLargeSaysTheBound(t *testing.T) {
 	f := newFixture(t, 10*time.Millisecond, nil)
 	f.log.SetFault(fmt.Errorf("%w: it has 131073 bytes, and may have 131072", log.ErrTooLarge))
-	w := f.do("POST", "/ct/v1/add-chain", fakelog.Submission(f.issue(false)))
+	w := f.do("POST", "/ct/v1/add-chain", testkit.Submission(f.issue(false)))
 	if w.Code != 400 || !strings.Contains(w.Body.String(), "entry-too-large") ||
 		!strings.Contains(w.Body.String(), "it has 131073 bytes, and may have 131072") {
 		t.Errorf("%d %s", w.Code, w.Body)
@@ -178,7 +176,7 @@ func TestTooLargeSaysTheBound(t *testing.T) {
 // Retry-After.
 func TestErrorsOfTheLog(t *testing.T) {
 	f := newFixture(t, 10*time.Millisecond, nil)
-	body := fakelog.Submission(f.issue(false))
+	body := testkit.Submission(f.issue(false))
 	for _, test := range []struct {
 		err    error
 		status int
@@ -228,7 +226,7 @@ func TestFullQueue(t *testing.T) {
 	var all sync.WaitGroup
 	answers := make(chan *httptest.ResponseRecorder, 3)
 	for i := 0; i < 3; i++ {
-		body := fakelog.Submission(f.issue(false))
+		body := testkit.Submission(f.issue(false))
 		all.Add(1)
 		go func() {
 			defer all.Done()
@@ -238,7 +236,7 @@ func TestFullQueue(t *testing.T) {
 	for f.log.Metrics().Queue < 3 {
 		time.Sleep(time.Millisecond)
 	}
-	w := f.do("POST", "/ct/v1/add-chain", fakelog.Submission(f.issue(false)))
+	w := f.do("POST", "/ct/v1/add-chain", testkit.Submission(f.issue(false)))
 	refused(t, "the fourth", w, 503, "busy")
 	if w.Header().Get("Retry-After") != "1" {
 		t.Error("the answer has no Retry-After of 1 second")
@@ -257,11 +255,11 @@ func TestFullQueue(t *testing.T) {
 // left holds no bytes.
 func TestSubmissionsThatWait(t *testing.T) {
 	f := newFixture(t, 0, func(o *Options) { o.Limits.Submission = 30 * time.Millisecond })
-	w := f.do("POST", "/ct/v1/add-chain", fakelog.Submission(f.issue(false)))
+	w := f.do("POST", "/ct/v1/add-chain", testkit.Submission(f.issue(false)))
 	refused(t, "late", w, 503, "late")
 	ctx, cancel := context.WithCancel(context.Background())
 	r := httptest.NewRequest("POST", "/ct/v1/add-chain", bytes.NewReader(
-		fakelog.Submission(f.issue(false)))).WithContext(ctx)
+		testkit.Submission(f.issue(false)))).WithContext(ctx)
 	cancel()
 	w = httptest.NewRecorder()
 	f.front.ServeHTTP(w, r)
