@@ -3,9 +3,6 @@ package audit_test
 import (
 	"bytes"
 	"context"
-	"crypto/ecdsa"
-	"crypto/elliptic"
-	"crypto/rand"
 	"crypto/sha256"
 	"crypto/x509"
 	"crypto/x509/pkix"
@@ -15,7 +12,6 @@ import (
 	"encoding/json"
 	"encoding/pem"
 	"errors"
-	"math/big"
 	"net/http"
 	"net/http/httptest"
 	"os"
@@ -36,69 +32,32 @@ const (
 	day   = 86_400_000
 )
 
-// authority is a CA that issues certificates with crypto/x509.
+// authority is a CA that issues one certificate, with different extensions.
 type authority struct {
-	t    testing.TB
-	key  *ecdsa.PrivateKey
-	cert *x509.Certificate
+	*testkit.Authority
+	template *x509.Certificate
 }
 
-func newAuthority(t testing.TB) *authority {
-	t.Helper()
-	key, err := ecdsa.GenerateKey(elliptic.P256(), rand.Reader)
-	if err != nil {
-		t.Fatal(err)
-	}
-	a := &authority{t: t, key: key}
-	template := &x509.Certificate{SerialNumber: big.NewInt(1), Subject: pkix.Name{CommonName: "Test CA"}, IsCA: true,
-		BasicConstraintsValid: true,
-		NotBefore:             time.UnixMilli(epoch), NotAfter: time.UnixMilli(epoch + 365*day)}
-	der, err := x509.CreateCertificate(rand.Reader, template, template, &key.PublicKey, key)
-	if err == nil {
-		a.cert, err = x509.ParseCertificate(der)
-	}
-	if err != nil {
-		t.Fatal(err)
-	}
+func newAuthority() *authority {
+	a := &authority{Authority: testkit.NewAuthority("Test CA")}
+	a.template = a.Template(time.UnixMilli(epoch + 90*day))
 	return a
 }
 
-// issue returns a certificate that has these extensions after its others.
-func (a *authority) issue(extensions ...pkix.Extension) *x509.Certificate {
-	a.t.Helper()
-	template := &x509.Certificate{SerialNumber: big.NewInt(7), Subject: pkix.Name{CommonName: "www.example.org"},
-		DNSNames:  []string{"www.example.org"},
-		NotBefore: time.UnixMilli(epoch), NotAfter: time.UnixMilli(epoch + 90*day), ExtraExtensions: extensions}
-	der, err := x509.CreateCertificate(rand.Reader, template, a.cert, &a.key.PublicKey, a.key)
-	if err != nil {
-		a.t.Fatal(err)
-	}
-	cert, err := x509.ParseCertificate(der)
-	if err != nil {
-		a.t.Fatal(err)
-	}
-	return cert
+// issue returns the certificate with these extensions after its others.
+func (a *authority) issue(extensions ...pkix.Extension) []byte {
+	return a.Sign(a.template, extensions...)
 }
 
 // entry returns the log entry of the certificate that issue returns. Its TBSCertificate has no list of timestamps yet.
 func (a *authority) entry() testkit.Entry {
-	key := sha256.Sum256(a.cert.RawSubjectPublicKeyInfo)
-	return testkit.Entry{Timestamp: epoch, Certificate: a.issue().RawTBSCertificate, IssuerKeyHash: key[:],
-		Precertificate: []byte("precertificate")}
+	key := a.IssuerKeyHash()
+	_, tbs := a.SignPair(a.template)
+	return testkit.Entry{Timestamp: epoch, Certificate: tbs, IssuerKeyHash: key[:], Precertificate: []byte("precertificate")}
 }
 
 // issueWith returns the certificate with a list of timestamps (RFC 6962, section 3.3).
-func (a *authority) issueWith(scts ...[]byte) []byte {
-	var list []byte
-	for _, sct := range scts {
-		list = append(binary.BigEndian.AppendUint16(list, uint16(len(sct))), sct...)
-	}
-	value, err := asn1.Marshal(append(binary.BigEndian.AppendUint16(nil, uint16(len(list))), list...))
-	if err != nil {
-		a.t.Fatal(err)
-	}
-	return a.issue(pkix.Extension{Id: asn1.ObjectIdentifier{1, 3, 6, 1, 4, 1, 11129, 2, 4, 2}, Value: value}).Raw
-}
+func (a *authority) issueWith(scts ...[]byte) []byte { return a.issue(testkit.SCTList(scts...)) }
 
 // newLog returns a log with these entries, and a head with this timestamp.
 func newLog(t testing.TB, entries []testkit.Entry, timestamp uint64) *testkit.Log {
@@ -183,7 +142,7 @@ func checkEvidence(t *testing.T, evidence *watch.Evidence, key []byte) {
 // The timestamps of a certificate are audited against logs that keep their promise, that may still keep it, and that
 // broke it.
 func TestAuditsCertificates(t *testing.T) {
-	a := newAuthority(t)
+	a := newAuthority()
 	promised := a.entry()
 	before, after := others(300), others(40)
 	with := append(append(append([]testkit.Entry{}, before...), promised), after...)
@@ -208,7 +167,7 @@ func TestAuditsCertificates(t *testing.T) {
 				log := newLog(t, test.entries, test.timestamp)
 				certificate := a.issueWith(log.SCT(promised, 300))
 				watched := serve(t, log, kind)
-				results, err := audit.New([]watch.Log{watched}, quick).Certificate(context.Background(), certificate, a.cert.Raw)
+				results, err := audit.New([]watch.Log{watched}, quick).Certificate(context.Background(), certificate, a.Root.Raw)
 				if err != nil || len(results) != 1 {
 					t.Fatalf("%d results, %v", len(results), err)
 				}
@@ -228,14 +187,14 @@ func TestAuditsCertificates(t *testing.T) {
 
 // A log has broken its promise if the leaf is at another index than the one that its timestamp names.
 func TestAuditsAnotherIndex(t *testing.T) {
-	a := newAuthority(t)
+	a := newAuthority()
 	named := uint64(300)
 	promised := a.entry()
 	promised.Index = &named
 	for index, expected := range map[int]audit.Outcome{299: audit.Never, 300: audit.Included, 301: audit.Never} {
 		log := newLog(t, append(others(index), promised), epoch+1000)
 		certificate, watched := a.issueWith(log.SCT(promised, named)), serve(t, log, "RFC 6962")
-		results, err := audit.New([]watch.Log{watched}, quick).Certificate(context.Background(), certificate, a.cert.Raw)
+		results, err := audit.New([]watch.Log{watched}, quick).Certificate(context.Background(), certificate, a.Root.Raw)
 		if err != nil || len(results) != 1 || results[0].Outcome != expected || results[0].Index != uint64(index) {
 			t.Errorf("the leaf is at %d: %+v, %v", index, results, err)
 		}
@@ -245,7 +204,7 @@ func TestAuditsAnotherIndex(t *testing.T) {
 // Each timestamp of a certificate is audited independently. One of an unknown log, a damaged one, and a log that does
 // not answer do not change the outcomes of the others.
 func TestAuditsEachTimestamp(t *testing.T) {
-	a := newAuthority(t)
+	a := newAuthority()
 	promised := a.entry()
 	good := newLog(t, append(others(5), promised), epoch+1)
 	away, stranger, busy := newLog(t, nil, epoch), newLog(t, nil, epoch), newLog(t, nil, epoch)
@@ -263,7 +222,7 @@ func TestAuditsEachTimestamp(t *testing.T) {
 	other := good.SCT(testkit.Entry{Timestamp: epoch, Certificate: []byte("another certificate")}, 5)
 	certificate := a.issueWith(good.SCT(promised, 5), away.SCT(promised, 5), stranger.SCT(promised, 5), damaged, other,
 		busy.SCT(promised, 5))
-	results, err := audit.New(logs, quick).Certificate(context.Background(), certificate, a.cert.Raw)
+	results, err := audit.New(logs, quick).Certificate(context.Background(), certificate, a.Root.Raw)
 	if err != nil {
 		t.Fatal(err)
 	}
@@ -274,7 +233,7 @@ func TestAuditsEachTimestamp(t *testing.T) {
 		}
 	}
 	// With another issuer, the leaf differs, so no signature is valid.
-	results, err = audit.New(logs, quick).Certificate(context.Background(), certificate, newAuthority(t).cert.Raw)
+	results, err = audit.New(logs, quick).Certificate(context.Background(), certificate, newAuthority().Root.Raw)
 	if err != nil || results[0].Outcome != audit.Never {
 		t.Errorf("another issuer: %v, %v", results[0].Outcome, err)
 	}
@@ -286,22 +245,22 @@ func TestAuditsEachTimestamp(t *testing.T) {
 
 // Bytes without timestamps, or without readable ones, are refused with an error that says why.
 func TestRefusesCertificates(t *testing.T) {
-	a := newAuthority(t)
+	a := newAuthority()
 	auditor := audit.New(nil, quick)
 	for what, test := range map[string]struct {
 		certificate []byte
 		expected    error
 	}{
-		"no timestamps": {a.issue().Raw, audit.ErrNoSCTs},
+		"no timestamps": {a.issue(), audit.ErrNoSCTs},
 		"no list": {a.issue(pkix.Extension{Id: asn1.ObjectIdentifier{1, 3, 6, 1, 4, 1, 11129, 2, 4, 2},
-			Value: []byte{4, 2, 0, 9}}).Raw, audit.ErrSCT},
+			Value: []byte{4, 2, 0, 9}}), audit.ErrSCT},
 		"a short one": {a.issueWith(make([]byte, 40)), audit.ErrSCT},
 		"version 2":   {a.issueWith(append([]byte{1}, make([]byte, 60)...)), audit.ErrSCT},
 		"no bytes":    {nil, audit.ErrCertificate},
 		"text":        {[]byte("certificate"), audit.ErrCertificate},
-		"cut off":     {a.issue().Raw[:100], audit.ErrCertificate},
+		"cut off":     {a.issue()[:100], audit.ErrCertificate},
 	} {
-		_, err := auditor.Certificate(context.Background(), test.certificate, a.cert.Raw)
+		_, err := auditor.Certificate(context.Background(), test.certificate, a.Root.Raw)
 		if !errors.Is(err, test.expected) {
 			t.Errorf("%s: %v, and %v is expected", what, err, test.expected)
 		}
@@ -310,12 +269,10 @@ func TestRefusesCertificates(t *testing.T) {
 
 // A timestamp that a log returned is audited with the submitted certificate, in each form that ReadSCTs reads.
 func TestAuditsReturnedTimestamps(t *testing.T) {
-	a := newAuthority(t)
+	a := newAuthority()
 	final := a.issue()
-	poison := pkix.Extension{Id: asn1.ObjectIdentifier{1, 3, 6, 1, 4, 1, 11129, 2, 4, 3}, Critical: true,
-		Value: []byte{5, 0}}
-	precertificate := a.issue(poison)
-	plain := testkit.Entry{Timestamp: epoch, Certificate: final.Raw}
+	precertificate := a.issue(testkit.Poison)
+	plain := testkit.Entry{Timestamp: epoch, Certificate: final}
 	log := newLog(t, append(others(3), plain, a.entry()), epoch+1)
 	watched := serve(t, log, "tiled")
 	for what, test := range map[string]struct {
@@ -323,11 +280,11 @@ func TestAuditsReturnedTimestamps(t *testing.T) {
 		certificate []byte
 		expected    audit.Outcome
 	}{
-		"a certificate":    {log.SCT(plain, 3), final.Raw, audit.Included},
-		"a precertificate": {log.SCT(a.entry(), 4), precertificate.Raw, audit.Included},
-		"another one":      {log.SCT(plain, 3), a.issue().Raw, audit.Never},
-		"at another index": {log.SCT(plain, 2), final.Raw, audit.Never},
-		"at a later index": {log.SCT(plain, 9), final.Raw, audit.NotYet},
+		"a certificate":    {log.SCT(plain, 3), final, audit.Included},
+		"a precertificate": {log.SCT(a.entry(), 4), precertificate, audit.Included},
+		"another one":      {log.SCT(plain, 3), a.issue(), audit.Never},
+		"at another index": {log.SCT(plain, 2), final, audit.Never},
+		"at a later index": {log.SCT(plain, 9), final, audit.NotYet},
 	} {
 		for form, content := range forms(t, test.sct) {
 			scts, err := audit.ReadSCTs(content)
@@ -335,7 +292,7 @@ func TestAuditsReturnedTimestamps(t *testing.T) {
 				t.Fatalf("%s %s: %d timestamps, %v", what, form, len(scts), err)
 			}
 			results, err := audit.New([]watch.Log{watched}, quick).SCTs(context.Background(), scts, test.certificate,
-				a.cert.Raw)
+				a.Root.Raw)
 			if err != nil {
 				t.Fatalf("%s %s: %v", what, form, err)
 			}
@@ -344,7 +301,7 @@ func TestAuditsReturnedTimestamps(t *testing.T) {
 			}
 		}
 	}
-	if _, err := audit.New(nil, quick).SCTs(context.Background(), nil, precertificate.Raw, nil); !errors.Is(err,
+	if _, err := audit.New(nil, quick).SCTs(context.Background(), nil, precertificate, nil); !errors.Is(err,
 		audit.ErrCertificate) {
 		t.Errorf("a precertificate without an issuer: %v", err)
 	}
@@ -371,13 +328,13 @@ func forms(t *testing.T, sct []byte) map[string][]byte {
 
 // Certificates reads a file in PEM or in DER.
 func TestReadsCertificates(t *testing.T) {
-	a := newAuthority(t)
-	text := append([]byte("a comment\n"), pem.EncodeToMemory(&pem.Block{Type: "CERTIFICATE", Bytes: a.issue().Raw})...)
-	text = append(text, pem.EncodeToMemory(&pem.Block{Type: "CERTIFICATE", Bytes: a.cert.Raw})...)
-	if found, err := audit.Certificates(text); err != nil || len(found) != 2 || !bytes.Equal(found[1], a.cert.Raw) {
+	a := newAuthority()
+	text := append([]byte("a comment\n"), pem.EncodeToMemory(&pem.Block{Type: "CERTIFICATE", Bytes: a.issue()})...)
+	text = append(text, pem.EncodeToMemory(&pem.Block{Type: "CERTIFICATE", Bytes: a.Root.Raw})...)
+	if found, err := audit.Certificates(text); err != nil || len(found) != 2 || !bytes.Equal(found[1], a.Root.Raw) {
 		t.Errorf("%d certificates, %v", len(found), err)
 	}
-	if found, err := audit.Certificates(a.cert.Raw); err != nil || len(found) != 1 {
+	if found, err := audit.Certificates(a.Root.Raw); err != nil || len(found) != 1 {
 		t.Errorf("DER: %d certificates, %v", len(found), err)
 	}
 	if _, err := audit.Certificates([]byte("nothing")); !errors.Is(err, audit.ErrCertificate) {

@@ -50,7 +50,7 @@ func newTimed(t *testing.T, kind string, test timed, a *authority) (log *testkit
 // under an old head. The evidence shows it. If the heads of the other logs say that the machine's clock is wrong, the
 // clock accuses no log.
 func TestAuditsTimes(t *testing.T) {
-	a := newAuthority(t)
+	a := newAuthority()
 	for what, test := range map[string]timed{
 		"as late as its head":                  {sct: 5000, head: 5000, now: 6000, isIncluded: true, expected: audit.Included},
 		"later than its head":                  {5001, 5000, 6000, nil, true, audit.LaterEntry, watch.VerdictLaterEntry},
@@ -77,7 +77,7 @@ func TestAuditsTimes(t *testing.T) {
 			t.Run(kind+" "+what, func(t *testing.T) {
 				log, logs, certificate := newTimed(t, kind, test, a)
 				results, err := audit.New(logs, quickAt(epoch+test.now)).Certificate(context.Background(), certificate,
-					a.cert.Raw)
+					a.Root.Raw)
 				if err != nil || len(results) != 1 {
 					t.Fatalf("%d results, %v", len(results), err)
 				}

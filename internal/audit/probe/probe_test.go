@@ -2,15 +2,9 @@ package probe_test
 
 import (
 	"context"
-	"crypto/ecdsa"
-	"crypto/elliptic"
-	"crypto/rand"
-	"crypto/x509"
-	"crypto/x509/pkix"
 	"encoding/base64"
 	"encoding/json"
 	"encoding/pem"
-	"math/big"
 	"net/http"
 	"net/http/httptest"
 	"os"
@@ -22,28 +16,8 @@ import (
 
 	"wagtenib/internal/audit/probe"
 	"wagtenib/internal/logclient"
+	"wagtenib/internal/testkit"
 )
-
-// testRoot makes a root certificate of a test CA. It returns the certificate in DER and in PEM, and the key in PEM.
-func testRoot(t *testing.T, name string) (der, certificate, key []byte) {
-	t.Helper()
-	private, err := ecdsa.GenerateKey(elliptic.P256(), rand.Reader)
-	if err != nil {
-		t.Fatal(err)
-	}
-	template := &x509.Certificate{SerialNumber: big.NewInt(1), Subject: pkix.Name{CommonName: name}, IsCA: true,
-		BasicConstraintsValid: true, NotBefore: time.Date(2026, 1, 1, 0, 0, 0, 0, time.UTC)}
-	template.NotAfter = template.NotBefore.AddDate(10, 0, 0)
-	if der, err = x509.CreateCertificate(rand.Reader, template, template, &private.PublicKey, private); err != nil {
-		t.Fatal(err)
-	}
-	encoded, err := x509.MarshalPKCS8PrivateKey(private)
-	if err != nil {
-		t.Fatal(err)
-	}
-	return der, pem.EncodeToMemory(&pem.Block{Type: "CERTIFICATE", Bytes: der}),
-		pem.EncodeToMemory(&pem.Block{Type: "PRIVATE KEY", Bytes: encoded})
-}
 
 // probed holds a server, and the options of a probe of it.
 type probed struct {
@@ -55,10 +29,10 @@ type probed struct {
 // minutes.
 func newProbed(t *testing.T) probed {
 	t.Helper()
-	root, certificate, key := testRoot(t, "Test Root")
-	other, _, _ := testRoot(t, "Another Root")
+	ca := testkit.NewAuthority("Test Root")
+	root, other := ca.Root.Raw, testkit.NewAuthority("Another Root").Root.Raw
 	s := newServer(t, root, other)
-	authority, err := probe.NewAuthority(certificate, key)
+	authority, err := probe.NewAuthority(ca.PEM(), ca.KeyPEM())
 	if err != nil {
 		t.Fatal(err)
 	}

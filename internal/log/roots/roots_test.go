@@ -2,40 +2,22 @@ package roots_test
 
 import (
 	"bytes"
-	"crypto/ecdsa"
-	"crypto/elliptic"
-	"crypto/rand"
 	"crypto/sha256"
 	"crypto/x509"
-	"crypto/x509/pkix"
 	"encoding/csv"
 	"encoding/pem"
 	"errors"
 	"fmt"
-	"math/big"
 	"os"
 	"path/filepath"
 	"slices"
 	"strings"
 	"testing"
-	"time"
 
 	"wagtenib/internal/log/chain"
 	"wagtenib/internal/log/roots"
 	"wagtenib/internal/testkit"
 )
-
-// certificate returns a root with a name, in DER.
-func certificate(t *testing.T, name string) []byte {
-	t.Helper()
-	key, err := ecdsa.GenerateKey(elliptic.P256(), rand.Reader)
-	testkit.Must(t, err)
-	template := &x509.Certificate{SerialNumber: big.NewInt(1), Subject: pkix.Name{CommonName: name}, IsCA: true,
-		NotBefore: time.Unix(1_700_000_000, 0), NotAfter: time.Unix(2_000_000_000, 0), BasicConstraintsValid: true}
-	der, err := x509.CreateCertificate(rand.Reader, template, template, key.Public(), key)
-	testkit.Must(t, err)
-	return der
-}
 
 // quoted returns a certificate as CCADB writes it: in PEM, between apostrophes.
 func quoted(der []byte) string {
@@ -53,7 +35,7 @@ func newWorld(t *testing.T, names ...string) *world {
 	t.Helper()
 	w := &world{t: t, der: map[string][]byte{}, folder: t.TempDir()}
 	for _, name := range names {
-		w.der[name] = certificate(t, name)
+		w.der[name] = testkit.NewAuthority(name).Root.Raw
 	}
 	return w
 }
