@@ -10,7 +10,7 @@ import (
 	"time"
 
 	"wagtenib/internal/log/chain"
-	"wagtenib/internal/testkit/fakelog"
+	"wagtenib/internal/testkit/memorylog"
 )
 
 // TestSettings checks the rules for arguments and the config file.
@@ -134,8 +134,7 @@ func TestSettings(t *testing.T) {
 		{at.arguments("--roots", at.path("none")), 1}, {at.arguments("--listen", "127.0.0.1:x"), 2},
 		{at.arguments("--tls-certificate", "none", "--tls-key", "none"), 1}} {
 		open := func(context.Context, node) (*opened, error) {
-			of, err := fakelog.New(0)
-			return &opened{log: of, close: func() {}}, err
+			return &opened{log: memorylog.New(0), close: func() {}}, nil
 		}
 		if status := run(test.arguments, io.Discard, open); status != test.status {
 			t.Errorf("%q: status %d, not %d", test.arguments, status, test.status)

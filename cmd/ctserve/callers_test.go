@@ -18,7 +18,6 @@ import (
 	"time"
 
 	"wagtenib/internal/testkit"
-	"wagtenib/internal/testkit/fakelog"
 )
 
 // stranger is the id of nobody, who owns nothing of a log. spare is the id of a user and of a group that exist nowhere
@@ -141,7 +140,7 @@ func longerHead(t *testing.T, address string) string {
 	if size != 4 {
 		t.Fatalf("the log has %d entries", size)
 	}
-	leaf := fakelog.LeafHash([]byte("an entry of the stranger"))
+	leaf := testkit.LeafHash([]byte("an entry of the stranger"))
 	longer := sha256.Sum256(append(append([]byte{1}, root...), leaf[:]...))
 	line, err := json.Marshal(map[string]any{"consistency": [][]byte{leaf[:]},
 		"head": map[string]any{"sha256_root_hash": longer[:], "timestamp": timestamp + 1, "tree_size": 5}})

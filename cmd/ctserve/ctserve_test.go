@@ -22,7 +22,7 @@ import (
 	"time"
 
 	"wagtenib/internal/testkit"
-	"wagtenib/internal/testkit/fakelog"
+	"wagtenib/internal/testkit/memorylog"
 )
 
 // The tests start this program again as ctserve. These are the environment variables that make it ctserve, and that set
@@ -44,8 +44,7 @@ func TestMain(m *testing.M) {
 			if err != nil {
 				return nil, err
 			}
-			of, err := fakelog.New(duration)
-			return &opened{log: of, close: func() {}}, err
+			return &opened{log: memorylog.New(duration), close: func() {}}, nil
 		}
 	}
 	os.Exit(run(os.Args[1:], os.Stderr, open))

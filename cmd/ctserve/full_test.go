@@ -16,7 +16,6 @@ import (
 	"wagtenib/internal/audit/judge"
 	"wagtenib/internal/log/signer"
 	"wagtenib/internal/testkit"
-	"wagtenib/internal/testkit/fakelog"
 )
 
 // fill fills the file system of a folder, except for so many bytes. The function that it returns makes room again.
@@ -229,7 +228,7 @@ func readsAll(t *testing.T, p *program, when string, answers []judge.Answer) {
 		head.Size < uint64(len(answers)) {
 		t.Errorf("%s: get-sth: %s", when, text)
 	}
-	hash := fakelog.LeafHash(leafOf(answers[2]))
+	hash := testkit.LeafHash(leafOf(answers[2]))
 	proof := fmt.Sprintf("/ct/v1/get-proof-by-hash?tree_size=%d&hash=%s", head.Size,
 		url.QueryEscape(base64.StdEncoding.EncodeToString(hash[:])))
 	for _, path := range []string{"/checkpoint", fmt.Sprintf("/tile/0/000.p/%d", head.Size),

@@ -15,7 +15,6 @@ import (
 	"wagtenib/internal/audit/judge"
 	"wagtenib/internal/log/httpd"
 	"wagtenib/internal/testkit"
-	"wagtenib/internal/testkit/fakelog"
 )
 
 // realArguments returns the arguments of a log on a folder.
@@ -128,9 +127,9 @@ func TestRealLog(t *testing.T) {
 	}
 	var hashes [][32]byte
 	for _, entry := range listed.Entries {
-		hashes = append(hashes, fakelog.LeafHash(entry.LeafInput))
+		hashes = append(hashes, testkit.LeafHash(entry.LeafInput))
 	}
-	if root := fakelog.MerkleTreeHash(hashes); !bytes.Equal(root[:], head.Root) {
+	if root := testkit.MerkleTreeHash(hashes); !bytes.Equal(root[:], head.Root) {
 		t.Error("the entries do not have the head's root")
 	}
 	if _, tile := read(p.clients, "/tile/0/000.p/21"); len(tile) != 21*32 ||

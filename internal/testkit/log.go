@@ -46,6 +46,7 @@ type Log struct {
 	hashes    []tlog.Hash
 	issuers   map[string][]byte
 	published published
+	changed   map[string][]byte
 	requests  map[string]int
 }
 
@@ -57,7 +58,12 @@ type published struct {
 
 // NewLog returns an empty log with a new P-256 key.
 func NewLog(origin string) *Log {
-	return &Log{Origin: origin, Key: newKey(), issuers: map[string][]byte{}, requests: map[string]int{}}
+	return newLog(origin, newKey())
+}
+
+func newLog(origin string, key *ecdsa.PrivateKey) *Log {
+	return &Log{Origin: origin, Key: key, issuers: map[string][]byte{}, changed: map[string][]byte{},
+		requests: map[string]int{}}
 }
 
 // PublicKey returns the log's key, a SubjectPublicKeyInfo in DER.
@@ -73,7 +79,8 @@ func (l *Log) PublicKey() []byte {
 func (l *Log) Fork(size uint64) *Log {
 	l.mutex.Lock()
 	defer l.mutex.Unlock()
-	other := &Log{Origin: l.Origin, Key: l.Key, Page: l.Page, issuers: map[string][]byte{}, requests: map[string]int{}}
+	other := newLog(l.Origin, l.Key)
+	other.Page = l.Page
 	other.Add(l.entries[:size]...)
 	return other
 }
@@ -274,6 +281,66 @@ func (l *Log) SCT(e Entry, index uint64) []byte {
 	return append(sct, l.sign(e.MerkleLeaf(index))...)
 }
 
+// LeafHash returns the hash of a leaf (RFC 6962, section 2.1).
+func LeafHash(leaf []byte) [32]byte { return sha256.Sum256(append([]byte{0}, leaf...)) }
+
+// MerkleTreeHash returns the Merkle Tree Hash of leaves with these hashes, by the recursion of RFC 6962, section 2.1.
+func MerkleTreeHash(hashes [][32]byte) [32]byte {
+	switch len(hashes) {
+	case 0:
+		return sha256.Sum256(nil)
+	case 1:
+		return hashes[0]
+	}
+	k := 1
+	for k*2 < len(hashes) {
+		k *= 2
+	}
+	left, right := MerkleTreeHash(hashes[:k]), MerkleTreeHash(hashes[k:])
+	return sha256.Sum256(append(append([]byte{1}, left[:]...), right[:]...))
+}
+
+// IndexOf returns the index of the first leaf with this hash that the newest head covers. ok is false if there is none.
+func (l *Log) IndexOf(leafHash [32]byte) (index uint64, ok bool) {
+	l.mutex.Lock()
+	defer l.mutex.Unlock()
+	return l.indexOf(leafHash, l.published.size)
+}
+
+func (l *Log) indexOf(leafHash [32]byte, size uint64) (index uint64, ok bool) {
+	for index := range size {
+		if l.hashes[tlog.StoredHashIndex(0, int64(index))] == leafHash {
+			return index, true
+		}
+	}
+	return 0, false
+}
+
+// Object returns the tile or the issuer at a path, as the log serves it. ok is false if there is none.
+func (l *Log) Object(path string) (content []byte, ok bool) {
+	l.mutex.Lock()
+	defer l.mutex.Unlock()
+	return l.object(path)
+}
+
+// Change makes the log serve another content at the path of a tile or an issuer, or nothing if the content is nil.
+func (l *Log) Change(path string, content []byte) {
+	l.mutex.Lock()
+	defer l.mutex.Unlock()
+	l.changed[path] = content
+}
+
+func (l *Log) object(path string) (content []byte, ok bool) {
+	if content, isChanged := l.changed[path]; isChanged {
+		return content, content != nil
+	}
+	if fingerprint, isIssuer := strings.CutPrefix(path, "issuer/"); isIssuer {
+		issuer, ok := l.issuers[fingerprint]
+		return issuer, ok
+	}
+	return l.tile(path)
+}
+
 // Requests returns the number of requests for a path.
 func (l *Log) Requests(path string) int {
 	l.mutex.Lock()
@@ -318,11 +385,8 @@ func (l *Log) answer(path string, number func(string) uint64, hash string) (cont
 	switch name := strings.TrimPrefix(path, "ct/v1/"); {
 	case path == "checkpoint":
 		return l.published.checkpoint, l.published.checkpoint != nil
-	case strings.HasPrefix(path, "issuer/"):
-		issuer, ok := l.issuers[strings.TrimPrefix(path, "issuer/")]
-		return issuer, ok
-	case strings.HasPrefix(path, "tile/"):
-		return l.tile(path)
+	case strings.HasPrefix(path, "issuer/"), strings.HasPrefix(path, "tile/"):
+		return l.object(path)
 	case name == "get-sth":
 		return l.published.sth, l.published.sth != nil
 	case name == "get-entries":
@@ -395,21 +459,19 @@ func bytesOf(hashes []tlog.Hash) [][]byte {
 	return result
 }
 
-func (l *Log) proofByHash(hash string, size uint64) ([]byte, bool) {
-	if size < 1 || size > uint64(len(l.entries)) {
+func (l *Log) proofByHash(text string, size uint64) ([]byte, bool) {
+	hash, err := base64.StdEncoding.DecodeString(text)
+	if err != nil || len(hash) != sha256.Size || size < 1 || size > uint64(len(l.entries)) {
 		return nil, false
 	}
-	for index := range size {
-		leafHash := l.hashes[tlog.StoredHashIndex(0, int64(index))]
-		if base64.StdEncoding.EncodeToString(leafHash[:]) != hash {
-			continue
-		}
-		proof, err := tlog.ProveRecord(int64(size), int64(index), l.reader())
-		if err != nil {
-			return nil, false
-		}
-		content, err := json.Marshal(map[string]any{"leaf_index": index, "audit_path": bytesOf(proof)})
-		return content, err == nil
+	index, ok := l.indexOf([32]byte(hash), size)
+	if !ok {
+		return nil, false
 	}
-	return nil, false
+	proof, err := tlog.ProveRecord(int64(size), int64(index), l.reader())
+	if err != nil {
+		return nil, false
+	}
+	content, err := json.Marshal(map[string]any{"leaf_index": index, "audit_path": bytesOf(proof)})
+	return content, err == nil
 }

@@ -22,14 +22,14 @@ import (
 	"wagtenib/internal/log"
 	"wagtenib/internal/log/chain"
 	"wagtenib/internal/testkit"
-	"wagtenib/internal/testkit/fakelog"
+	"wagtenib/internal/testkit/memorylog"
 	"wagtenib/internal/tiles"
 )
 
 // fixture is a front of a log in memory.
 type fixture struct {
 	t         testing.TB
-	log       *fakelog.Log
+	log       *memorylog.Log
 	authority *testkit.Authority
 	checker   *chain.Checker
 	front     *Front
@@ -63,10 +63,7 @@ func newFixture(t testing.TB, every time.Duration, change func(*Options)) *fixtu
 	if err != nil {
 		t.Fatal(err)
 	}
-	of, err := fakelog.New(every)
-	if err != nil {
-		t.Fatal(err)
-	}
+	of := memorylog.New(every)
 	t.Cleanup(func() { of.End(context.Background()) })
 	window := chain.Window{From: ends.AddDate(-1, 0, 0), To: ends.AddDate(1, 0, 0)}
 	f := &fixture{t: t, log: of, authority: authority, lines: &text{}}

@@ -14,7 +14,6 @@ import (
 
 	"wagtenib/internal/log"
 	"wagtenib/internal/testkit"
-	"wagtenib/internal/testkit/fakelog"
 )
 
 // late is a log that returns an older head so many times.
@@ -86,7 +85,7 @@ func TestReadersAskForNoNewerHead(t *testing.T) {
 		}
 	}
 	f.reads("get-entries?start=299&end=299", &reply)
-	hash := fakelog.LeafHash(reply.Entries[0].Leaf)
+	hash := testkit.LeafHash(reply.Entries[0].Leaf)
 	of := &unasked{Log: f.log, head: head}
 	f.front.log = of
 	for _, path := range []string{"get-entries?start=0&end=299", "get-entries?start=256&end=299",

@@ -19,7 +19,6 @@ import (
 	"wagtenib/internal/blob"
 	"wagtenib/internal/log"
 	"wagtenib/internal/testkit"
-	"wagtenib/internal/testkit/fakelog"
 	"wagtenib/internal/tiles"
 )
 
@@ -39,10 +38,10 @@ func pathOf(m int, d [][32]byte) [][]byte {
 	}
 	k := half(len(d))
 	if m < k {
-		root := fakelog.MerkleTreeHash(d[k:])
+		root := testkit.MerkleTreeHash(d[k:])
 		return append(pathOf(m, d[:k]), root[:])
 	}
-	root := fakelog.MerkleTreeHash(d[:k])
+	root := testkit.MerkleTreeHash(d[:k])
 	return append(pathOf(m-k, d[k:]), root[:])
 }
 
@@ -52,15 +51,15 @@ func proofOf(m int, d [][32]byte, whole bool) [][]byte {
 		return [][]byte{}
 	}
 	if m == len(d) {
-		root := fakelog.MerkleTreeHash(d)
+		root := testkit.MerkleTreeHash(d)
 		return [][]byte{root[:]}
 	}
 	k := half(len(d))
 	if m <= k {
-		root := fakelog.MerkleTreeHash(d[k:])
+		root := testkit.MerkleTreeHash(d[k:])
 		return append(proofOf(m, d[:k], whole), root[:])
 	}
-	root := fakelog.MerkleTreeHash(d[:k])
+	root := testkit.MerkleTreeHash(d[:k])
 	return append(proofOf(m-k, d[k:], false), root[:])
 }
 

@@ -15,7 +15,6 @@ import (
 
 	"wagtenib/internal/log/chain"
 	"wagtenib/internal/testkit"
-	"wagtenib/internal/testkit/fakelog"
 )
 
 // served returns the content of an answer. It checks the status, the type and the Cache-Control of the answer, and that
@@ -149,7 +148,7 @@ func TestTreeHead(t *testing.T) {
 	}
 	head, _ := f.log.Checkpoint(httptest.NewRequest("GET", "/", nil).Context())
 	if reply.Size != 3 || reply.Timestamp != head.Timestamp || !bytes.Equal(reply.Root, head.RootHash[:]) ||
-		!f.verifies(fakelog.HeadSigned(head), reply.Signature) {
+		!f.verifies(testkit.TreeHeadSignature(head.TreeSize, head.Timestamp, head.RootHash), reply.Signature) {
 		t.Errorf("get-sth: %s", w.Body)
 	}
 }
@@ -180,7 +179,7 @@ func TestEntriesHaveTheHeadsRoot(t *testing.T) {
 			t.Fatalf("none from %d on", start)
 		}
 		for i, entry := range entries {
-			hashes = append(hashes, fakelog.LeafHash(entry.LeafInput))
+			hashes = append(hashes, testkit.LeafHash(entry.LeafInput))
 			certificate := certificates[start+i]
 			if !bytes.Contains(entry.LeafInput, certificate) || entry.LeafInput[14] != byte(len(certificate)) {
 				t.Fatalf("entry %d is not the one that was submitted", start+i)
@@ -197,7 +196,7 @@ func TestEntriesHaveTheHeadsRoot(t *testing.T) {
 		}
 	}
 	head, _ := f.log.Checkpoint(httptest.NewRequest("GET", "/", nil).Context())
-	if fakelog.MerkleTreeHash(hashes) != head.RootHash {
+	if testkit.MerkleTreeHash(hashes) != head.RootHash {
 		t.Error("the entries do not have the head's root")
 	}
 	for _, test := range []struct{ start, end, count uint64 }{{0, 0, 1}, {7, 9, 3}, {255, 256, 1}, {256, 1 << 62, 256},

@@ -18,7 +18,7 @@ import (
 	"wagtenib/internal/log"
 	"wagtenib/internal/log/chain"
 	"wagtenib/internal/testkit"
-	"wagtenib/internal/testkit/fakelog"
+	"wagtenib/internal/testkit/memorylog"
 	"wagtenib/internal/tiles"
 )
 
@@ -69,7 +69,7 @@ func TestSubmissionsAreAnsweredWithTimestamps(t *testing.T) {
 		if !bytes.Equal(reply.Extensions, []byte{0, 0, 5, 0, 0, 0, 0, byte(number)}) {
 			t.Errorf("%s: extensions %x", test.path, reply.Extensions)
 		}
-		if !f.verifies(fakelog.TimestampSigned(*entry, reply.Timestamp, reply.Extensions), reply.Signature) ||
+		if !f.verifies(memorylog.EntryOf(*entry, reply.Timestamp).MerkleLeaf(uint64(number)), reply.Signature) ||
 			len(reply.ID) != 32 {
 			t.Errorf("%s: the signature is not over the entry: %s", test.path, w.Body)
 		}
