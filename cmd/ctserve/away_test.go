@@ -42,7 +42,7 @@ func TestReadsGoOn(t *testing.T) {
 		},
 		"the disk is read-only": func(t *testing.T, disk string) func() {
 			remounts := func(flags uintptr) {
-				for until := time.Now().Add(testkit.Longest); ; time.Sleep(10 * time.Millisecond) {
+				for until := time.Now().Add(testkit.Patience); ; time.Sleep(10 * time.Millisecond) {
 					err := syscall.Mount("tmpfs", disk, "tmpfs", syscall.MS_REMOUNT|flags, "")
 					if err == nil {
 						return
@@ -71,7 +71,7 @@ func TestReadsGoOn(t *testing.T) {
 			arguments := at.realArguments(more...)
 			p := started(t, "", append(arguments, "--create")...)
 			var answers []judge.Answer
-			for until := time.Now().Add(testkit.Longest); len(answers) < 5; {
+			for until := time.Now().Add(testkit.Patience); len(answers) < 5; {
 				status, text, one := at.submitted(t, p)
 				if status == 200 {
 					answers = append(answers, one)
@@ -89,7 +89,7 @@ func TestReadsGoOn(t *testing.T) {
 				readsAll(t, p, what, answers)
 			}
 			repair()
-			for until := time.Now().Add(testkit.Longest); ; time.Sleep(50 * time.Millisecond) {
+			for until := time.Now().Add(testkit.Patience); ; time.Sleep(50 * time.Millisecond) {
 				status, text, _ := at.submitted(t, p)
 				if status == 200 {
 					break
@@ -116,7 +116,7 @@ func TestObjectsAway(t *testing.T) {
 	p := started(t, "", append(arguments, "--create")...)
 	submitted := func(wanted int, what string) {
 		t.Helper()
-		for until := time.Now().Add(testkit.Longest); ; time.Sleep(50 * time.Millisecond) {
+		for until := time.Now().Add(testkit.Patience); ; time.Sleep(50 * time.Millisecond) {
 			status, text, _ := at.submitted(t, p)
 			if status == wanted {
 				return
@@ -151,7 +151,7 @@ func TestObjectsAway(t *testing.T) {
 		}
 	}
 	text, err := starts()
-	for until := time.Now().Add(testkit.Longest); isLate(text) && time.Now().Before(until); {
+	for until := time.Now().Add(testkit.Patience); isLate(text) && time.Now().Before(until); {
 		text, err = starts()
 	}
 	if err == nil || !strings.Contains(text, "the folder of the objects") {

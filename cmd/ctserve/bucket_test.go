@@ -275,14 +275,14 @@ func TestBucketServesThroughKills(t *testing.T) {
 		}()
 	}
 	answered := int64(0)
-	for late := time.Now().Add(testkit.Longest); left.Load() > 0 || answered < 5; {
+	for late := time.Now().Add(testkit.Patience); left.Load() > 0 || answered < 5; {
 		if time.Now().After(late) {
 			t.Errorf("the test takes too long: %d kills and %d answers", kills-left.Load(), answered)
 			break
 		}
 		if status, _ := post(clients[rand.Intn(2)], at.submission()); status == http.StatusOK {
 			answered++
-			late = time.Now().Add(testkit.Longest)
+			late = time.Now().Add(testkit.Patience)
 		}
 		size, err := monitor.look()
 		if err != nil && monitor.heads > 0 {
@@ -393,7 +393,7 @@ func TestPublicStoreOfALogThatExists(t *testing.T) {
 		t.Error("there is a checkpoint without public-store")
 	}
 	p = started(t, "", append(arguments, "--public-store")...)
-	for until := time.Now().Add(testkit.Longest); ; time.Sleep(time.Millisecond) {
+	for until := time.Now().Add(testkit.Patience); ; time.Sleep(time.Millisecond) {
 		of, ok := bucket.Object("checkpoint")
 		isAsServed := of.Type == "text/plain; charset=utf-8" && of.Cache == "public, max-age=1"
 		if ok && string(of.Content) == checkpoint && isAsServed {

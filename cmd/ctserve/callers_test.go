@@ -88,7 +88,7 @@ func signerAt(t *testing.T, at *place, socket string, more ...string) (<-chan st
 		_ = command.Process.Kill()
 		_ = command.Wait()
 	})
-	for until := time.Now().Add(testkit.Longest); ; time.Sleep(5 * time.Millisecond) {
+	for until := time.Now().Add(testkit.Patience); ; time.Sleep(5 * time.Millisecond) {
 		if isThere(socket) {
 			return lines, command.Process
 		}
@@ -106,7 +106,7 @@ func answerTo(socket, line string) (string, error) {
 		return "", err
 	}
 	defer connection.Close()
-	if err := connection.SetDeadline(time.Now().Add(testkit.Longest)); err != nil {
+	if err := connection.SetDeadline(time.Now().Add(testkit.Patience)); err != nil {
 		return "", err
 	}
 	// This fails if the connection is closed already.
@@ -180,7 +180,7 @@ func TestStrangerCannotSign(t *testing.T) {
 		if !strings.Contains(line, `"event":"refused-caller"`) || !strings.Contains(line, `"uid":65534`) {
 			t.Errorf("the signer reports %s", line)
 		}
-	case <-time.After(testkit.Longest):
+	case <-time.After(testkit.Patience):
 		t.Error("the signer does not report the stranger")
 	}
 	p.signal(syscall.SIGTERM)

@@ -66,7 +66,7 @@ type program struct {
 // in memory with this interval.
 func started(t *testing.T, interval string, arguments ...string) *program {
 	t.Helper()
-	for until := time.Now().Add(testkit.Longest); ; {
+	for until := time.Now().Add(testkit.Patience); ; {
 		p, line := launched(t, interval, arguments...)
 		if line["event"] == "serving" {
 			return p
@@ -129,7 +129,7 @@ func launched(t *testing.T, interval string, arguments ...string) (p *program, l
 
 // runs starts ctserve in this process if it ends before it serves. It returns the exit status and the output.
 func runs(arguments []string) (status int, output string) {
-	for until := time.Now().Add(testkit.Longest); ; {
+	for until := time.Now().Add(testkit.Patience); ; {
 		var lines strings.Builder
 		status = run(arguments, &lines, openNode)
 		if output = lines.String(); !isLate(output) || time.Now().After(until) {
@@ -141,7 +141,7 @@ func runs(arguments []string) (status int, output string) {
 // until returns the next line of one of these events.
 func (p *program) until(events ...string) map[string]any {
 	p.t.Helper()
-	for late := time.After(testkit.Longest); ; {
+	for late := time.After(testkit.Patience); ; {
 		select {
 		case line, more := <-p.lines:
 			if !more {
@@ -164,7 +164,7 @@ func (p *program) until(events ...string) map[string]any {
 // shows waits until the operator's metrics have a line.
 func (p *program) shows(line string) {
 	p.t.Helper()
-	for late := time.Now().Add(testkit.Longest); ; time.Sleep(10 * time.Millisecond) {
+	for late := time.Now().Add(testkit.Patience); ; time.Sleep(10 * time.Millisecond) {
 		_, text := get(p.operator, "/metrics")
 		if strings.Contains("\n"+text, "\n"+line+"\n") {
 			return
@@ -189,7 +189,7 @@ func (p *program) ends() int {
 			return status.ExitCode()
 		}
 		return 0
-	case <-time.After(testkit.Longest):
+	case <-time.After(testkit.Patience):
 		p.t.Fatal("ctserve does not end")
 		return -1
 	}
@@ -267,7 +267,7 @@ func read(address, path string) (int, string) {
 
 // unlessLate repeats a request until the answer does not say that it is late.
 func unlessLate(ask func() (int, string)) (status int, text string) {
-	for until := time.Now().Add(testkit.Longest); ; {
+	for until := time.Now().Add(testkit.Patience); ; {
 		if status, text = ask(); status != 503 || !strings.Contains(text, `"late"`) || time.Now().After(until) {
 			return status, text
 		}

@@ -67,7 +67,7 @@ func TestFullDisk(t *testing.T) {
 	}
 	again := func() {
 		t.Helper()
-		for until := time.Now().Add(testkit.Longest); ; time.Sleep(50 * time.Millisecond) {
+		for until := time.Now().Add(testkit.Patience); ; time.Sleep(50 * time.Millisecond) {
 			status, text := submit()
 			if status == 200 {
 				return
@@ -102,7 +102,7 @@ func TestFullDisk(t *testing.T) {
 			_, metrics = get(p.operator, "/metrics")
 			return status == 503 && strings.Contains(metrics, "ctserve_fault 1\n") && failures(t, p, of) > before
 		}
-		for until := time.Now().Add(testkit.Longest); ; time.Sleep(10 * time.Millisecond) {
+		for until := time.Now().Add(testkit.Patience); ; time.Sleep(10 * time.Millisecond) {
 			status, text := submit()
 			refused := status == 503 && strings.Contains(text, `"store"`)
 			if refused && atFault() {

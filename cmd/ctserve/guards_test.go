@@ -129,7 +129,7 @@ func TestReportsUnreadableGuardState(t *testing.T) {
 	// On a busy machine the signer may report the error too late. Then it gets more time: of 30 s, it has 24 s for the
 	// state, and 6 s are left for its report.
 	within := 10 * time.Second
-	for until := time.Now().Add(testkit.Longest); ; within = 30 * time.Second {
+	for until := time.Now().Add(testkit.Patience); ; within = 30 * time.Second {
 		var output strings.Builder
 		status := run(append(arguments, "--open-timeout", within.String()), &output, openNode)
 		if status == 1 && strings.Contains(output.String(), "the guard's state (guard-state, of etcd) cannot be read") {
@@ -192,7 +192,7 @@ func TestSignerAtASocket(t *testing.T) {
 	arguments := at.realArguments("--signer-socket", socket, "--index", at.sharedIndex())
 	listening := func(key string) (kills func()) {
 		t.Helper()
-		for until := time.Now().Add(testkit.Longest); ; {
+		for until := time.Now().Add(testkit.Patience); ; {
 			command, output, ended := exec.Command(os.Args[0], "signer", "--signing-key", key, "--guard-state", "file:"+
 				at.path("guard"), "--create", "--listen", socket), &strings.Builder{}, make(chan struct{})
 			command.Env, command.Stderr = append(os.Environ(), childKey+"=1"), output
@@ -245,7 +245,7 @@ func TestSignerAtASocket(t *testing.T) {
 	wrong()
 	listening(at.path("log.pem"))
 	refused := 0
-	for until := time.Now().Add(testkit.Longest); ; refused++ {
+	for until := time.Now().Add(testkit.Patience); ; refused++ {
 		status, text := post(p.clients, at.submission())
 		if status == 200 {
 			break
@@ -297,7 +297,7 @@ func TestGuards(t *testing.T) {
 	arguments := at.realArguments("--signing-key", at.path("log.pem"), "--create")
 	lacks := func(what string, more ...string) {
 		t.Helper()
-		for until := time.Now().Add(testkit.Longest); ; {
+		for until := time.Now().Add(testkit.Patience); ; {
 			command := exec.Command(os.Args[0], append(append([]string{}, arguments...), more...)...)
 			command.Env = append(os.Environ(), childKey+"=1")
 			output, err := command.CombinedOutput()

@@ -99,7 +99,7 @@ func TestHalfBodiesAtNginx(t *testing.T) {
 		t.Errorf("the last that one address may have: %d %s", status, text)
 	}
 	halves = append(halves, half(t, address, begun))
-	until := time.Now().Add(testkit.Longest)
+	until := time.Now().Add(testkit.Patience)
 	for refused := false; !refused; {
 		for i := range halves {
 			// nginx closes a connection on which nothing comes for a while. Then another one is opened.

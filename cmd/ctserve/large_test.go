@@ -144,7 +144,7 @@ func readStatus(address, own, path string) (string, net.Conn) {
 		return err.Error(), nil
 	}
 	var line [len("HTTP/1.1 200")]byte
-	if err = connection.SetDeadline(time.Now().Add(testkit.Longest)); err == nil {
+	if err = connection.SetDeadline(time.Now().Add(testkit.Patience)); err == nil {
 		_, err = fmt.Fprintf(connection, "GET /%s HTTP/1.1\r\nHost: log.example\r\n\r\n", path)
 	}
 	if err == nil {

@@ -104,7 +104,7 @@ func nginxHaving(t *testing.T, site, address, main string) {
 			t.Errorf("nginx logs the addresses of clients: %v %.300s", err, written)
 		}
 	})
-	for until := time.Now().Add(testkit.Longest); ; time.Sleep(20 * time.Millisecond) {
+	for until := time.Now().Add(testkit.Patience); ; time.Sleep(20 * time.Millisecond) {
 		if connection, err := net.Dial("tcp", address); err == nil {
 			connection.Close()
 			return
@@ -305,7 +305,7 @@ func TestDamagedTileBehindNginx(t *testing.T) {
 	for _, body := range bodies {
 		go func(body []byte) {
 			status, text := 503, ""
-			for until := time.Now().Add(testkit.Longest); status == 503 &&
+			for until := time.Now().Add(testkit.Patience); status == 503 &&
 				time.Now().Before(until); time.Sleep(100 * time.Millisecond) {
 				status, text = post(p.clients, body)
 			}

@@ -78,7 +78,7 @@ func TestForwards(t *testing.T) {
 	first, second := freeAddress(t), freeAddress(t)
 	one := started(t, "", append(append(arguments, at.nodeArguments("one", first)...), "--create")...)
 	two := started(t, "", append(arguments, at.nodeArguments("two", second)...)...)
-	for until := time.Now().Add(testkit.Longest); two.metric("ctserve_forwarded_submissions_total") == "0"; {
+	for until := time.Now().Add(testkit.Patience); two.metric("ctserve_forwarded_submissions_total") == "0"; {
 		for _, node := range []*program{one, two} {
 			if status, text := post(node.clients, at.submission()); status != 200 {
 				t.Fatalf("%d %s", status, text)

@@ -32,7 +32,7 @@ func TestRealLog(t *testing.T) {
 	var at *place
 	var arguments []string
 	var p *program
-	for until := time.Now().Add(testkit.Longest); ; {
+	for until := time.Now().Add(testkit.Patience); ; {
 		at = newPlace(t)
 		arguments = at.realArguments("--signing-key", at.path("log.pem"))
 		if status, output := runs(arguments); status != statusRolledBack {

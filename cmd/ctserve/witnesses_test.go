@@ -105,7 +105,7 @@ func TestWitnessedLog(t *testing.T) {
 	}
 	p.signal(syscall.SIGTERM)
 	p.ends()
-	for until := time.Now().Add(testkit.Longest); ; {
+	for until := time.Now().Add(testkit.Patience); ; {
 		for _, part := range parts {
 			if err := os.RemoveAll(at.path(part)); err != nil {
 				t.Fatal(err)

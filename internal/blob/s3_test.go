@@ -305,7 +305,7 @@ func TestPostgresWithoutItsStandby(t *testing.T) {
 	}
 	set(reset)
 	for since := time.Now(); swap(current) != nil; time.Sleep(10 * time.Millisecond) {
-		if time.Since(since) > testkit.Longest {
+		if time.Since(since) > testkit.Patience {
 			t.Fatal("the swap is not done")
 		}
 	}

@@ -58,7 +58,7 @@ func whilePaused(t *testing.T, engine string, call func(ctx context.Context) err
 		if err == nil {
 			return
 		}
-		if time.Since(start) > testkit.Longest {
+		if time.Since(start) > testkit.Patience {
 			t.Fatalf("%s: the engine continues, and the call still fails: %v", engine, err)
 		}
 	}

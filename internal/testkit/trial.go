@@ -14,7 +14,10 @@ import (
 	"time"
 )
 
-// Longest is the time limit of a wait in a test, which is long enough for a busy machine.
+// Patience is the longest time for which a test waits for something. It is long enough for a busy machine.
+const Patience = 2 * time.Minute
+
+// Longest is a time limit that nothing in a test reaches.
 const Longest = 30 * time.Minute
 
 // Must ends the test if there is an error.
@@ -25,13 +28,12 @@ func Must(t testing.TB, err error) {
 	}
 }
 
-// Eventually waits until a condition holds. It ends the test if that takes longer than Longest. what describes the
-// condition.
+// Eventually waits until a condition holds. It ends the test after Patience, with the description of the condition.
 func Eventually(t testing.TB, what string, holds func() bool) {
 	t.Helper()
-	for until := time.Now().Add(Longest); !holds(); time.Sleep(time.Millisecond) {
+	for until := time.Now().Add(Patience); !holds(); time.Sleep(time.Millisecond) {
 		if time.Now().After(until) {
-			t.Fatalf("%s: not in %v", what, Longest)
+			t.Fatalf("%s: not in %v", what, Patience)
 		}
 	}
 }

@@ -135,4 +135,4 @@ func grow(log *testkit.Log, count uint64) {
 var _ watch.Keeper = (*keeper)(nil)
 
 // within is the maximum time for which a test waits, on a machine that is busy.
-const within = testkit.Longest
+const within = testkit.Patience

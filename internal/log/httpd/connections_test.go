@@ -142,7 +142,7 @@ func TestOperatorCountsApart(t *testing.T) {
 	operator := f.listeningBy(f.front.ServeOperators(f.front.Operator()), nil)
 	status := func(address, path string) int {
 		t.Helper()
-		for until := time.Now().Add(testkit.Longest); ; {
+		for until := time.Now().Add(testkit.Patience); ; {
 			connection := dial(t, address)
 			fmt.Fprintf(connection, "GET %s HTTP/1.1\r\nHost: log\r\nConnection: close\r\n\r\n", path)
 			reader := bufio.NewReader(connection)

@@ -80,7 +80,7 @@ func newFixture(t testing.TB, every time.Duration, change func(*Options)) *fixtu
 
 // unlessLate repeats a request until the response does not say that it is late. /readyz has a limit of two seconds.
 func unlessLate(ask func() *httptest.ResponseRecorder) (w *httptest.ResponseRecorder) {
-	for until := time.Now().Add(testkit.Longest); ; {
+	for until := time.Now().Add(testkit.Patience); ; {
 		if w = ask(); w.Code != 503 || !strings.Contains(w.Body.String(), `"late"`) || time.Now().After(until) {
 			return w
 		}

@@ -229,7 +229,7 @@ func (f *fixture) statusOf(client, call string) int {
 // empties sends requests of a client until its bucket is empty, however slow that is.
 func (f *fixture) empties(client, call string) {
 	f.t.Helper()
-	for until := time.Now().Add(testkit.Longest); f.statusOf(client, call) != 429; {
+	for until := time.Now().Add(testkit.Patience); f.statusOf(client, call) != 429; {
 		if time.Now().After(until) {
 			f.t.Fatalf("%s of %s is never refused", call, client)
 		}
@@ -281,7 +281,7 @@ func TestTooOften(t *testing.T) {
 	again := func(call string) (w *httptest.ResponseRecorder, taken int, before time.Time) {
 		t.Helper()
 		method, path, _ := strings.Cut(call, " ")
-		for until := time.Now().Add(testkit.Longest); time.Now().Before(until); taken++ {
+		for until := time.Now().Add(testkit.Patience); time.Now().Before(until); taken++ {
 			before = time.Now()
 			if w := f.askedBy(fmt.Sprintf("2001:db8::%x", taken+1), method, path, nil); w.Code == 429 {
 				return w, taken, before

@@ -53,7 +53,7 @@ func dial(t testing.TB, address string) net.Conn {
 	if err != nil {
 		t.Fatal(err)
 	}
-	connection.SetDeadline(time.Now().Add(testkit.Longest))
+	connection.SetDeadline(time.Now().Add(testkit.Patience))
 	t.Cleanup(func() { connection.Close() })
 	return connection
 }
@@ -245,7 +245,7 @@ func TestSlowClients(t *testing.T) {
 	for what := range slow {
 		left[what] = true
 	}
-	for until := time.After(testkit.Longest); len(left) > 0; {
+	for until := time.After(testkit.Patience); len(left) > 0; {
 		select {
 		case what := <-ended:
 			delete(left, what)

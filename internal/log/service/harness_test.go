@@ -127,7 +127,7 @@ func ends(t testing.TB, l *service.Log) {
 // eventually waits until a condition is true.
 func eventually(t testing.TB, what string, condition func() bool) {
 	t.Helper()
-	for until := time.Now().Add(testkit.Longest); !condition(); time.Sleep(time.Millisecond) {
+	for until := time.Now().Add(testkit.Patience); !condition(); time.Sleep(time.Millisecond) {
 		if time.Now().After(until) {
 			t.Fatalf("this does not happen: %s", what)
 		}
