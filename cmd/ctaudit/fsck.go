@@ -1,10 +1,3 @@
-// Command ctfsck checks a log by what it published in a folder or a bucket: ctfsck FOLDER|s3://.. KEY.PEM [ANSWERS..].
-// KEY.PEM has the log's public key. A file of answers is one that ctload --answers wrote. Each of its lines is a JSON
-// object with the fields of judge.Answer. ctfsck prints what it saw. If something is wrong, it prints that, and its
-// status is 1.
-//
-// ctfsck evidence FOLDER KEY.PEM checks the evidence against a log that a monitor stored in a folder. It prints what
-// the files show, and what must be believed in addition. The status is 1 if they do not show what evidence.json says.
 package main
 
 import (
@@ -12,18 +5,18 @@ import (
 	"context"
 	"encoding/json"
 	"encoding/pem"
+	"errors"
 	"fmt"
+	"io"
 	"os"
 	"strings"
 
 	"wagtenib/internal/audit/judge"
 	"wagtenib/internal/blob"
-	"wagtenib/internal/command/version"
 )
 
-const (
-	usage = "ctfsck FOLDER|s3://.. KEY.PEM [ANSWERS..]\nctfsck evidence FOLDER KEY.PEM\n"
-	page  = `ctfsck FOLDER|s3://.. KEY.PEM [ANSWERS..]
+// fsckPage is what `ctaudit fsck --help` prints.
+const fsckPage = `ctaudit fsck FOLDER|s3://.. KEY.PEM [ANSWERS..]
 
 Checks a log by what it published. It prints what it saw, or what is wrong, with status 1.
 
@@ -31,82 +24,82 @@ Checks a log by what it published. It prints what it saw, or what is wrong, with
   KEY.PEM         the file with the log's public key in PEM
   ANSWERS         a file that ctload --answers wrote. Each timestamp in it must be that of the log, and have its entry
 
-ctfsck evidence FOLDER KEY.PEM
+ctaudit sct --sct checks a single answer of add-chain.`
 
-Checks evidence against a log. It prints what the files show, and what must be believed in addition. The status is 1 if
-they do not show what evidence.json says.
-
-  FOLDER          the folder with the files that ctwatch evidence or ctwatch --evidence wrote
-  KEY.PEM         the file with the log's public key in PEM, from a log list and not from FOLDER
-
-ctfsck --version prints the version. ctwatch audit --sct checks a single answer of add-chain.
-`
-)
-
-// asksForHelp reports whether the arguments of the command line, or those after "evidence", ask for help.
-func asksForHelp(arguments []string) bool {
-	if len(arguments) > 1 && arguments[0] == "evidence" {
-		arguments = arguments[1:]
+// runFsck judges the folder or the bucket of a log, and prints what it saw.
+func runFsck(ctx context.Context, arguments []string, out io.Writer) error {
+	arguments, err := parseFlags(flagsOf("fsck"), fsckPage, arguments, 2, -1, out)
+	if err != nil {
+		return err
 	}
-	if len(arguments) == 0 {
-		return false
+	if err := checkExists(arguments[0]); !isBucket(arguments[0]) && err != nil {
+		return err
 	}
-	return arguments[0] == "help" || arguments[0] == "--help" || arguments[0] == "-help" || arguments[0] == "-h"
+	copied, err := os.MkdirTemp("", "ctaudit")
+	if err != nil {
+		return err
+	}
+	defer os.RemoveAll(copied)
+	report, err := untilEnded(ctx, func() (judge.Report, error) {
+		return judgeLog(ctx, arguments[0], arguments[1], arguments[2:], copied)
+	})
+	if err != nil {
+		return err
+	}
+	_, err = fmt.Fprintf(out, "%d heads, %d leaves (%d repeats), %d tiles, %d issuers, %d timestamps: all as they have to be\n",
+		report.Heads, report.Leaves, report.Repeats, report.Tiles, report.Issuers, report.Answers)
+	return err
 }
 
-func main() {
-	if version.Asked(os.Args[1:]) {
-		fmt.Print(version.Line("ctfsck"))
-		return
+// errInterrupted means that a signal ended the command before it came to an outcome.
+var errInterrupted = errors.New("ctaudit: a signal ended it before the outcome was known")
+
+// untilEnded returns the outcome of a function, or errInterrupted if the context ends first. The judge knows no context.
+func untilEnded[T any](ctx context.Context, do func() (T, error)) (T, error) {
+	type outcome struct {
+		value T
+		err   error
 	}
-	if asksForHelp(os.Args[1:]) {
-		fmt.Print(page)
-		return
+	done := make(chan outcome, 1)
+	go func() {
+		value, err := do()
+		done <- outcome{value, err}
+	}()
+	select {
+	case of := <-done:
+		return of.value, of.err
+	case <-ctx.Done():
+		var none T
+		return none, errInterrupted
 	}
-	if len(os.Args) < 3 {
-		fmt.Fprint(os.Stderr, usage+"ctfsck --help says what each argument is.\n")
-		os.Exit(2)
+}
+
+// isBucket reports whether an argument is the address of a bucket, and not a folder.
+func isBucket(argument string) bool { return strings.HasPrefix(argument, "s3://") }
+
+// checkExists returns an error if a file or folder that the command line names does not exist.
+func checkExists(path string) error {
+	if _, err := os.Stat(path); err != nil {
+		return fmt.Errorf("%w: %w", errUsage, err)
 	}
-	if len(os.Args) == 4 && os.Args[1] == "evidence" {
-		shown, err := judgeEvidence(os.Args[2], os.Args[3])
-		if err != nil {
-			fmt.Fprintln(os.Stderr, err)
-			os.Exit(1)
-		}
-		fmt.Println(shown)
-		return
-	}
-	report, err := judgeLog(os.Args[1], os.Args[2], os.Args[3:])
-	if err != nil {
-		fmt.Fprintln(os.Stderr, err)
-		os.Exit(1)
-	}
-	fmt.Printf("%d heads, %d leaves (%d repeats), %d tiles, %d issuers, %d timestamps: all as they have to be\n",
-		report.Heads, report.Leaves, report.Repeats, report.Tiles, report.Issuers, report.Answers)
+	return nil
 }
 
 // readKey returns the public key in a PEM file, as DER.
 func readKey(keyFile string) ([]byte, error) {
 	content, err := os.ReadFile(keyFile)
 	if err != nil {
-		return nil, err
+		return nil, fmt.Errorf("%w: %w", errUsage, err)
 	}
 	block, _ := pem.Decode(content)
 	if block == nil || block.Type != "PUBLIC KEY" {
-		return nil, fmt.Errorf("ctfsck: %s is not a public key in PEM", keyFile)
+		return nil, fmt.Errorf("%w: %s is not a public key in PEM", errUsage, keyFile)
 	}
 	return block.Bytes, nil
 }
 
-func judgeEvidence(folder, keyFile string) (string, error) {
-	key, err := readKey(keyFile)
-	if err != nil {
-		return "", err
-	}
-	return judge.Evidence(folder, key)
-}
-
-func judgeLog(folder, keyFile string, answerFiles []string) (judge.Report, error) {
+// judgeLog judges a folder, or a bucket, which it copies into another folder first.
+func judgeLog(ctx context.Context, folder, keyFile string, answerFiles []string, copied string) (judge.Report, error) {
 	key, err := readKey(keyFile)
 	if err != nil {
 		return judge.Report{}, err
@@ -117,13 +110,8 @@ func judgeLog(folder, keyFile string, answerFiles []string) (judge.Report, error
 			return judge.Report{}, err
 		}
 	}
-	if strings.HasPrefix(folder, "s3://") {
-		copied, err := os.MkdirTemp("", "ctfsck")
-		if err != nil {
-			return judge.Report{}, err
-		}
-		defer os.RemoveAll(copied)
-		if err := fetch(folder, copied); err != nil {
+	if isBucket(folder) {
+		if err := fetch(ctx, folder, copied); err != nil {
 			return judge.Report{}, err
 		}
 		folder = copied
@@ -137,8 +125,7 @@ func judgeLog(folder, keyFile string, answerFiles []string) (judge.Report, error
 }
 
 // fetch copies a bucket into a folder, except its staged batches.
-func fetch(address, folder string) error {
-	ctx := context.Background()
+func fetch(ctx context.Context, address, folder string) error {
 	objects, err := blob.ObjectsAt(ctx, address)
 	if err != nil {
 		return err
@@ -154,7 +141,7 @@ const maxLine = 1 << 20
 func readAnswers(name string, answers []judge.Answer) ([]judge.Answer, error) {
 	file, err := os.Open(name)
 	if err != nil {
-		return nil, err
+		return nil, fmt.Errorf("%w: %w", errUsage, err)
 	}
 	defer file.Close()
 	lines := bufio.NewScanner(file)
@@ -168,16 +155,16 @@ func readAnswers(name string, answers []judge.Answer) ([]judge.Answer, error) {
 			err = json.Unmarshal(lines.Bytes(), &fields)
 		}
 		if err != nil {
-			return nil, fmt.Errorf("ctfsck: %s: not an answers file of ctload: line %d: %w", name, number, err)
+			return nil, fmt.Errorf("ctaudit: %s: not an answers file of ctload: line %d: %w", name, number, err)
 		}
 		if field := missing(fields); field != "" {
-			return nil, fmt.Errorf("ctfsck: %s: not an answers file of ctload: line %d has no field %s "+
-				"(ctwatch audit --sct checks an answer of add-chain)", name, number, field)
+			return nil, fmt.Errorf("ctaudit: %s: not an answers file of ctload: line %d has no field %s "+
+				"(ctaudit sct --sct checks an answer of add-chain)", name, number, field)
 		}
 		answers = append(answers, a)
 	}
 	if err := lines.Err(); err != nil {
-		return nil, fmt.Errorf("ctfsck: %s: line %d: %w (a line has at most %d bytes)", name, number, err, maxLine)
+		return nil, fmt.Errorf("ctaudit: %s: line %d: %w (a line has at most %d bytes)", name, number, err, maxLine)
 	}
 	return answers, nil
 }

@@ -46,7 +46,7 @@ func FuzzSettings(f *testing.F) {
 		if len(s.names) == 0 || s.logs.pause < time.Second || s.times.silent < time.Minute || s.folder == "" {
 			t.Fatalf("%+v", s)
 		}
-		for _, log := range s.logs.only {
+		for _, log := range s.logs.Only {
 			if log.ID != sha256.Sum256(log.PublicKey) {
 				t.Fatalf("%+v", log)
 			}

@@ -2,7 +2,6 @@ package main
 
 import (
 	"crypto/ecdsa"
-	"crypto/ed25519"
 	"crypto/elliptic"
 	"crypto/rand"
 	"crypto/sha256"
@@ -12,7 +11,6 @@ import (
 	"encoding/base64"
 	"encoding/binary"
 	"encoding/pem"
-	"fmt"
 	"math/big"
 	"net/http"
 	"net/http/httptest"
@@ -95,9 +93,9 @@ func promisedAt(t *testing.T, log *testlog.Log, index, timestamp uint64) (file s
 func TestAuditsACertificate(t *testing.T) {
 	log := newTestLog(t, 300)
 	file, entry := promised(t, log, 300)
-	arguments := append([]string{"audit", file}, logArguments(t, log)...)
+	arguments := append([]string{"sct", file}, logArguments(t, log)...)
 	evidence := filepath.Join(t.TempDir(), "evidence")
-	status, out, faults := ctwatch(t, append(arguments, "--evidence", evidence)...)
+	status, out, faults := ctaudit(t, append(arguments, "--evidence", evidence)...)
 	if status != statusAccused || !strings.Contains(out, ": NEVER: the leaf is not among the 300") {
 		t.Errorf("without the entry: status %d: %s%s", status, out, faults)
 	}
@@ -106,11 +104,11 @@ func TestAuditsACertificate(t *testing.T) {
 	}
 	log.Add(entry)
 	log.Publish(301, uint64(time.Now().UnixMilli()))
-	if status, out, faults = ctwatch(t, arguments...); status != 0 || !strings.Contains(out,
+	if status, out, faults = ctaudit(t, arguments...); status != 0 || !strings.Contains(out,
 		": INCLUDED: the leaf is at 300 of 301") {
 		t.Errorf("with the entry: status %d: %s%s", status, out, faults)
 	}
-	if status, out, _ = ctwatch(t, append([]string{"audit", file}, logArguments(t, newTestLog(t,
+	if status, out, _ = ctaudit(t, append([]string{"sct", file}, logArguments(t, newTestLog(t,
 		1))...)...); status != statusUnknownLog {
 		t.Errorf("another log: status %d: %s", status, out)
 	}
@@ -118,13 +116,13 @@ func TestAuditsACertificate(t *testing.T) {
 		http.Error(w, "no", http.StatusForbidden)
 		return true
 	})
-	if status, out, _ = ctwatch(t, arguments...); status != statusUnread || !strings.Contains(out, "NO ANSWER") {
+	if status, out, _ = ctaudit(t, arguments...); status != statusUnread || !strings.Contains(out, "NO ANSWER") {
 		t.Errorf("a log that refuses: status %d: %s", status, out)
 	}
 }
 
 // TestAuditsByTheTime: the command accuses a log of a timestamp in the future, of an entry that is later than its head,
-// and of a deadline that is over under an old head. ctfsck confirms the evidence.
+// and of a deadline that is over under an old head. The command evidence confirms the evidence.
 func TestAuditsByTheTime(t *testing.T) {
 	now := uint64(time.Now().UnixMilli())
 	const hour = 3_600_000
@@ -143,7 +141,7 @@ func TestAuditsByTheTime(t *testing.T) {
 		}
 		log.Publish(log.Size(), times.head)
 		evidence := filepath.Join(t.TempDir(), "evidence")
-		status, out, faults := ctwatch(t, append([]string{"audit", file, "--evidence", evidence}, logArguments(t, log)...)...)
+		status, out, faults := ctaudit(t, append([]string{"sct", file, "--evidence", evidence}, logArguments(t, log)...)...)
 		if status != statusAccused || !strings.Contains(out, expected) {
 			t.Errorf("%q: status %d: %s%s", expected, status, out, faults)
 		}
@@ -153,7 +151,7 @@ func TestAuditsByTheTime(t *testing.T) {
 	}
 }
 
-// TestRefusesToAudit: audit refuses files and log lists that it cannot use, and says why.
+// TestRefusesToAudit: sct refuses files and log lists that it cannot use, and says why.
 func TestRefusesToAudit(t *testing.T) {
 	log := newTestLog(t, 1)
 	file, _ := promised(t, log, 0)
@@ -170,96 +168,13 @@ func TestRefusesToAudit(t *testing.T) {
 		text   string
 	}{plain: {statusFault, "has no timestamps"}, nonsense: {statusFault, "cannot be read"}, "/absent": {statusUsage,
 		"no such file"}} {
-		status, _, faults := ctwatch(t, append([]string{"audit", file}, logArguments(t, log)...)...)
+		status, _, faults := ctaudit(t, append([]string{"sct", file}, logArguments(t, log)...)...)
 		if status != expected.status || !strings.Contains(faults, expected.text) {
 			t.Errorf("%s: status %d: %s", file, status, faults)
 		}
 	}
-	if status, _, faults := ctwatch(t, "audit", plain, "--log-list", nonsense); status != statusUnread ||
+	if status, _, faults := ctaudit(t, "sct", plain, "--log-list", nonsense); status != statusUnread ||
 		!strings.Contains(faults, "log list") {
 		t.Errorf("no log list: status %d: %s", status, faults)
-	}
-}
-
-// TestComparesHeads: each head that others saw is compared with the log that signed it.
-func TestComparesHeads(t *testing.T) {
-	log := newTestLog(t, 300)
-	earlier, forked := log.Fork(100), log.Fork(300)
-	earlier.Publish(100, 5000)
-	forked.PublishRoot(300, 6000, [32]byte{1})
-	folder := t.TempDir()
-	must(t, os.WriteFile(filepath.Join(folder, "earlier"), earlier.Checkpoint(), 0o600))
-	arguments := append([]string{"compare", folder}, logArguments(t, log)...)
-	if status, out, faults := ctwatch(t, arguments...); status != 0 || !strings.HasPrefix(out,
-		"1 heads are consistent with their logs, 0 are not, 0 are not proved, and 0 are signed by no log") {
-		t.Errorf("status %d: %s%s", status, out, faults)
-	}
-	must(t, os.WriteFile(filepath.Join(folder, "other"), newTestLog(t, 1).Checkpoint(), 0o600))
-	must(t, os.WriteFile(filepath.Join(folder, "forked"), forked.Checkpoint(), 0o600))
-	evidence := filepath.Join(t.TempDir(), "evidence")
-	status, out, _ := ctwatch(t, append(arguments, "--evidence", evidence)...)
-	if status != statusAccused || !strings.Contains(out, "two roots of 300 leaves") ||
-		!strings.Contains(out, "1 are not, 0 are not proved, and 1 are signed by no log") {
-		t.Errorf("status %d: %s", status, out)
-	}
-	if _, err := judge.Evidence(filepath.Join(evidence, "1"), log.PublicKey()); err != nil {
-		t.Error(err)
-	}
-}
-
-// TestCosignsAndRequiresCosignatures: a run accepts a head, and a witness cosigns it. The head meets a policy only with
-// the witness's line.
-func TestCosignsAndRequiresCosignatures(t *testing.T) {
-	public, key, err := ed25519.GenerateKey(rand.Reader)
-	must(t, err)
-	full := append([]byte{4}, public...)
-	id := sha256.Sum256(append([]byte("w.example\n"), full...))
-	verifier := fmt.Sprintf("w.example+%x+%s", id[:4], base64.StdEncoding.EncodeToString(full))
-	server := httptest.NewServer(http.HandlerFunc(func(w http.ResponseWriter, r *http.Request) {
-		body := make([]byte, r.ContentLength)
-		if _, err := r.Body.Read(body); err != nil && err.Error() != "EOF" {
-			t.Error(err)
-		}
-		_, note, _ := strings.Cut(string(body), "\n\n")
-		text, _, _ := strings.Cut(note, "\n\n")
-		signed := ed25519.Sign(key, []byte("cosignature/v1\ntime 1800000000\n"+text+"\n"))
-		content := append(binary.BigEndian.AppendUint64(id[:4:4], 1_800_000_000), signed...)
-		fmt.Fprintf(w, "— w.example %s\n", base64.StdEncoding.EncodeToString(content))
-	}))
-	defer server.Close()
-	log := newTestLog(t, 300)
-	logged, folder := logArguments(t, log), filepath.Join(t.TempDir(), "store")
-	run := append([]string{"run", "--once", "--quiet", "--listen=", "--folder", folder, "--name", "a.example"},
-		logged...)
-	if status, out, faults := ctwatch(t, run...); status != 0 {
-		t.Fatalf("run: status %d: %s%s", status, out, faults)
-	}
-	cosigned := filepath.Join(t.TempDir(), "cosigned")
-	arguments := append([]string{"cosign", server.URL + "," + verifier, "--folder", folder, "--into", cosigned},
-		logged...)
-	if status, out, faults := ctwatch(t, arguments...); status != 0 || !strings.Contains(out,
-		"300 leaves are cosigned by w.example") {
-		t.Fatalf("cosign: status %d: %s%s", status, out, faults)
-	}
-	keys := filepath.Join(t.TempDir(), "witnesses")
-	must(t, os.WriteFile(keys, []byte(verifier+"\n"), 0o600))
-	with := append(run, "--witnesses", keys, "--quorum", "1")
-	if status, out, faults := ctwatch(t, with...); status != statusAccused {
-		t.Errorf("without the line: status %d: %s%s", status, out, faults)
-	}
-	if status, out, _ := ctwatch(t, "health", "--folder", folder); status != statusAccused ||
-		!strings.Contains(out, "the policy requires 1 of 1") {
-		t.Errorf("the health: status %d: %s", status, out)
-	}
-	content, err := os.ReadFile(cosigned)
-	must(t, err)
-	log.SetCheckpoint(content)
-	with[5] = filepath.Join(t.TempDir(), "another store")
-	if status, out, faults := ctwatch(t, with...); status != 0 {
-		t.Errorf("with the line: status %d: %s%s", status, out, faults)
-	}
-	if status, _, faults := ctwatch(t, append(run, "--quorum", "1")...); status != statusUsage ||
-		!strings.Contains(faults, "needs --witnesses") {
-		t.Errorf("a quorum without witnesses: status %d: %s", status, faults)
 	}
 }
