@@ -4,7 +4,6 @@ import (
 	"bufio"
 	"crypto/sha256"
 	"encoding/json"
-	"encoding/pem"
 	"errors"
 	"io"
 	"net/http"
@@ -109,11 +108,7 @@ func started(t *testing.T, arguments ...string) (*exec.Cmd, *bufio.Scanner) {
 // again. It continues to try, and prints only one line about the refusals of one server.
 func TestReportsTheFirstFailureAtOnce(t *testing.T) {
 	folder := t.TempDir()
-	certificate := filepath.Join(folder, "certificate")
-	must(t, os.WriteFile(certificate, pem.EncodeToMemory(&pem.Block{Type: "CERTIFICATE",
-		Bytes: testcert.NewAuthority(t).Issue("a.example").Certificate.Raw}), 0o600))
 	for _, arguments := range [][]string{{"show", "https://a.example", "1"},
-		{"audit", certificate, "--issuer", certificate},
 		{"run", "--once", "--name", "example.org", "--folder", folder}} {
 		list := serveRefusingList(t)
 		program, lines := started(t, append(arguments, "--log-list", list.address)...)
