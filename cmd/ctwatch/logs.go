@@ -91,7 +91,9 @@ func newFollower(settings logSettings, keeper watch.Keeper, lines *eventlog.Line
 		})
 	}
 	f := &follower{settings: settings, lines: lines, listed: listStatus{since: time.Now()}}
-	f.group = watch.NewGroup(keeper, watch.Options{FromStart: settings.fromStart, Pause: settings.pause, Client: client,
+	// A mirror has the log from its first entry on.
+	fromStart := settings.fromStart || settings.mirror != ""
+	f.group = watch.NewGroup(keeper, watch.Options{FromStart: fromStart, Pause: settings.pause, Client: client,
 		Policy: policy, Mirror: mirrors(settings.mirror, client), Heads: heads})
 	if settings.List == "" {
 		return f, nil

@@ -46,10 +46,11 @@ func (s served) add(a *testcert.Authority, one testcert.Issued) {
 
 // fill adds this number of made-up entries, and publishes a head with the current time.
 func (s served) fill(size int) {
+	now := uint64(time.Now().UnixMilli())
 	for i := range size {
-		s.Add(testlog.Entry{Timestamp: 1000, Certificate: []byte{0x30, 2, byte(i >> 8), byte(i)}})
+		s.Add(testlog.Entry{Timestamp: now, Certificate: []byte{0x30, 2, byte(i >> 8), byte(i)}})
 	}
-	s.Publish(s.Size(), uint64(time.Now().UnixMilli()))
+	s.Publish(s.Size(), now)
 }
 
 // setting returns the value of --log for the log.

@@ -99,7 +99,8 @@ func (s *settings) define(flags *flag.FlagSet) {
 	flags.DurationVar(&s.logs.pause, "pause", time.Minute, "time between two readings of a log's tree head")
 	flags.BoolVar(&s.logs.once, "once", false,
 		"read each log up to its newest head once, send what was found, and end: for cron")
-	flags.StringVar(&s.logs.mirror, "keep", "", "`folder` in which a copy of each tiled log is kept that can be served")
+	flags.StringVar(&s.logs.mirror, "keep", "", "`folder` in which a mirror of each tiled log is kept, from its first entry on, in a folder of the log's ID. With "+
+		"it, --name is not needed")
 	flags.StringVar(&s.logs.accepted, "accepted-folder", "",
 		"`folder` that gets the head of each tiled log that was accepted last, for a witness (ctwitness --accepted-by)")
 	s.logs.policy.define(flags)
@@ -138,10 +139,11 @@ func appendTo(list *[]string) func(string) error {
 	}
 }
 
-// validate returns an error if a setting is missing or wrong. It also sets the default log list.
+// validate returns an error if a setting is missing or wrong. It also sets the default log list, and that no alert is
+// caused if no name is watched.
 func (s *settings) validate() error {
 	switch {
-	case len(s.names) == 0:
+	case len(s.names) == 0 && s.logs.mirror == "":
 		return errors.New("there is no watched name (write --name example.org, or --names FILE)")
 	case s.logs.pause < time.Second:
 		return errors.New("--pause must be at least 1s, so that logs are not asked too often")
@@ -155,6 +157,10 @@ func (s *settings) validate() error {
 	if !slices.Contains([]watchstore.Unread{watchstore.UnreadAll, watchstore.UnreadMentioned, watchstore.UnreadNone},
 		watchstore.Unread(s.unread)) {
 		return fmt.Errorf("--unread %q is none of all, mentioned and none", s.unread)
+	}
+	if len(s.names) == 0 {
+		// A mirror without names has nobody who owns a certificate.
+		s.unread = string(watchstore.UnreadNone)
 	}
 	if s.logs.List == "" && len(s.logs.Only) == 0 {
 		s.logs.List = logflags.DefaultList
