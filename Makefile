@@ -51,7 +51,7 @@ serve: ## serves a log over HTTP at PORT=8618 out of the folder FOLDER=ct-log, b
 serve-witness: ## serves a witness at WITNESS_PORT=8640 out of WITNESS=ct-witness, of the log of make serve in FOLDER=ct-log, by ctwitness, which it builds likewise
 	@cmd/serve-witness.sh "$(WITNESS:~/%=$(HOME)/%)" "$(WITNESS_PORT)" "$(FOLDER:~/%=$(HOME)/%)"
 
-service: ## builds cmd/out/ctserve, the service in Go (docs/OPERATING.md), ctwitness, ctwatch, and ctfsck, ctload and ctfollow
+service: ## builds cmd/out/ctserve, the service in Go (docs/OPERATING.md), ctwitness, ctwatch, ctaudit and ctload
 	@cmd/build.sh build
 
 service-engines: ## runs the Go tests with engines on loopback: those of etcd, PostgreSQL and Ceph that are installed
@@ -60,7 +60,7 @@ service-engines: ## runs the Go tests with engines on loopback: those of etcd, P
 service-race: ## runs the Go tests, built to tell of data races (go test -race)
 	@cmd/build.sh test -race -timeout 2h
 
-service-audit: ## has ctserve audit look for MINUTES=60 at a log on a folder that is killed each minute
+service-audit: ## has ctaudit probe look for MINUTES=60 at a log on a folder that is killed each minute
 	@deps/fetch.sh
 	@PYTHONDONTWRITEBYTECODE=1 tests/soak.py --folder --kills --minutes $(or $(MINUTES),60)
 

@@ -3,7 +3,7 @@
 
     monitor.py [--entries 20000] [--turns 3]
 
-ctload fills the log with that many certificates. Then each reader starts with an empty folder and reads the log from its first entry to its head: ctfollow by its tiles, which checks
+ctload fills the log with that many certificates. Then each reader starts with an empty folder and reads the log from its first entry to its head: tests/clients/tlog by its tiles, which checks
 them against the checkpoint by golang.org/x/mod/sumdb/tlog and looks at no certificate (plain reading); ctwatch by its tiles, and by get-entries; and certspotter,
 where it is installed, by get-entries. The monitors watch for a name that no certificate has. certspotter does not end by itself: its time ends when its folder
 says that it verified the head.
@@ -47,10 +47,10 @@ def ended(command, said):
     return time.monotonic() - began, now.children_user + now.children_system - used.children_user - used.children_system
 
 
-def by_ctfollow(log, folder, _):
-    took = ended([OUT / "ctfollow", "--nodes", log.url, "--origin", ORIGIN, "--key", log.folder / "log.pem", "--once"], folder / "said")
-    if " entries" not in (folder / "said").read_text():
-        stop(f"ctfollow read nothing: {(folder / 'said').read_text()}")
+def by_tlog(log, folder, size):
+    took = ended([log.folder / "tlog", "-origin", ORIGIN, "-key", log.folder / "log.pem", "-once", log.url], folder / "said")
+    if f"{size} entries were read" not in (folder / "said").read_text():
+        stop(f"tlog read another tree: {(folder / 'said').read_text()}")
     return took
 
 
@@ -90,7 +90,7 @@ def main():
     parser.add_argument("--entries", type=int, default=20000)
     parser.add_argument("--turns", type=int, default=3)
     words = parser.parse_args()
-    readers = {"plain reading (ctfollow), by tiles": by_ctfollow, "ctwatch, by tiles": by_ctwatch("tiled+"), "ctwatch, by get-entries": by_ctwatch("")}
+    readers = {"plain reading (tlog), by tiles": by_tlog, "ctwatch, by tiles": by_ctwatch("tiled+"), "ctwatch, by get-entries": by_ctwatch("")}
     if shutil.which("certspotter"):
         readers["certspotter, by get-entries"] = by_certspotter
     figures, others = {name: [] for name in readers}, []
@@ -98,6 +98,7 @@ def main():
         work = pathlib.Path(work)
         log = Log(work / "log", submitters="127.0.0.1/32=5000", read_rate_per_address=0, refresh_interval="1h", max_merge_delay="24h")
         try:
+            run(TESTS.parent / "deps" / "go", "-C", TESTS.parent, "build", "-o", log.folder / "tlog", "./tests/clients/tlog")
             load(log, 256, "--most", words.entries)
             size = size_of(log)
             for number in range(words.turns):

@@ -9,7 +9,7 @@ deps/fetch.sh
 what=${1:-test}
 shift || true
 export GO111MODULE=on GOTOOLCHAIN=local GOWORK=off CGO_ENABLED=1
-programs=(ctserve ctfsck ctload ctfollow ctwitness ctwatch)
+programs=(ctserve ctaudit ctload ctwitness ctwatch)
 main_packages=("${programs[@]/#/./cmd/}")
 # The tests stop nodes and signers between what they do, for which no program is built (phases_hooked.go). TAGS adds the tags of a build option
 # (bindings/go/wagtenib/README.md).

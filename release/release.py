@@ -27,8 +27,8 @@ import time
 ROOT = pathlib.Path(__file__).resolve().parent.parent
 PROGRAMS = {"ctlog": "make demo"}
 # The services that contain the proved code of dist/.
-LINKED = ("ctserve", "ctwatch", "ctwitness")
-SERVICE = ("ctserve", "ctfsck", "ctfollow", "ctload", "ctwitness", "ctwatch")
+LINKED = ("ctaudit", "ctserve", "ctwatch", "ctwitness")
+SERVICE = ("ctserve", "ctaudit", "ctload", "ctwitness", "ctwatch")
 UNITS = ("ctserve@.service", "ctserve-signer@.service", "ctwitness@.service")
 WATCH_UNITS = ("ctwatch.service",)
 SHARED = (
@@ -50,15 +50,21 @@ PAGES = ("OPERATING", "ACCEPTED", "ARCHIVE", "AUDIT", "GUARD", "GROWTH", "TILES"
 PACKAGES = {
     "wagtenib": (
         "Certificate Transparency log with proved steps, guard and proofs",
-        "ctserve serves a log over HTTP (RFC 6962, C2SP static-ct-api), and ctwitness is a witness. Proved code in them decides what is appended, what is signed and what is cosigned; the rest of them, and what judges, reads and loads a log, is not proved. ctlog, a log in memory, is proved.",
+        "ctserve serves a log over HTTP (RFC 6962, C2SP static-ct-api), and ctwitness is a witness. Proved code in them decides what is appended, what is signed and what is cosigned; the rest of them, and what loads a log, is not proved. ctlog, a log in memory, is proved.",
         "adduser, libsqlite3-0, procps",
-        "ca-certificates, nginx | httpd, openssl",
+        "ca-certificates, ctaudit, nginx | httpd, openssl",
     ),
     "ctwatch": (
         "alerts to certificates for your names in Certificate Transparency logs",
         "ctwatch follows the logs of a log list, and alerts by mail, webhook or command to each certificate for the names of its owner. Proved code in it decides which names a certificate has, and whether a log kept its promises; the rest of it is not proved.",
         "adduser, ca-certificates, libsqlite3-0",
-        "default-mta | mail-transport-agent",
+        "ctaudit, default-mta | mail-transport-agent",
+    ),
+    "ctaudit": (
+        "audits of Certificate Transparency logs",
+        "ctaudit asks logs whether they keep the promises in certificates, compares the tree heads that they show to others, checks evidence against a log, looks at a log from outside as the monitor of a browser's programme does, and judges what a log published. Proved code in it decides whether proofs hold; the rest of it is not proved.",
+        "ca-certificates, libsqlite3-0",
+        "",
     ),
     "libwagtenib-dev": (
         "proved checks of Certificate Transparency proofs, for C",
@@ -79,6 +85,10 @@ OVERRIDES = {
         "maintainer-script-calls-systemctl": "logs and witnesses are instances of templates, which deb-systemd-invoke doesn't start anew by a pattern",
     },
     "ctwatch": {
+        "unstripped-binary-or-object": UNSTRIPPED, "no-manual-page": NO_PAGES,
+        "hardening-no-pie": "programs in Go are linked at fixed addresses, as Go does where nothing else is said",
+    },
+    "ctaudit": {
         "unstripped-binary-or-object": UNSTRIPPED, "no-manual-page": NO_PAGES,
         "hardening-no-pie": "programs in Go are linked at fixed addresses, as Go does where nothing else is said",
     },
@@ -182,13 +192,16 @@ class Release:
             found[f"{doc}/WATCH.md"] = (self.documents()["WATCH.md"].read_bytes(), 0o644)
             found.update(installed_units(WATCH_UNITS))
             found["etc/ctwatch.conf"] = ((ROOT / "release" / "ctwatch.conf").read_bytes(), 0o644)
+        elif name == "ctaudit":
+            found["usr/bin/ctaudit"] = (self.programs["ctaudit"].read_bytes(), 0o755)
+            found[f"{doc}/AUDIT.md"] = (self.documents()["AUDIT.md"].read_bytes(), 0o644)
         elif name == "libwagtenib-dev":
             found.update(self.library_files(f"usr/{LIBRARY}"))
             found[f"usr/{LIBRARY}/pkgconfig/wagtenib.pc"] = (self.pkg_config("/usr").replace("${prefix}/lib", f"${{prefix}}/{LIBRARY}").encode(), 0o644)
             found["usr/include/wagtenib.h"] = ((ROOT / "include" / "wagtenib.h").read_bytes(), 0o644)
             found[f"{doc}/LINKING.md"] = (self.documents()["LINKING.md"].read_bytes(), 0o644)
         else:
-            found.update({f"usr/bin/{command}": (path.read_bytes(), 0o755) for command, path in self.programs.items() if command != "ctwatch"})
+            found.update({f"usr/bin/{command}": (path.read_bytes(), 0o755) for command, path in self.programs.items() if command not in PACKAGES})
             found.update(installed_units(UNITS))
             found.update({f"usr/share/wagtenib/{file}": (path.read_bytes(), 0o644) for file, path in self.shared().items()})
             found.update({f"{doc}/{page}": (path.read_bytes(), 0o644) for page, path in self.documents().items() if page != "LICENSE"})
@@ -215,7 +228,7 @@ class Release:
 
     def libc(self, name):
         """The newest version of libc that one of the package's programs asks for, by what objdump reads."""
-        alone = {"ctwatch": [self.programs["ctwatch"]]}
+        alone = {it: [path] for it, path in self.programs.items() if it in PACKAGES}
         paths = {**alone, "libwagtenib-dev": [self.linked.with_suffix(".so")]}.get(name) or [path for it, path in self.programs.items() if it not in alone]
         asked = [tuple(map(int, it.split("."))) for path in paths for it in re.findall(r"GLIBC_([0-9.]+)\)", run("objdump", "-T", path).stdout)]
         return ".".join(map(str, max(asked, default=(2, 34))))

@@ -1,8 +1,8 @@
 #!/usr/bin/env bash
 # Has clients of others use a log of ctserve over HTTP: certspotter follows it by RFC 6962's calls to verified heads of 30 and, from there,
-# of 50 entries; tests/clients/client.go submits five more by Google's client library, and checks what is answered; and meanwhile ctfollow
-# follows its tiles, which golang.org/x/mod/sumdb/tlog reads, to the last leaf and head. ctwatch watches it by its tiles and by the API of RFC 6962, at 30
-# entries and at the end. Which certificates certspotter and ctwatch report to an owner is compared (tests/names/beside.py). At the end ctfsck judges the
+# of 50 entries; tests/clients/client.go submits five more by Google's client library, and checks what is answered; and meanwhile tests/clients/tlog
+# follows its tiles with golang.org/x/mod/sumdb to the last leaf and head. ctwatch watches it by its tiles and by the API of RFC 6962, at 30
+# entries and at the end. Which certificates certspotter and ctwatch report to an owner is compared (tests/names/beside.py). At the end ctaudit judges the
 # log from its folder. It needs certspotter, openssl and curl. It
 # says what it leaves out.
 set -eu
@@ -48,7 +48,8 @@ for _ in $(seq 600); do
 done
 address=$(sed -n 's/.*"event":"listening".*"address":"\([^"]*\)".*/\1/p' "$work/ctserve.told" | head -n 1)
 base=http://$address/
-"$here/../cmd/out/ctfollow" --nodes "http://$address" --origin "$origin" --key "$work/log.pem" --every 200ms >"$work/ctfollow.told" 2>&1 &
+"$here/../deps/go" -C "$here/.." build -o "$work/tlog" ./tests/clients/tlog
+"$work/tlog" -origin "$origin" -key "$work/log.pem" -every 200ms "http://$address" >"$work/tlog.told" 2>&1 &
 reader=$!
 running+=" $reader"
 
@@ -138,13 +139,13 @@ done
 "$work/client" -key "$work/log.pem" "$base" "$work"/certificate.5[1-5] || fail "Google's client library doesn't take what is answered"
 
 for _ in $(seq 300); do
-  grep -q ": $size entries, " "$work/ctfollow.told" && break
-  kill -0 "$reader" 2>/dev/null || fail "ctfollow ended"
+  grep -q ": $size entries, " "$work/tlog.told" && break
+  kill -0 "$reader" 2>/dev/null || fail "tlog ended"
   sleep 0.2
 done
-kill "$reader" && wait "$reader" || fail "ctfollow didn't end well"
-heads=$(grep -c 'consistent, and all leaves are there$' "$work/ctfollow.told")
-grep -q "^$size entries were read, and all was right$" "$work/ctfollow.told" || fail "ctfollow hasn't read $size entries"
+kill "$reader" && wait "$reader" || fail "tlog didn't end well"
+heads=$(grep -c 'consistent, and all leaves are there$' "$work/tlog.told")
+grep -q "^$size entries were read, and all was right$" "$work/tlog.told" || fail "tlog hasn't read $size entries"
 echo "x/mod's tlog read $heads heads, each consistent with the one before, and all $size leaves."
 watch "$size"
 for kind in tiled ""; do
@@ -153,4 +154,4 @@ for kind in tiled ""; do
 done
 echo "ctwatch watched it by its tiles and by the API of RFC 6962, at 30 and $size entries."
 kill "${running%% *}" && wait "${running%% *}" || fail "ctserve didn't end well"
-"$here/../cmd/out/ctfsck" "$work/log/objects" "$work/log.pem"
+"$here/../cmd/out/ctaudit" fsck "$work/log/objects" "$work/log.pem"

@@ -3,7 +3,7 @@
 # over them, WITNESSES=3 witnesses of its heads (0 for none), a loader and a reader.
 #   cluster.sh start FOLDER [PORT]   starts it, or continues the one that was stopped there, and says where to look
 #   cluster.sh status FOLDER         says what runs and what it said last
-#   cluster.sh stop FOLDER           ends it; ctfsck judges what it published and answered
+#   cluster.sh stop FOLDER           ends it; ctaudit judges what it published and answered
 # ENGINES="postgres s3" keeps the lock in PostgreSQL instead. ENGINES="" keeps all of the log in the folder, which one node can use. FRONT=yes has nginx in front of the nodes, with
 # release/nginx/ctserve.nginx.conf. RATE=20 is how many submissions the loader sends a second, 0 as many as are answered; LOAD=no starts neither it nor the reader.
 # BUILD=no takes the programs of cmd/out as they are.
@@ -214,7 +214,11 @@ start() {
   done
   touch "$folder/made"
   [ ! -e "$folder/nginx/conf" ] || PATH=$PATH:/usr/sbin launch front nginx -p "$folder/nginx" -c "$folder/nginx/conf"
-  [ "${LOAD:-yes}" != yes ] || launch reader "$programs/ctfollow" --nodes "$all" --origin "$origin" --key "$folder/log.pem"
+  if [ "${LOAD:-yes}" = yes ]; then
+    [ -x "$folder/tlog" ] || "$here/../deps/go" -C "$here/.." build -o "$folder/tlog" ./tests/clients/tlog
+    # shellcheck disable=SC2086
+    launch reader "$folder/tlog" -origin "$origin" -key "$folder/log.pem" ${all//,/ }
+  fi
   cat <<END_OF_TEXT
 A log at ${all//,/, } runs:
   page          ${all%%,*}/
@@ -282,7 +286,7 @@ stop() {
   tail -qn 1 "$folder/loader.log" "$folder/reader.log" 2>/dev/null || true
   addresses
   touch "$folder/answers"
-  "$programs/ctfsck" "$bucket" "$folder/log.pem" "$folder/answers" || status=$?
+  "$programs/ctaudit" fsck "$bucket" "$folder/log.pem" "$folder/answers" || status=$?
   "$here/engines.sh" stop "$folder/engines"
   return "$status"
 }

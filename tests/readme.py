@@ -127,10 +127,10 @@ class Page:
 HERE, BARE, BY_HAND = "readme.py", "make bare", "by hand"
 # The commands of the other pages, each by how it begins, and what runs it.
 ELSEWHERE = {
-    "docs/ACCEPTED.md": {"make serve": HERE, "cmd/out/ctserve audit": HERE, "openssl ecparam": BARE, "openssl req -x509 -new": BARE, "systemctl reload": BARE, "ctserve list-entry": BARE,
-                         "ctserve audit https": BARE, "ctserve roots": BARE},
+    "docs/ACCEPTED.md": {"make serve": HERE, "cmd/out/ctaudit probe": HERE, "openssl ecparam": BARE, "openssl req -x509 -new": BARE, "systemctl reload": BARE, "ctserve list-entry": BARE,
+                         "ctaudit probe https": BARE, "ctserve roots": BARE},
     "docs/ARCHIVE.md": {"": BARE},
-    "docs/AUDIT.md": {"cat ct-log/leaf.pem": HERE, "curl -s -d @ct-log/chain.json": HERE, "cmd/out/ctwatch audit": HERE},
+    "docs/AUDIT.md": {"cat ct-log/leaf.pem": HERE, "curl -s -d @ct-log/chain.json": HERE, "cmd/out/ctaudit sct": HERE},
     "docs/LINES.md": {"crates/ctlog/out/ctlog": HERE},
     "docs/OPERATING.md": {"install -m 600": BARE, **dict.fromkeys(("make service", "install ", "adduser "), BY_HAND), "": BARE},
     "docs/WATCH.md": {"make serve": HERE, "curl -s -d @ct-log/chain.json": HERE, "cmd/out/ctwatch run --once": HERE, "openssl req": HERE, "openssl x509": HERE, "printf": HERE,
@@ -139,7 +139,7 @@ ELSEWHERE = {
     "examples/link/README.md": {"": BY_HAND},
     "release/README.md": {"apt-get install": BARE, "": BY_HAND},
     "docs/SERVICE.md": {**dict.fromkeys(("make deps", "make service-engines", "make test"), BY_HAND), "make service": HERE, "openssl genpkey": BARE, "cp 2027h1.pem": BARE,
-                        "cat > /etc/ctwitness/a.conf": BARE, "runuser -u ctwitness": BARE, "systemctl": BARE, "ctwatch cosign": BARE, "apt-get install": BARE,
+                        "cat > /etc/ctwitness/a.conf": BARE, "runuser -u ctwitness": BARE, "systemctl": BARE, "ctaudit cosign": BARE,
                         "(printf '{\"chain\":['": HERE, "curl -s -d @chain.json": HERE, "curl -s '127.0.0.1:8618/ct/v1/get-entr": HERE},
 }
 
@@ -220,13 +220,13 @@ def main():
             page.run(next(command for command in watching if command.startswith("curl")), 0, SIGNED)
             # (in a folder of its own: the store of README.md's ctwatch has the alert already)
             watches = next(command for command in watching if command.startswith("cmd/out/ctwatch run"))
-            audits = next(command for command in commands(ROOT / "docs" / "ACCEPTED.md") if command.startswith("cmd/out/ctserve audit"))
+            audits = next(command for command in commands(ROOT / "docs" / "ACCEPTED.md") if command.startswith("cmd/out/ctaudit probe"))
             page.run(audits, 0, AUDITED)
             page.run(watches.replace("ctwatch run", "ctwatch run --folder another-store"), 8, ALERT)
             for command in watching[watching.index(watches) + 1 :]:
                 page.run(command, 0, SIGNED if command.startswith("curl") else "")
             for command in commands(ROOT / "docs" / "AUDIT.md"):
-                page.run(command, 0, INCLUDED if "ctwatch audit" in command else "")
+                page.run(command, 0, INCLUDED if "ctaudit sct" in command else "")
             # (chain.pem is that of AUDIT.md)
             for command in commands(ROOT / "docs" / "SERVICE.md"):
                 if "chain.json" in command or "/ct/v1/" in command:

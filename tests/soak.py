@@ -5,10 +5,10 @@
 
 tests/cluster.sh runs the log: three nodes over etcd, PostgreSQL and Ceph's S3, or with --folder one node over a folder, with a signer, three witnesses, a
 loader and a reader. Nodes, signer, witnesses and engines are killed (SIGKILL) or paused (SIGSTOP, SIGCONT). Two members of etcd may be paused at once. With
---kills only nodes are killed, one in turn each minute, and several nodes have nginx in front of them. Then the bounds of `ctserve audit` on availability and
+--kills only nodes are killed, one in turn each minute, and several nodes have nginx in front of them. Then the bounds of `ctaudit probe` on availability and
 latency must hold, too.
 
-Four judge what happened: `ctserve audit` all the time; ctfollow, which reads the whole log; ctfsck, which compares all that was published, and all that was
+Four judge what happened: `ctaudit probe` all the time; tests/clients/tlog, which reads the whole log; `ctaudit fsck`, which compares all that was published, and all that was
 answered, at the end; and the witnesses. No process may take more than MEMORY bytes, panic, or not start again. The seed fixes the choices, and is printed.
 Their effect depends on the time. If something is wrong, the status is 1, and the folder has the output of all processes.
 """
@@ -154,12 +154,12 @@ class Soak:
         say(f"{what}, {how}")
 
     def audit(self):
-        """Starts `ctserve audit` of the first node, or of nginx in front of all."""
+        """Starts `ctaudit probe` of the first node, or of nginx in front of all."""
         entry = self.work / "entry.json"
         entry.write_bytes(subprocess.run([CTSERVE, "list-entry", "--config", self.work / "node-0.conf", "--key", self.work / "log.pem", "--operator", "An operator", "--email", "log@example.org"],
                                          stdout=subprocess.PIPE, check=True).stdout)  # fmt: skip
         port = self.port + 29 if self.environment.get("FRONT") else self.port
-        words = [CTSERVE, "audit", f"http://127.0.0.1:{port}", "--list-entry", entry, "--issuer", self.work / "root.pem", "--issuer-key", self.work / "root.key",
+        words = [ROOT / "cmd" / "out" / "ctaudit", "probe", f"http://127.0.0.1:{port}", "--list-entry", entry, "--issuer", self.work / "root.pem", "--issuer-key", self.work / "root.key",
                  "--wanted-roots", self.work / "root.pem", "--for", f"{self.options.minutes}m", "--poll-interval", "1s", "--submit-interval", "5s",
                  "--report", self.work / "report"]  # fmt: skip
         if not self.options.kills:
@@ -186,7 +186,7 @@ class Soak:
     def judge(self, audit):
         self.start()
         if audit.returncode:
-            self.fail(f"ctserve audit: {' / '.join((self.work / 'audit.log').read_text().splitlines()[-5:])} ({self.work}/report)")
+            self.fail(f"ctaudit probe: {' / '.join((self.work / 'audit.log').read_text().splitlines()[-5:])} ({self.work}/report)")
         if self.cluster("stop"):
             self.fail(f"what was published or answered: {' / '.join((self.work / 'cluster.log').read_text().splitlines()[-3:])}")
         for path in self.work.glob("*.log"):

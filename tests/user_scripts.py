@@ -71,7 +71,7 @@ def try_release(folder):
     if (folder / "none").exists():
         fail("release.py makes something of nothing")
     programs = {name: folder / "built" / name / "out" / name for name in ("ctlog",)}
-    programs.update({name: folder / "service" / name for name in ("ctserve", "ctfsck", "ctfollow", "ctload", "ctwitness", "ctwatch")})
+    programs.update({name: folder / "service" / name for name in ("ctserve", "ctaudit", "ctload", "ctwitness", "ctwatch")})
     library = {f"libwagtenib.{end}": folder / "built" / "libwagtenib" / "out" / "link" / f"libwagtenib.{end}" for end in ("a", "so")}
     commit = subprocess.run(["git", "log", "-1", "--format=%H"], cwd=ROOT, capture_output=True, text=True).stdout[:12]
     texts = {name: f"#!/bin/sh\necho '{name} 0.1.0{f' (commit {commit})' if path.parent.name == 'service' else ''}'\n" for name, path in programs.items()}
@@ -80,7 +80,7 @@ def try_release(folder):
         path.write_text(texts.get(name, f"made up: {name}"))
         path.chmod(0o755)
     optional = f"ctserve 0.1.0 (commit {commit}, with SHA instructions, which are not proved)"
-    for name, other in (("ctlog", "ctlog 0.1.1"), ("ctfsck", f"ctfsck 0.1.0 (commit {commit[::-1]})"), ("ctserve", optional)):
+    for name, other in (("ctlog", "ctlog 0.1.1"), ("ctaudit", f"ctaudit 0.1.0 (commit {commit[::-1]})"), ("ctserve", optional)):
         programs[name].write_text(f"#!/bin/sh\necho '{other}'\n")
         ran = make("none")
         if ran.returncode != 1 or f"of another version than 0.1.0, or another commit than {commit}, or with a build option: {name} ({other})" not in ran.stderr or (folder / "none").exists():
@@ -89,7 +89,7 @@ def try_release(folder):
     ran = make("first")
     again = make("a-second-folder")
     names = sorted(path.name for path in (folder / "first").iterdir())
-    due = ["SBOM.spdx.json", "SHA256SUMS", "ctwatch_0.1.0_amd64.deb", "libwagtenib-dev_0.1.0_amd64.deb", "wagtenib-0.1.0-x86_64.tar.gz", "wagtenib_0.1.0_amd64.deb"]
+    due = ["SBOM.spdx.json", "SHA256SUMS", "ctaudit_0.1.0_amd64.deb", "ctwatch_0.1.0_amd64.deb", "libwagtenib-dev_0.1.0_amd64.deb", "wagtenib-0.1.0-x86_64.tar.gz", "wagtenib_0.1.0_amd64.deb"]
     if ran.returncode or again.returncode or names != due:
         fail(f"release.py: status {ran.returncode}, {names}: {ran.stdout}{ran.stderr}{again.stderr}")
     for name in names:
@@ -104,7 +104,8 @@ def try_release(folder):
         if subprocess.run(words).returncode:
             fail(f"release.py: {name} can't be unpacked")
     places = {"wagtenib-0.1.0-x86_64.tar.gz": ("wagtenib-0.1.0/bin", tuple(programs)),
-              "wagtenib_0.1.0_amd64.deb": ("usr/bin", ("ctserve", "ctwitness", "ctfsck", "ctfollow", "ctload", "ctlog")),
+              "wagtenib_0.1.0_amd64.deb": ("usr/bin", ("ctserve", "ctwitness", "ctload", "ctlog")),
+              "ctaudit_0.1.0_amd64.deb": ("usr/bin", ("ctaudit",)),
               "ctwatch_0.1.0_amd64.deb": ("usr/bin", ("ctwatch",))}
     for name, (below, held) in places.items():
         for program in held:
@@ -143,9 +144,9 @@ def try_c_libraries(folder):
     import release
 
     (folder / "with-sqlite").write_bytes(b"a program\0SQLite format 3\0")
-    programs = {name: pathlib.Path(sys.executable).resolve() for name in release.SERVICE} | {"ctfollow": folder / "with-sqlite"}
+    programs = {name: pathlib.Path(sys.executable).resolve() for name in release.SERVICE} | {"ctaudit": folder / "with-sqlite"}
     found = {(library, relation): of for library, _, relation, of in release.c_libraries(types.SimpleNamespace(programs=programs))}
-    if sorted(found.get(("libc.so.6", "DYNAMIC_LINK"), [])) != sorted(set(release.SERVICE) - {"ctfollow"}) or found.get(("sqlite3", "STATIC_LINK")) != ["ctfollow"]:
+    if sorted(found.get(("libc.so.6", "DYNAMIC_LINK"), [])) != sorted(set(release.SERVICE) - {"ctaudit"}) or found.get(("sqlite3", "STATIC_LINK")) != ["ctaudit"]:
         fail(f"release.py: the C libraries are {found}")
 
 

@@ -1,6 +1,6 @@
 // Command ctload submits certificates and precertificates of its own CA to the nodes of a log, and measures how long
 // they take. Before it begins, it adds its root to a file of roots, runs a command that makes the nodes reload their
-// roots, and waits until each node has the root. It writes each SCT as a line that ctfsck checks (judge.Answer). If
+// roots, and waits until each node has the root. It writes each SCT as a line that ctaudit fsck checks (judge.Answer). If
 // a submission is not answered, ctload sends it to the next node, until it is answered.
 //
 // It ends after its time or at a signal. The status is 1 if a submission was refused as wrong.

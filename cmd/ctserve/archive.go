@@ -14,9 +14,11 @@ import (
 	"time"
 
 	"wagtenib/internal/blob"
+	"wagtenib/internal/command/version"
 	"wagtenib/internal/ct"
 	"wagtenib/internal/log/archive"
 	"wagtenib/internal/log/chain"
+	"wagtenib/internal/logclient"
 	"wagtenib/internal/tiles"
 )
 
@@ -73,6 +75,15 @@ func runArchive(arguments []string, stdout, stderr io.Writer) error {
 	return nil
 }
 
+// addressLast returns the arguments with the address after the flags. On the command line the address may be before
+// them, as on the pages.
+func addressLast(arguments []string) []string {
+	if len(arguments) > 0 && !strings.HasPrefix(arguments[0], "-") {
+		return append(append([]string{}, arguments[1:]...), arguments[0])
+	}
+	return arguments
+}
+
 // log returns the log to be archived, and the options to read it. The error names the flag that is wrong.
 func (a *archiveFlags) log(address string) (of archive.Log, options archive.Options, err error) {
 	if a.key == "" || a.folder == "" {
@@ -101,7 +112,7 @@ func (a *archiveFlags) log(address string) (of archive.Log, options archive.Opti
 		return of, options, fmt.Errorf("--key: %s: %w", a.key, err)
 	}
 	of.PublicKey = block.Bytes
-	options.Client, err = clientOptions("ctserve-archive", a.ca, a.contact)
+	options.Client, err = logclient.OptionsOf("ctserve-archive", version.Number(), a.ca, a.contact)
 	return of, options, err
 }
 

@@ -131,6 +131,7 @@ func TestSettings(t *testing.T) {
 		status    int
 	}{{[]string{"--help"}, 0}, {[]string{"signer", "--help"}, 0}, {[]string{"signer"}, 2},
 		{[]string{"signer", "--signing-key", at.path("log.pem"), "word"}, 2}, {[]string{"--nothing"}, 2},
+		{[]string{"audit", "https://log.example"}, 2},
 		{at.arguments("--roots", at.path("none")), 1}, {at.arguments("--listen", "127.0.0.1:x"), 2},
 		{at.arguments("--tls-certificate", "none", "--tls-key", "none"), 1}} {
 		open := func(context.Context, node) (*opened, error) {

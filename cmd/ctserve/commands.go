@@ -34,7 +34,6 @@ var commands = map[string]func(arguments []string, stdout, stderr io.Writer) err
 	"check":      runCheck,
 	"index":      runIndex,
 	"clock":      runClock,
-	"audit":      runAudit,
 	"archive":    runArchive,
 	"roots":      runRoots,
 }

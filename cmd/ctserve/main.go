@@ -4,14 +4,15 @@
 // submissions, publishes, answers the waiting requests, and exits with status 0, or with 1 if this takes too long. A
 // second signal ends it at once. A process of its own has the key: `ctserve signer`, which ctserve starts, or finds at
 // a socket. `ctserve key`, `check` and `list-entry` create a key, check settings, and write the entry of a log list.
-// `index` builds a log's deduplication index again from its tiles, `clock` confirms the day, `audit` looks at a log
-// from outside, `roots` writes the roots of CCADB's tables, and `archive` makes an archive of another log.
+// `index` builds a log's deduplication index again from its tiles, `clock` confirms the day, `roots` writes the roots of
+// CCADB's tables, and `archive` makes an archive of another log.
 package main
 
 import (
 	"context"
 	"encoding/hex"
 	"errors"
+	"fmt"
 	"io"
 	"net/http"
 	"os"
@@ -22,6 +23,7 @@ import (
 	"wagtenib/internal/blob"
 	"wagtenib/internal/command/eventlog"
 	"wagtenib/internal/command/settingsfile"
+	"wagtenib/internal/command/subcommand"
 	"wagtenib/internal/command/version"
 	"wagtenib/internal/log"
 	"wagtenib/internal/log/chain"
@@ -72,6 +74,9 @@ func run(arguments []string, to io.Writer, open opener) int {
 		return runVersion(os.Stdout)
 	case len(arguments) > 0 && arguments[0] == "signer":
 		return runSigner(arguments[1:], os.Stdin, os.Stdout, to)
+	case len(arguments) > 0 && subcommand.Moved("ctserve", arguments[0]) != "":
+		fmt.Fprintln(to, subcommand.Moved("ctserve", arguments[0]))
+		return subcommand.StatusUsage
 	case len(arguments) > 0 && commands[arguments[0]] != nil:
 		return runCommand(arguments[0], arguments[1:], os.Stdout, to)
 	}

@@ -11,8 +11,11 @@ import (
 	"strings"
 	"time"
 
+	"wagtenib/internal/command/settingsfile"
+	"wagtenib/internal/command/version"
 	"wagtenib/internal/log/chain"
 	"wagtenib/internal/log/roots"
+	"wagtenib/internal/logclient"
 )
 
 // rootsPage is what `ctserve roots --help` prints before the flags.
@@ -47,7 +50,7 @@ func runRoots(arguments []string, stdout, stderr io.Writer) error {
 	if err := parseArguments(flags, arguments); err != nil {
 		return err
 	}
-	if given.into == "" || flags.NArg() == 0 || !isPercentage(given.maxFall) {
+	if given.into == "" || flags.NArg() == 0 || settingsfile.Percentage("max-fall", given.maxFall) != nil {
 		return fmt.Errorf("%w: roots needs --into, a table, and a percentage as --max-fall (see ctserve roots --help)",
 			errUsage)
 	}
@@ -94,7 +97,7 @@ func (r *rootsFlags) table(from string) ([]byte, error) {
 	if !strings.HasPrefix(from, "https://") {
 		return nil, errors.New("the address must begin with https:// (otherwise others on the network could add roots)")
 	}
-	options, err := clientOptions("ctserve-roots", r.ca, "")
+	options, err := logclient.OptionsOf("ctserve-roots", version.Number(), r.ca, "")
 	if err != nil {
 		return nil, err
 	}

@@ -80,7 +80,6 @@ Other commands, each with --help:
   ctserve list-entry        writes the log's entry for a log list
   ctserve index FILE        builds the deduplication index again from the tiles
   ctserve clock FILE DAY    says which day it is, if only the machine's clock says so
-  ctserve audit URL         looks at a log from outside, as a browser programme's monitor does
   ctserve roots TABLE..     writes the roots of CCADB's tables into the folder of roots
   ctserve archive URL       makes an archive of a log of RFC 6962 that ends`
 

@@ -132,7 +132,7 @@ func TestWitnessedLog(t *testing.T) {
 }
 
 // TestWatchedWitness runs ctwatch over a log whose head a quorum of witnesses cosigned. ctwatch reads the entries, and
-// then asks a third witness to cosign the head. This witness cosigns only heads that ctwatch accepted.
+// then ctaudit asks a third witness to cosign the head. This witness cosigns only heads that ctwatch accepted.
 func TestWatchedWitness(t *testing.T) {
 	t.Parallel()
 	at := newPlace(t)
@@ -144,8 +144,9 @@ func TestWatchedWitness(t *testing.T) {
 	})
 	p := started(t, "", append(at.realArguments("--signing-key", at.path("log.pem")), "--witnesses", first+" "+second,
 		"--create")...)
-	ctwatch := at.path("ctwatch")
-	if output, err := exec.Command("go", "build", "-o", ctwatch, "wagtenib/cmd/ctwatch").CombinedOutput(); err != nil {
+	programs := at.path("programs") + "/"
+	if output, err := exec.Command("go", "build", "-o", programs, "wagtenib/cmd/ctwatch",
+		"wagtenib/cmd/ctaudit").CombinedOutput(); err != nil {
 		t.Fatalf("go build: %v: %s", err, output)
 	}
 	key, err := signer.OpenKey(at.path("log.pem"))
@@ -155,23 +156,23 @@ func TestWatchedWitness(t *testing.T) {
 	_, one, _ := strings.Cut(first, ",")
 	_, two, _ := strings.Cut(second, ",")
 	_, three, _ := strings.Cut(third, ",")
-	runs := func(arguments ...string) (status int, text string) {
+	runs := func(program string, arguments ...string) (status int, text string) {
 		t.Helper()
-		command := exec.Command(ctwatch, append(arguments, of...)...)
+		command := exec.Command(programs+program, append(arguments, of...)...)
 		output, _ := command.CombinedOutput()
 		return command.ProcessState.ExitCode(), string(output)
 	}
 	watches := func(keys string) (status int, text string) {
 		t.Helper()
 		at.write("witnesses", []byte(keys))
-		return runs("run", "--once", "--quiet", "--listen=", "--from-start", "--name", "a.example", "--unread", "none",
+		return runs("ctwatch", "run", "--once", "--quiet", "--listen=", "--from-start", "--name", "a.example", "--unread", "none",
 			"--accepted-folder", at.path("accepted"),
 			"--witnesses", at.path("witnesses"), "--quorum", "2")
 	}
 	for entries := 1; entries < 4; entries++ {
 		at.comesIn(p)
 		if entries > 1 {
-			if status, output := runs("cosign", third, "--into", at.path("cosigned")); status != 0 ||
+			if status, output := runs("ctaudit", "cosign", third, "--into", at.path("cosigned")); status != 0 ||
 				!strings.Contains(output, fmt.Sprintf("%d leaves", entries-1)) {
 				t.Fatalf("before the entries are read: status %d: %s", status, output)
 			}
@@ -179,7 +180,7 @@ func TestWatchedWitness(t *testing.T) {
 		if status, output := watches(one + "\n" + two + "\n"); status != 0 {
 			t.Fatalf("with %d entries: status %d: %s", entries, status, output)
 		}
-		if status, output := runs("cosign", third, "--into", at.path("cosigned")); status != 0 ||
+		if status, output := runs("ctaudit", "cosign", third, "--into", at.path("cosigned")); status != 0 ||
 			!strings.Contains(output, fmt.Sprintf("%d leaves are cosigned by x.example", entries)) {
 			t.Fatalf("with %d entries: status %d: %s", entries, status, output)
 		}

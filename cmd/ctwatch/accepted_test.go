@@ -19,11 +19,12 @@ import (
 // TestWritesAcceptedHead: a run writes the accepted head to the folder, as the log signed it, and a witness reads it
 // there. A later head whose root differs from that of the entries is not written.
 func TestWritesAcceptedHead(t *testing.T) {
-	log := newTestLog(t, 300)
+	log := serveLog(t, "log.example/2027")
+	log.fill(300)
 	folder := t.TempDir()
-	run := append([]string{"run", "--once", "--quiet", "--listen=", "--from-start", "--unread", "none",
+	run := []string{"run", "--once", "--quiet", "--listen=", "--from-start", "--unread", "none",
 		"--folder", filepath.Join(folder, "store"), "--accepted-folder", filepath.Join(folder, "accepted"),
-		"--name", "a.example"}, logArguments(t, log)...)
+		"--name", "a.example", "--log", log.setting(true)}
 	if status, out, faults := ctwatch(t, run...); status != 0 {
 		t.Fatalf("run: status %d: %s%s", status, out, faults)
 	}

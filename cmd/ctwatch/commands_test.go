@@ -21,6 +21,7 @@ import (
 	"wagtenib/internal/testkit"
 	"wagtenib/internal/watch"
 	"wagtenib/internal/watch/alert"
+	"wagtenib/internal/watch/logflags"
 	"wagtenib/internal/watch/namesearch"
 	"wagtenib/internal/watch/watchstore"
 )
@@ -84,7 +85,7 @@ func TestReadsAConfigFile(t *testing.T) {
 	path := filepath.Join(t.TempDir(), "settings")
 	must(t, os.WriteFile(path, []byte("name example.org # mine\n"), 0o600))
 	s, err := parse([]string{"--config", path}, nil)
-	if err != nil || len(s.names) != 1 || s.logs.list != defaultList || s.serve.listen != "127.0.0.1:8650" {
+	if err != nil || len(s.names) != 1 || s.logs.List != logflags.DefaultList || s.serve.listen != "127.0.0.1:8650" {
 		t.Errorf("%+v %v", s, err)
 	}
 	must(t, os.WriteFile(path, []byte("name example.org\nname *.example.net\n"), 0o600))
@@ -154,7 +155,7 @@ func TestSaysHowToGetAStore(t *testing.T) {
 		}
 	}
 	for _, arguments := range []string{"query", "query a.example b.example", "query *.example.org", "health more",
-		"no-such-command"} {
+		"no-such-command", "audit chain.pem", "compare PLACE", "cosign URL,KEY"} {
 		if status, _, faults := ctwatch(t, strings.Fields(arguments)...); status != statusUsage || faults == "" {
 			t.Errorf("%s: status %d: %s", arguments, status, faults)
 		}
@@ -278,8 +279,8 @@ func TestWritesEvidence(t *testing.T) {
 			t.Errorf("%s: %q %v (%d %s%s)", name, content, err, status, out, faults)
 		}
 	}
-	if status, _, faults := ctwatch(t, "evidence", "1", to, "--folder", folder); status != statusFault ||
-		!strings.Contains(faults, "write to a new folder") {
+	if status, _, faults := ctwatch(t, "evidence", "1", to, "--folder", folder); status != statusUsage ||
+		!strings.Contains(faults, "name a new folder") {
 		t.Errorf("a second time: %d %s", status, faults)
 	}
 	if status, _, _ := ctwatch(t, "evidence", "2", to+"2", "--folder", folder); status == 0 {
@@ -308,7 +309,7 @@ func TestRunsUntilASignal(t *testing.T) {
 	alerts := filepath.Join(folder, "alerts")
 	arguments := []string{"run", "--name", "example.org", "--folder", folder, "--log", log.setting(true), "--pause",
 		"1s", "--listen", "127.0.0.1:0", "--json", alerts, "--quiet"}
-	go func() { ended <- run(ctx, arguments, &faults, &faults) }()
+	go func() { ended <- program().Run(ctx, arguments, &faults, &faults) }()
 	testkit.Eventually(t, "the log is read to its end", func() bool {
 		status, out, _ := ctwatch(t, "health", "--folder", folder)
 		return status == 0 && strings.HasPrefix(out, "1 log;")
@@ -349,7 +350,7 @@ func TestSendsAtTheEnd(t *testing.T) {
 	ended := make(chan int, 1)
 	arguments := []string{"run", "--from-start", "--name", "example.org", "--folder", t.TempDir(), "--log",
 		log.setting(true), "--listen=", "--webhook", hook.URL, "--quiet"}
-	go func() { ended <- run(ctx, arguments, io.Discard, io.Discard) }()
+	go func() { ended <- program().Run(ctx, arguments, io.Discard, io.Discard) }()
 	if first := <-posted; first.Again {
 		t.Errorf("Again is set in the first alert: %+v", first)
 	}

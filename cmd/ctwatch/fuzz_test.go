@@ -43,10 +43,10 @@ func FuzzSettings(f *testing.F) {
 				t.Fatalf("the name %q is read again as %q, or is there twice: %v", name, again, err)
 			}
 		}
-		if len(s.names) == 0 || s.logs.pause < time.Second || s.times.silent < time.Minute || s.folder == "" {
+		if len(s.names) == 0 && s.logs.mirror == "" || s.logs.pause < time.Second || s.times.silent < time.Minute || s.folder == "" {
 			t.Fatalf("%+v", s)
 		}
-		for _, log := range s.logs.only {
+		for _, log := range s.logs.Only {
 			if log.ID != sha256.Sum256(log.PublicKey) {
 				t.Fatalf("%+v", log)
 			}

@@ -19,7 +19,7 @@ const maxAccusations = 20
 // evidence against a log, statusUnread if a log was not read for too long or the log list cannot be read, and
 // statusFault if alerts could not be sent.
 func runHealth(_ context.Context, arguments []string, out io.Writer) (err error) {
-	flags := flagsOf("health", "", out)
+	flags := flagsOf("health")
 	folder := folderFlag(flags)
 	silent := flags.Duration("silent-after", 24*time.Hour, "time after which a log that was not read is silent")
 	if _, err := parseFlags(flags, arguments, 0, out); err != nil {

@@ -23,7 +23,7 @@ func TestPageRefusesOtherHosts(t *testing.T) {
 	ended := make(chan int, 1)
 	arguments := []string{"run", "--name", "example.org", "--folder", t.TempDir(), "--log", log.setting(true), "--quiet",
 		"--listen", address, "--page-host", "Watch.Example.org"}
-	go func() { ended <- run(ctx, arguments, &faults, &faults) }()
+	go func() { ended <- program().Run(ctx, arguments, &faults, &faults) }()
 	ask := func(host, path string) int {
 		request, err := http.NewRequest(http.MethodGet, "http://"+address+path, nil)
 		must(t, err)

@@ -26,7 +26,7 @@ var (
 
 // TestKillsLoseNoAlert kills ctwatch by SIGKILL at random times while it reads two logs, one of which forks in the
 // middle. At the end, each issuance has its alert, and an alert that was sent twice has Again set. The fork has one
-// alert, and the judge of ctfsck confirms its evidence.
+// alert, and the judge of ctaudit confirms its evidence.
 func TestKillsLoseNoAlert(t *testing.T) {
 	authority, random, folder := testkit.NewAuthority("Test CA 1"), rand.New(rand.NewPCG(*seed, 0)), t.TempDir()
 	first, second := serveLog(t, "a.example"), serveLog(t, "b.example")
@@ -89,7 +89,7 @@ func TestKillsLoseNoAlert(t *testing.T) {
 	judgeFork(t, folder, second.PublicKey())
 }
 
-// judgeFork checks that the judge of ctfsck confirms the first evidence of a store.
+// judgeFork checks that the judge of ctaudit confirms the first evidence of a store.
 func judgeFork(t *testing.T, folder string, key []byte) {
 	t.Helper()
 	evidence := filepath.Join(folder, "evidence")

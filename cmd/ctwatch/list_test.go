@@ -4,7 +4,6 @@ import (
 	"bufio"
 	"crypto/sha256"
 	"encoding/json"
-	"encoding/pem"
 	"errors"
 	"io"
 	"net/http"
@@ -108,11 +107,7 @@ func started(t *testing.T, arguments ...string) (*exec.Cmd, *bufio.Scanner) {
 // again. It continues to try, and prints only one line about the refusals of one server.
 func TestReportsTheFirstFailureAtOnce(t *testing.T) {
 	folder := t.TempDir()
-	certificate := filepath.Join(folder, "certificate")
-	must(t, os.WriteFile(certificate, pem.EncodeToMemory(&pem.Block{Type: "CERTIFICATE",
-		Bytes: testkit.NewAuthority("Test CA 1").Issue("a.example").Certificate.Raw}), 0o600))
 	for _, arguments := range [][]string{{"show", "https://a.example", "1"},
-		{"audit", certificate, "--issuer", certificate},
 		{"run", "--once", "--name", "example.org", "--folder", folder}} {
 		list := serveRefusingList(t)
 		program, lines := started(t, append(arguments, "--log-list", list.address)...)

@@ -2,87 +2,21 @@ package main
 
 import (
 	"context"
-	"crypto/sha256"
-	"encoding/base64"
-	"encoding/pem"
-	"errors"
 	"fmt"
-	"io"
-	"os"
 	"strings"
 	"sync"
 	"time"
 
 	"wagtenib/internal/command/eventlog"
-	"wagtenib/internal/command/version"
-	"wagtenib/internal/logclient"
 	"wagtenib/internal/watch"
 	"wagtenib/internal/watch/alert"
+	"wagtenib/internal/watch/logflags"
 	"wagtenib/internal/watch/loglist"
 	"wagtenib/internal/watch/watchstore"
 )
 
-const (
-	maxKeyFile        = 64 << 10       // bytes
-	defaultMergeDelay = 24 * time.Hour // the maximum merge delay of a log of the settings (RFC 6962, section 3)
-	listPause         = time.Hour      // the time between two readings of the log list
-)
-
-// addLog adds a log from its setting: an address, a key, and possibly an origin.
-func (s *settings) addLog(text string) error {
-	fields := strings.Fields(text)
-	if len(fields) < 2 || len(fields) > 3 {
-		return errors.New("log needs an address and a public key, separated by a space (write " +
-			"[tiled+]https://HOST/PATH KEY-FILE)")
-	}
-	address, isTiled := strings.CutPrefix(fields[0], "tiled+")
-	if _, err := logclient.New(address, logclient.Options{}); err != nil {
-		return err
-	}
-	key, err := readKey(fields[1])
-	if err != nil {
-		return err
-	}
-	address = strings.TrimSuffix(address, "/")
-	_, host, _ := strings.Cut(address, "://")
-	log := watch.Log{ID: sha256.Sum256(key), Name: host, URL: address, PublicKey: key, MaxMergeDelay: defaultMergeDelay}
-	if isTiled {
-		log.Origin = host
-		if len(fields) == 3 {
-			log.Origin = fields[2]
-		}
-	} else if len(fields) == 3 {
-		return errors.New("only a tiled log has an origin (write tiled+ before its address)")
-	}
-	for _, other := range s.logs.only {
-		if other.ID == log.ID {
-			return fmt.Errorf("%s and %s have the same key (write each log once)", other.URL, log.URL)
-		}
-	}
-	s.logs.only = append(s.logs.only, log)
-	return nil
-}
-
-// readKey returns a public key in DER. The text is the key in base64, or the path of a PEM file.
-func readKey(text string) ([]byte, error) {
-	if der, err := base64.StdEncoding.DecodeString(text); err == nil && len(der) > 32 {
-		return der, nil
-	}
-	file, err := os.Open(text)
-	if err != nil {
-		return nil, fmt.Errorf("the log's key: %w (write a PEM file, or the key in base64)", err)
-	}
-	defer file.Close()
-	content, err := io.ReadAll(io.LimitReader(file, maxKeyFile))
-	if err != nil {
-		return nil, err
-	}
-	block, _ := pem.Decode(content)
-	if block == nil || block.Type != "PUBLIC KEY" {
-		return nil, fmt.Errorf("%s has no PUBLIC KEY in PEM (openssl pkey -pubin -in FILE shows one)", text)
-	}
-	return block.Bytes, nil
-}
+// listPause is the time between two readings of the log list.
+const listPause = time.Hour
 
 // follower follows the logs of the settings.
 type follower struct {
@@ -139,11 +73,10 @@ func (l *listStatus) silence(now time.Time, after time.Duration) string {
 }
 
 func newFollower(settings logSettings, keeper watch.Keeper, lines *eventlog.Lines) (*follower, error) {
-	agent, err := logclient.UserAgent("ctwatch", version.Number(), settings.contact)
+	client, err := settings.Client("ctwatch")
 	if err != nil {
 		return nil, fmt.Errorf("%w: %w", errUsage, err)
 	}
-	client := logclient.Options{UserAgent: agent}
 	policy, err := settings.policy.policy()
 	if err != nil {
 		return nil, err
@@ -153,39 +86,24 @@ func newFollower(settings logSettings, keeper watch.Keeper, lines *eventlog.Line
 		return nil, err
 	}
 	if settings.once {
-		client.Retrying = firstOfEach(func(address string, fault error) {
+		client.Retrying = logflags.FirstOfEach(func(address string, fault error) {
 			lines.Warn("retry", "address", address, "fault", fault, "next", triedAgain)
 		})
 	}
 	f := &follower{settings: settings, lines: lines, listed: listStatus{since: time.Now()}}
-	f.group = watch.NewGroup(keeper, watch.Options{FromStart: settings.fromStart, Pause: settings.pause, Client: client,
+	// A mirror has the log from its first entry on.
+	fromStart := settings.fromStart || settings.mirror != ""
+	f.group = watch.NewGroup(keeper, watch.Options{FromStart: fromStart, Pause: settings.pause, Client: client,
 		Policy: policy, Mirror: mirrors(settings.mirror, client), Heads: heads})
-	if settings.list == "" {
+	if settings.List == "" {
 		return f, nil
 	}
 	f.listed.needed = true
 	if !settings.once {
 		client.Retrying = f.retryList
 	}
-	f.list = &loglist.Source{Place: settings.list, Key: settings.listKey, Client: client}
+	f.list = &loglist.Source{Place: settings.List, Key: settings.ListKey, Client: client}
 	return f, nil
-}
-
-// firstOfEach returns a function that calls report only for the first failed attempt at each host. Several goroutines
-// may call it.
-func firstOfEach(report func(address string, fault error)) func(string, error) {
-	var mutex sync.Mutex
-	seen := map[string]bool{}
-	return func(address string, fault error) {
-		_, host, _ := strings.Cut(address, "://")
-		host, _, _ = strings.Cut(host, "/")
-		mutex.Lock()
-		defer mutex.Unlock()
-		if !seen[host] {
-			seen[host] = true
-			report(address, fault)
-		}
-	}
 }
 
 // triedAgain is the text of a line of log about a failed request.
@@ -221,25 +139,25 @@ func (f *follower) keptLogs() []watch.Log {
 		f.lines.Error("store", "fault", err)
 	}
 	if err != nil || kept.Content == nil {
-		return f.settings.only
+		return f.settings.Only
 	}
 	list, err := loglist.Parse(kept.Content)
-	logs := f.settings.only
+	logs := f.settings.Only
 	if err == nil {
 		logs, err = f.logsOf(list)
 	}
 	if err != nil {
 		f.lines.Error("log-list-kept", "fault", err)
-		return f.settings.only
+		return f.settings.Only
 	}
-	f.lines.Warn("log-list-kept", "logs", len(logs), "list", f.settings.list, "read", kept.Read.Format(time.RFC3339))
+	f.lines.Warn("log-list-kept", "logs", len(logs), "list", f.settings.List, "read", kept.Read.Format(time.RFC3339))
 	return logs
 }
 
 // run follows the logs until the context ends.
 func (f *follower) run(ctx context.Context) {
 	// The logs that the settings name must not wait for the list.
-	f.group.Follow(ctx, f.settings.only)
+	f.group.Follow(ctx, f.settings.Only)
 	if f.list == nil {
 		<-ctx.Done()
 	} else {
@@ -271,12 +189,12 @@ func (f *follower) followList(ctx context.Context) {
 			return
 		}
 		isFirst = false
-		f.lines.Info("log-list", "logs", len(logs), "list", f.settings.list, "of", list.Time.Format(time.RFC3339))
+		f.lines.Info("log-list", "logs", len(logs), "list", f.settings.List, "of", list.Time.Format(time.RFC3339))
 		f.group.Follow(ctx, logs)
 		f.keepList(list)
 	}, func(err error, next time.Duration) {
 		failed(err)
-		f.lines.Error("log-list", "address", f.settings.list, "fault", err, "next", fmt.Sprintf("%s in %v", triedAgain, next))
+		f.lines.Error("log-list", "address", f.settings.List, "fault", err, "next", fmt.Sprintf("%s in %v", triedAgain, next))
 	})
 }
 
@@ -287,7 +205,7 @@ var errNoLogs = fmt.Errorf("the log list has no log in a state that is watched (
 // logsOf returns the logs of the settings, and the logs of a list that are in a watched state. If there are none, it
 // returns errNoLogs.
 func (f *follower) logsOf(list loglist.List) ([]watch.Log, error) {
-	logs := append([]watch.Log{}, f.settings.only...)
+	logs := append([]watch.Log{}, f.settings.Only...)
 	known := map[watch.LogID]bool{}
 	for _, log := range logs {
 		known[log.ID] = true
@@ -309,7 +227,7 @@ func (f *follower) readOnce(ctx context.Context) ([]watch.Log, error) {
 	list, err := f.list.Read(ctx)
 	switch {
 	case ctx.Err() != nil:
-		return f.settings.only, ctx.Err()
+		return f.settings.Only, ctx.Err()
 	case err != nil:
 		f.reportList(err)
 		return f.keptLogs(), fmt.Errorf("the log list cannot be read: %w", err)
@@ -326,7 +244,7 @@ func (f *follower) readOnce(ctx context.Context) ([]watch.Log, error) {
 // once reads each log up to its newest head. It returns the errors of logs, by their names, and the error of the log
 // list.
 func (f *follower) once(ctx context.Context) (map[string]error, error) {
-	logs := f.settings.only
+	logs := f.settings.Only
 	var listFault error
 	if f.list != nil {
 		logs, listFault = f.readOnce(ctx)

@@ -6,6 +6,7 @@ import (
 	"time"
 
 	"wagtenib/internal/watch"
+	"wagtenib/internal/watch/logflags"
 	"wagtenib/internal/watch/loglist"
 )
 
@@ -39,7 +40,7 @@ func TestSettingsOverrideTheList(t *testing.T) {
 	listed := func(id byte, state string) loglist.Log {
 		return loglist.Log{Log: watch.Log{ID: watch.LogID{id}, URL: "https://listed.example", State: state}}
 	}
-	f := &follower{settings: logSettings{only: []watch.Log{named}}}
+	f := &follower{settings: logSettings{Logs: logflags.Logs{Only: []watch.Log{named}}}}
 	logs, err := f.logsOf(loglist.List{Logs: []loglist.Log{
 		listed(1, "usable"), listed(2, "usable"), listed(3, "rejected")}})
 	if err != nil || len(logs) != 2 || logs[0].URL != named.URL || logs[1].ID != (watch.LogID{2}) {
@@ -55,7 +56,7 @@ func TestRefusesAListWithoutWatchedLogs(t *testing.T) {
 	if logs, err := f.logsOf(retired); !errors.Is(err, errNoLogs) || len(logs) != 0 {
 		t.Errorf("%+v, %v", logs, err)
 	}
-	f.settings.only = []watch.Log{{ID: watch.LogID{2}}}
+	f.settings.Only = []watch.Log{{ID: watch.LogID{2}}}
 	if logs, err := f.logsOf(retired); err != nil || len(logs) != 1 {
 		t.Errorf("with a log of the settings: %+v, %v", logs, err)
 	}

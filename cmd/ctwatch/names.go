@@ -12,7 +12,7 @@ var _ = addCommand("names", "FILE checks a watch list, and prints what it covers
 
 // runNames checks a watch list.
 func runNames(_ context.Context, arguments []string, out io.Writer) error {
-	flags := flagsOf("names", "", out)
+	flags := flagsOf("names")
 	ofCertspotter := flags.Bool("certspotter", false, "the file is a watch list of certspotter")
 	arguments, err := parseFlags(flags, arguments, 1, out)
 	if err != nil {

@@ -12,15 +12,15 @@ import (
 	"wagtenib/internal/testkit"
 )
 
-// The pages about the program, the pattern of code in them, and the pattern of flags in a help text.
+// The page about the program, the pattern of code in it, and the pattern of flags in a help text.
 var (
-	pagesOfProgram = []string{"../../docs/WATCH.md", "../../docs/AUDIT.md"}
-	code           = regexp.MustCompile("`([^`\n]+)`")
-	flagName       = regexp.MustCompile(`(?m)^  -([a-z-]+)`)
+	pageOfProgram = "../../docs/WATCH.md"
+	code          = regexp.MustCompile("`([^`\n]+)`")
+	flagName      = regexp.MustCompile(`(?m)^  -([a-z-]+)`)
 )
 
-// TestPagesNameRealFlags: each flag that a page names is a flag of a command.
-func TestPagesNameRealFlags(t *testing.T) {
+// TestPageNamesRealFlags: each flag that the page names is a flag of a command.
+func TestPageNamesRealFlags(t *testing.T) {
 	known := map[string]bool{"--help": true, "--now": true} // The last one is a flag of systemctl.
 	for name := range commands {
 		_, out, _ := ctwatch(t, name, "--help")
@@ -28,22 +28,20 @@ func TestPagesNameRealFlags(t *testing.T) {
 			known["--"+found[1]] = true
 		}
 	}
-	for _, page := range pagesOfProgram {
-		content, named := readAll(t, page), 0
-		for _, span := range code.FindAllStringSubmatch(content, -1) {
-			for _, word := range strings.Fields(span[1]) {
-				word, _, _ = strings.Cut(word, "=")
-				if strings.HasPrefix(word, "--") {
-					named++
-					if !known[word] {
-						t.Errorf("%s has the flag %s, which no command has", page, word)
-					}
+	named := 0
+	for _, span := range code.FindAllStringSubmatch(readAll(t, pageOfProgram), -1) {
+		for _, word := range strings.Fields(span[1]) {
+			word, _, _ = strings.Cut(word, "=")
+			if strings.HasPrefix(word, "--") {
+				named++
+				if !known[word] {
+					t.Errorf("the page has the flag %s, which no command has", word)
 				}
 			}
 		}
-		if named == 0 {
-			t.Errorf("%s names no flag", page)
-		}
+	}
+	if named == 0 {
+		t.Error("the page names no flag")
 	}
 }
 
@@ -86,7 +84,7 @@ func TestRunsTheCommandsOfItsPage(t *testing.T) {
 		{"ctwatch evidence NUMBER FOLDER", store, 0, "fork", nil},
 	} {
 		ran[command.typed] = true
-		if !strings.Contains(readAll(t, pagesOfProgram[0]), "`"+command.typed+"`") {
+		if !strings.Contains(readAll(t, pageOfProgram), "`"+command.typed+"`") {
 			t.Errorf("the page does not have %q", command.typed)
 		}
 		typed := strings.NewReplacer("FILE", filepath.Join(folder, "names"), "~", folder, "NUMBER", "1", "FOLDER",
@@ -99,7 +97,7 @@ func TestRunsTheCommandsOfItsPage(t *testing.T) {
 			command.after()
 		}
 	}
-	for _, span := range code.FindAllStringSubmatch(readAll(t, pagesOfProgram[0]), -1) {
+	for _, span := range code.FindAllStringSubmatch(readAll(t, pageOfProgram), -1) {
 		if strings.HasPrefix(span[1], "ctwatch ") && !ran[span[1]] {
 			t.Errorf("the page has %q, which this test does not run", span[1])
 		}

@@ -7,8 +7,6 @@ import (
 	"errors"
 	"fmt"
 	"io"
-	"os"
-	"path/filepath"
 	"strconv"
 	"strings"
 	"time"
@@ -29,7 +27,7 @@ const maxQueryBatch = 500
 
 // runQuery prints the certificates in the store for a name, the newest first.
 func runQuery(_ context.Context, arguments []string, out io.Writer) error {
-	flags := flagsOf("query", "", out)
+	flags := flagsOf("query")
 	folder := folderFlag(flags)
 	isValid := flags.Bool("valid", false, "only certificates that are valid now")
 	asJSON := flags.Bool("json", false, "a line of JSON for each certificate")
@@ -87,7 +85,7 @@ func printOne(line alert.Alert, asJSON bool, out io.Writer) error {
 
 // runCertificate prints a certificate in PEM.
 func runCertificate(_ context.Context, arguments []string, out io.Writer) error {
-	flags := flagsOf("certificate", "", out)
+	flags := flagsOf("certificate")
 	folder := folderFlag(flags)
 	arguments, err := parseFlags(flags, arguments, 1, out)
 	if err != nil {
@@ -106,7 +104,7 @@ func runCertificate(_ context.Context, arguments []string, out io.Writer) error 
 
 // runEvidence writes the files of evidence into a folder, and prints what happened.
 func runEvidence(_ context.Context, arguments []string, out io.Writer) error {
-	flags := flagsOf("evidence", "", out)
+	flags := flagsOf("evidence")
 	folder := folderFlag(flags)
 	arguments, err := parseFlags(flags, arguments, 2, out)
 	if err != nil {
@@ -122,7 +120,7 @@ func runEvidence(_ context.Context, arguments []string, out io.Writer) error {
 	}
 	evidence, log, err := store.Evidence(number)
 	if err == nil {
-		err = writeFiles(arguments[1], evidence.Files)
+		err = evidence.Write(arguments[1])
 	}
 	if err == nil {
 		// Now that the files are written, the evidence counts as seen.
@@ -133,32 +131,4 @@ func runEvidence(_ context.Context, arguments []string, out io.Writer) error {
 			evidence.Time.UTC().Format(time.RFC3339), alert.Safe(evidence.Text))
 	}
 	return errors.Join(err, store.Close())
-}
-
-// writeFiles writes files into a folder, which must be new or empty.
-func writeFiles(folder string, files map[string][]byte) error {
-	if err := os.MkdirAll(folder, 0o750); err != nil {
-		return err
-	}
-	root, err := os.OpenRoot(folder)
-	if err != nil {
-		return err
-	}
-	for name, content := range files {
-		// The name of a file of evidence may contain folders, but must not lead out of this one.
-		if err := os.MkdirAll(filepath.Join(folder, filepath.Dir(filepath.Clean("/"+name))), 0o750); err != nil {
-			return errors.Join(err, root.Close())
-		}
-		file, err := root.OpenFile(name, os.O_CREATE|os.O_EXCL|os.O_WRONLY, 0o640)
-		if err != nil {
-			return errors.Join(fmt.Errorf("%w (write to a new folder)", err), root.Close())
-		}
-		if _, err = file.Write(content); err != nil {
-			return errors.Join(err, file.Close(), root.Close())
-		}
-		if err := file.Close(); err != nil {
-			return errors.Join(err, root.Close())
-		}
-	}
-	return root.Close()
 }

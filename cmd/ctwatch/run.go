@@ -92,7 +92,7 @@ func reload(ctx context.Context, arguments []string, hangups <-chan os.Signal, l
 // check opens the outputs and the log list that the settings name, as a new run would. It does not open the store,
 // which the current run has open.
 func (s *settings) check(lines *eventlog.Lines) error {
-	_, closeOutputs, err := s.outputs.open(io.Discard, s.logs.contact)
+	_, closeOutputs, err := s.outputs.open(io.Discard, s.logs.Contact)
 	if err == nil {
 		_, err = newFollower(s.logs, nil, lines)
 	}
@@ -102,7 +102,7 @@ func (s *settings) check(lines *eventlog.Lines) error {
 // watch opens the store and the outputs, and follows logs until the context ends, or with --once up to their newest
 // heads.
 func (s *settings) watch(ctx context.Context, out io.Writer, lines *eventlog.Lines) (err error) {
-	outputs, closeOutputs, err := s.outputs.open(out, s.logs.contact)
+	outputs, closeOutputs, err := s.outputs.open(out, s.logs.Contact)
 	defer func() { err = errors.Join(err, closeOutputs()) }()
 	if err != nil {
 		return err
@@ -115,7 +115,7 @@ func (s *settings) watch(ctx context.Context, out io.Writer, lines *eventlog.Lin
 		return err
 	}
 	defer func() { err = errors.Join(err, w.store.Close()) }()
-	if err := errors.Join(w.useOutputs(), w.store.UseList(s.logs.list, s.logs.listKey)); err != nil {
+	if err := errors.Join(w.useOutputs(), w.store.UseList(s.logs.List, s.logs.ListKey)); err != nil {
 		return err
 	}
 	var keeper watch.Keeper = w.store
@@ -187,8 +187,8 @@ func (w *watching) serve(ctx context.Context) error {
 		defer running.Done()
 		w.check(sending)
 	}()
-	w.lines.Info("watching", "names", len(w.settings.names), "logs", len(w.settings.logs.only), "list",
-		w.settings.logs.list, "folder", w.settings.folder, "page", page.address())
+	w.lines.Info("watching", "names", len(w.settings.names), "logs", len(w.settings.logs.Only), "list",
+		w.settings.logs.List, "folder", w.settings.folder, "page", page.address())
 	// Without systemd there is no socket, and SdNotify does nothing.
 	_, _ = daemon.SdNotify(false, daemon.SdNotifyReady)
 	w.follower.run(ctx)

@@ -42,6 +42,15 @@ func (s served) add(a *testkit.Authority, one testkit.Issued) {
 	s.Publish(s.Size(), now+1)
 }
 
+// fill adds this number of made-up entries, and publishes a head with the current time.
+func (s served) fill(size int) {
+	now := uint64(time.Now().UnixMilli())
+	for i := range size {
+		s.Add(testkit.Entry{Timestamp: now, Certificate: []byte{0x30, 2, byte(i >> 8), byte(i)}})
+	}
+	s.Publish(s.Size(), now)
+}
+
 // setting returns the value of --log for the log.
 func (s served) setting(isTiled bool) string {
 	key := base64.StdEncoding.EncodeToString(s.PublicKey())
@@ -62,7 +71,7 @@ func must(t testing.TB, err error) {
 func ctwatch(t *testing.T, arguments ...string) (status int, out, faults string) {
 	t.Helper()
 	var stdout, stderr bytes.Buffer
-	status = run(context.Background(), arguments, &stdout, &stderr)
+	status = program().Run(context.Background(), arguments, &stdout, &stderr)
 	return status, stdout.String(), stderr.String()
 }
 

@@ -13,7 +13,7 @@ import (
 	"time"
 
 	"wagtenib/internal/command/settingsfile"
-	"wagtenib/internal/watch"
+	"wagtenib/internal/watch/logflags"
 	"wagtenib/internal/watch/namesearch"
 	"wagtenib/internal/watch/watchstore"
 )
@@ -24,9 +24,6 @@ var fileRules = settingsfile.Rules{
 	Several: []string{"name", "names", "certspotter-watchlist", "log", "mail", "webhook", "command", "expect-key",
 		"expect-issuer", "page-host"},
 }
-
-// defaultList is the log list of browsers.
-const defaultList = "https://www.gstatic.com/ct/log_list/v3/log_list.json"
 
 // settings holds the values of the command line and of the config file.
 type settings struct {
@@ -50,12 +47,9 @@ type timeSettings struct {
 
 // logSettings holds the settings that say which logs are watched, and how.
 type logSettings struct {
-	list      string
-	listKey   []byte // PEM
-	only      []watch.Log
+	logflags.Logs
 	fromStart bool
 	pause     time.Duration
-	contact   string
 	once      bool
 	mirror    string
 	accepted  string
@@ -73,7 +67,7 @@ type serveSettings struct {
 // a setting may be given several times, the values of both count.
 func parse(arguments []string, out io.Writer) (*settings, error) {
 	s := &settings{}
-	flags := flagsOf("run", "", out)
+	flags := flagsOf("run")
 	s.define(flags)
 	err := fileRules.ParseAndValidate(flags, arguments, s.validate, errUsage)
 	if errors.Is(err, flag.ErrHelp) {
@@ -98,20 +92,15 @@ func (s *settings) define(flags *flag.FlagSet) {
 		s.addNames(namesearch.ParseList))
 	flags.Func("certspotter-watchlist", "`file` with watched names, as certspotter has it",
 		s.addNames(namesearch.ParseCertspotterList))
-	flags.StringVar(&s.folder, "folder", defaultFolder(), "`folder` of the store")
-	flags.StringVar(&s.logs.list, "log-list", "",
-		"`file or URL` of a log list (version 3), which is followed. The default is "+defaultList+", or none if --log "+
-			"is given")
-	flags.Func("log-list-key", "`file` with the public key in PEM that must have signed the log list", s.readListKey)
-	flags.Func("log", "a log: its `address`, a space, and its public key (a PEM file, or base64). tiled+https://.. is "+
-		"a tiled log; a third word is its origin if that is not its address. May be given several times", s.addLog)
+	flags.StringVar(&s.folder, "folder", watchstore.DefaultFolder(), "`folder` of the store")
+	s.logs.Define(flags)
 	flags.BoolVar(&s.logs.fromStart, "from-start", false,
 		"read a log that was never read from its first entry on, and not from its end")
 	flags.DurationVar(&s.logs.pause, "pause", time.Minute, "time between two readings of a log's tree head")
-	flags.StringVar(&s.logs.contact, "contact", "", "your mail `address` or URL, which logs see in the User-Agent")
 	flags.BoolVar(&s.logs.once, "once", false,
 		"read each log up to its newest head once, send what was found, and end: for cron")
-	flags.StringVar(&s.logs.mirror, "keep", "", "`folder` in which a copy of each tiled log is kept that can be served")
+	flags.StringVar(&s.logs.mirror, "keep", "", "`folder` in which a mirror of each tiled log is kept, from its first entry on, in a folder of the log's ID. With "+
+		"it, --name is not needed")
 	flags.StringVar(&s.logs.accepted, "accepted-folder", "",
 		"`folder` that gets the head of each tiled log that was accepted last, for a witness (ctwitness --accepted-by)")
 	s.logs.policy.define(flags)
@@ -150,10 +139,11 @@ func appendTo(list *[]string) func(string) error {
 	}
 }
 
-// validate returns an error if a setting is missing or wrong. It also sets the default log list.
+// validate returns an error if a setting is missing or wrong. It also sets the default log list, and that no alert is
+// caused if no name is watched.
 func (s *settings) validate() error {
 	switch {
-	case len(s.names) == 0:
+	case len(s.names) == 0 && s.logs.mirror == "":
 		return errors.New("there is no watched name (write --name example.org, or --names FILE)")
 	case s.logs.pause < time.Second:
 		return errors.New("--pause must be at least 1s, so that logs are not asked too often")
@@ -168,10 +158,14 @@ func (s *settings) validate() error {
 		watchstore.Unread(s.unread)) {
 		return fmt.Errorf("--unread %q is none of all, mentioned and none", s.unread)
 	}
-	if s.logs.list == "" && len(s.logs.only) == 0 {
-		s.logs.list = defaultList
+	if len(s.names) == 0 {
+		// A mirror without names has nobody who owns a certificate.
+		s.unread = string(watchstore.UnreadNone)
 	}
-	if s.logs.listKey != nil && s.logs.list == "" {
+	if s.logs.List == "" && len(s.logs.Only) == 0 {
+		s.logs.List = logflags.DefaultList
+	}
+	if s.logs.ListKey != nil && s.logs.List == "" {
 		return errors.New("--log-list-key needs --log-list")
 	}
 	return nil
@@ -243,11 +237,6 @@ func readNames(path string, parse func(io.Reader) ([]namesearch.Name, error)) ([
 		return nil, fmt.Errorf("%s: %w", path, err)
 	}
 	return names, nil
-}
-
-func (s *settings) readListKey(path string) (err error) {
-	s.logs.listKey, err = os.ReadFile(path)
-	return err
 }
 
 func (s *settings) addKey(text string) error {

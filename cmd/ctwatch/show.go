@@ -9,6 +9,7 @@ import (
 	"errors"
 	"fmt"
 	"io"
+	"os"
 	"slices"
 	"strconv"
 	"strings"
@@ -20,6 +21,7 @@ import (
 	"wagtenib/bindings/go/wagtenib"
 	"wagtenib/internal/watch"
 	"wagtenib/internal/watch/alert"
+	"wagtenib/internal/watch/logflags"
 	"wagtenib/internal/watch/namesearch"
 )
 
@@ -28,11 +30,11 @@ var _ = addCommand("show", "LOG INDEX prints an entry of a log, and checks that 
 // runShow prints an entry, and checks its inclusion proof with the log's newest head. The exit status is statusAccused
 // if the proof does not lead to the head, and statusUnread if the log does not answer.
 func runShow(ctx context.Context, arguments []string, out io.Writer) error {
-	s := &auditSettings{}
-	flags := flagsOf("show", "", out)
-	s.defineLogs(flags)
-	flags.StringVar(&s.evidence, "evidence", "", "new `folder` that gets the entry, its audit path and the tree head "+
-		"that the log signed, for ctfsck evidence")
+	flags := flagsOf("show")
+	var asked logflags.Logs
+	asked.Define(flags)
+	folder := flags.String("evidence", "", "new `folder` that gets the entry, its audit path and the tree head "+
+		"that the log signed, for ctaudit evidence")
 	arguments, err := parseFlags(flags, arguments, 2, out)
 	if err != nil {
 		return err
@@ -41,13 +43,17 @@ func runShow(ctx context.Context, arguments []string, out io.Writer) error {
 	if err != nil {
 		return fmt.Errorf("%w: %q is not the index of an entry (write a number, as in an alert)", errUsage, arguments[1])
 	}
-	client, err := s.client()
-	if err != nil {
-		return err
+	if err := watch.CheckNew(*folder); *folder != "" && err != nil {
+		return fmt.Errorf("%w: --evidence: %w", errUsage, err)
 	}
-	logs, err := s.readLogs(ctx, client)
+	client, err := asked.Client("ctwatch")
 	if err != nil {
-		return err
+		return fmt.Errorf("%w: --contact: %w", errUsage, err)
+	}
+	client.Retrying = logflags.PrintRetries("ctwatch", os.Stderr)
+	logs, err := asked.All(ctx, client)
+	if err != nil {
+		return &statusError{statusUnread, fmt.Sprintf("ctwatch: %v", err)}
 	}
 	log, err := logOf(logs, arguments[0])
 	if err != nil {
@@ -72,14 +78,14 @@ func runShow(ctx context.Context, arguments []string, out io.Writer) error {
 		return err
 	}
 	proof, err := prove(ctx, reader, head, entry, out)
-	if err != nil || s.evidence == "" {
+	if err != nil || *folder == "" {
 		return err
 	}
-	return s.writeEntry(log, head, entry, proof, out)
+	return writeEntry(*folder, log, head, entry, proof, out)
 }
 
 // writeEntry writes the files that show others that the log has an entry.
-func (s *auditSettings) writeEntry(log watch.Log, head watch.Head, entry watch.Entry, proof watch.Inclusion,
+func writeEntry(folder string, log watch.Log, head watch.Head, entry watch.Entry, proof watch.Inclusion,
 	out io.Writer) error {
 	content, err := json.Marshal(proof)
 	if err != nil {
@@ -91,11 +97,11 @@ func (s *auditSettings) writeEntry(log watch.Log, head watch.Head, entry watch.E
 	if err != nil {
 		return err
 	}
-	if err := writeFiles(s.evidence, evidence.Files); err != nil {
+	if err := evidence.Write(folder); err != nil {
 		return err
 	}
-	_, err = fmt.Fprintf(out, "%s has the files that show this to others (ctfsck evidence %s KEY.PEM checks them).\n",
-		s.evidence, s.evidence)
+	_, err = fmt.Fprintf(out, "%s has the files that show this to others (ctaudit evidence %s KEY.PEM checks them).\n",
+		folder, folder)
 	return err
 }
 

@@ -71,7 +71,7 @@ func TestWritesTheProofOfAnEntry(t *testing.T) {
 		if err != nil || !strings.Contains(shown, "its leaf 6 is the file leaf") {
 			t.Errorf("tiled %v: %v: %s", isTiled, err, shown)
 		}
-		if status, _, faults = ctwatch(t, arguments...); status != statusFault || !strings.Contains(faults, "new folder") {
+		if status, _, faults = ctwatch(t, arguments...); status != statusUsage || !strings.Contains(faults, "new folder") {
 			t.Errorf("tiled %v: the folder is not new: status %d: %s", isTiled, status, faults)
 		}
 		for _, name := range []string{watch.FileLeaf, watch.FileHead, watch.FileProof} {

@@ -68,7 +68,7 @@ func Extensions(index uint64) []byte {
 }
 
 // ReadData returns the leaves of a data tile, at most Width. The error wraps ErrTile. The programs that check a log
-// from outside (internal/audit/judge, cmd/ctfollow) have a reader of their own.
+// from outside (internal/audit/judge, tests/clients/tlog) have a reader of their own.
 func ReadData(tile []byte) (leaves []Leaf, err error) {
 	for rest := cryptobyte.String(tile); !rest.Empty(); {
 		leaf, ok := readLeaf(&rest)

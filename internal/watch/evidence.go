@@ -12,7 +12,7 @@ import (
 	"wagtenib/internal/ct"
 )
 
-// The verdicts of evidence. `ctfsck evidence FOLDER` checks the files of each (wagtenib/internal/audit/judge).
+// The verdicts of evidence. `ctaudit evidence` checks the files of each (wagtenib/internal/audit/judge).
 const (
 	VerdictFork      = "fork"       // two roots of one size
 	VerdictShrunk    = "shrunk"     // fewer leaves, and no earlier timestamp

@@ -10,8 +10,8 @@ It needs root and mmdebstrap (Debian's package of that name). The release is mad
 built, a program that only says so is in its place, and no line runs it. The release that the page upgrades to is this one with another VERSION.
 
 Debian's packages come from its mirror. Everything else happens in a network of its own, which has only loopback. No systemd runs there: tests/installation/systemctl does
-what the units' files say, and systemd-analyze looks at these. Beside the page's lines, certspotter, tlog (x/mod, in ctfollow) and curl read the log through
-nginx over TLS. Prometheus has its metrics and alerts. An older copy of the log is restored, and refused. ctfsck judges the log from its folder, with all
+what the units' files say, and systemd-analyze looks at these. Beside the page's lines, certspotter, ctwatch and curl read the log through
+nginx over TLS. Prometheus has its metrics and alerts. An older copy of the log is restored, and refused. ctaudit judges the log from its folder, with all
 answers. The script prints what it saw, and ends with status 1 if something differs from the page.
 """
 import argparse
@@ -228,12 +228,12 @@ class Trial:
     def __init__(self, bare):
         self.bare, self.seen = bare, {}
         # The work before a line and the checks after it, by the line's first words.
-        self.before = {"cp -an /root/backup": self.lose_an_issuer, "ctwatch cosign": self.watch, "ctserve roots": self.make_table}
+        self.before = {"cp -an /root/backup": self.lose_an_issuer, "ctaudit cosign": self.watch, "ctserve roots": self.make_table}
         self.behind = {
             "nginx -t": lambda said: bare.run(f"echo 127.0.0.1 {HOST} >> /etc/hosts", quiet=True), "promtool": self.figures, "ctload": self.submitted, "rm /etc/ctserve/roots": self.root_went,
             "curl -s --cacert": self.checkpoint, "systemctl start": self.goes_on, "cp -an /root/backup": self.issuer_is_back, "systemctl restart ctserve": self.upgraded,
-            "ctfollow": self.mirrored, "ctfsck": self.judged, "systemctl enable --now ctwitness": self.witnessed, "ctwatch cosign": self.cosigned,
-            "ctserve roots": self.roots_came, "ctserve audit": self.passed, "runuser -u ctserve -- ctserve archive": self.archived, "curl -s --fail http://127.0.0.1:8628": self.archive_served,
+            "ctwatch run": self.mirrored, "ctaudit fsck": self.judged, "systemctl enable --now ctwitness": self.witnessed, "ctaudit cosign": self.cosigned,
+            "ctserve roots": self.roots_came, "ctaudit probe": self.passed, "runuser -u ctserve -- ctserve archive": self.archived, "curl -s --fail http://127.0.0.1:8628": self.archive_served,
         }
 
     def run(self, lines):
@@ -309,10 +309,10 @@ class Trial:
             fail(f"after an upgrade it is {said}, with {head()}")
 
     def mirrored(self, said):
-        own, mirror = self.bare.folder / f"var/lib/ctserve/{NAME}/objects", self.bare.folder / "root/mirror"
+        own, (mirror,) = self.bare.folder / f"var/lib/ctserve/{NAME}/objects", (self.bare.folder / "root/mirror").iterdir()
         kept = [path.relative_to(mirror) for path in mirror.rglob("*") if path.is_file()]
         tiles = [path for path in kept if path.parts[0] in ("tile", "issuer")]
-        if f"{self.size} entries" not in said or (mirror / "checkpoint").read_bytes() != get(f"{LOG}/checkpoint") or len(tiles) < 3:
+        if (mirror / "checkpoint").read_bytes() != get(f"{LOG}/checkpoint") or len(tiles) < 3:
             fail(f"the mirror has {len(tiles)} tiles and issuers: {said}")
         for path in tiles:
             if (mirror / path).read_bytes() != (own / path).read_bytes():
@@ -320,7 +320,7 @@ class Trial:
 
     def judged(self, said):
         if f" {self.size} leaves " not in said or not said.endswith(": all as they have to be\n"):
-            fail(f"ctfsck says of the backup {said}")
+            fail(f"ctaudit fsck says of the backup {said}")
 
     def make_table(self):
         """A table as CCADB has them, of Debian's roots: the first is for mail only, and the second was removed."""
@@ -383,10 +383,10 @@ class Trial:
             fail(f"certspotter reports {len(names)} names of {self.size}")
 
     def readers(self):
-        """tlog of x/mod, in ctfollow, and curl read the log through nginx over TLS."""
-        said = self.bare.run(f"ctfollow --nodes {SITE} --origin {HOST} --key 2027h1.pem --once")
-        if f"{self.size} entries, root" not in said or "all was right" not in said:
-            fail(f"ctfollow says {said}")
+        """ctwatch and curl read the log through nginx over TLS."""
+        self.bare.run(f'ctwatch run --once --folder read --keep tiles --log "tiled+{SITE} 2027h1.pem"')
+        if [path.read_text().split("\n")[1] for path in (self.bare.folder / "root/tiles").glob("*/checkpoint")] != [str(self.size)]:
+            fail("ctwatch reads another tree over TLS")
         entries = json.loads(self.bare.run(f"curl -s --fail '{SITE}/ct/v1/get-entries?start=0&end=0'"))["entries"]
         version = self.bare.run(f"curl -s --fail -o tile -w '%{{http_version}} %{{http_code}}' {SITE}/tile/data/000{'' if self.size >= 256 else f'.p/{self.size}'}")
         if len(entries) != 1 or version != "2 200":
@@ -413,7 +413,7 @@ class Trial:
             if unit in said:
                 fail(f"systemd-analyze says {said}")
         self.bare.run(f"systemctl stop ctserve@{NAME}")
-        print(self.bare.run(f"ctfsck /var/lib/ctserve/{NAME}/objects 2027h1.pem answers"), end="")
+        print(self.bare.run(f"ctaudit fsck /var/lib/ctserve/{NAME}/objects 2027h1.pem answers"), end="")
         listed = json.loads(self.bare.run(f"ctserve list-entry --config /etc/ctserve/{NAME}.conf --operator An-operator --email mail@log.example"))
         if listed["operators"][0]["tiled_logs"][0]["submission_url"] != f"{SITE}/":
             fail(f"the list's entry is {listed}")
@@ -444,7 +444,7 @@ def main():
         trial.put_back()
         trial.judge()
         lintian(debs)
-        print(f"bare.py: {len(lines)} lines, {len(own)} of them of {PAGE.name}, as typed: the log serves through nginx to certspotter, tlog and curl, is watched by Prometheus, reloads,"
+        print(f"bare.py: {len(lines)} lines, {len(own)} of them of {PAGE.name}, as typed: the log serves through nginx to certspotter, ctwatch and curl, is watched by Prometheus, reloads,"
               " is backed up, put back where that may be, and upgraded; it takes the roots of a table, passes the probe, and is archived.")
     finally:
         bare.close()

@@ -166,6 +166,14 @@ func Positive(name string, value time.Duration) error {
 	return nil
 }
 
+// Percentage returns an error unless the number of a flag is from 0 to 100. A flag accepts NaN, which is no percentage.
+func Percentage(name string, value float64) error {
+	if value >= 0 && value <= 100 {
+		return nil
+	}
+	return fmt.Errorf("--%s %v is not a percentage (write a number from 0 to 100)", name, value)
+}
+
 // refused returns why a flag refuses a value, and what to write. For a boolean flag, that is the format trueOrFalse
 // with the flag's name. A flag of a type that is not below has a reason of its own.
 func refused(of *flag.Flag, value, reason, trueOrFalse string) string {

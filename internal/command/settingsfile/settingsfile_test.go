@@ -5,6 +5,7 @@ import (
 	"flag"
 	"fmt"
 	"io"
+	"math"
 	"os"
 	"path/filepath"
 	"strings"
@@ -37,6 +38,18 @@ func TestParse(t *testing.T) {
 			fmt.Sprint(*size) != c.size || fmt.Sprint(*logs) != c.logs {
 			t.Errorf("%.40q: %v, %d, %v", c.text, err, *size, *logs)
 		}
+	}
+}
+
+// TestPercentage checks that a percentage is a number from 0 to 100.
+func TestPercentage(t *testing.T) {
+	for value, isRight := range map[float64]bool{0: true, 99.5: true, 100: true, -0.1: false, 100.1: false} {
+		if err := Percentage("min", value); (err == nil) != isRight {
+			t.Errorf("%v: %v", value, err)
+		}
+	}
+	if err := Percentage("min", math.NaN()); err == nil || !strings.HasPrefix(err.Error(), "--min NaN ") {
+		t.Errorf("NaN: %v", err)
 	}
 }
 

@@ -10,7 +10,7 @@ func TestLine(t *testing.T) {
 	}
 	number, commit = "1.2.3", "0123456789ab"
 	defer func() { number, commit = "", "" }()
-	if line := Line("ctfollow"); line != "ctfollow 1.2.3 (commit 0123456789ab)\n" {
+	if line := Line("ctwatch"); line != "ctwatch 1.2.3 (commit 0123456789ab)\n" {
 		t.Errorf("%q", line)
 	}
 }

@@ -15,7 +15,6 @@ import (
 	"encoding/hex"
 	"errors"
 	"fmt"
-	"io/fs"
 	"os"
 	"path/filepath"
 
@@ -34,9 +33,9 @@ var (
 	// ErrFolder means that a folder is not a mirror of this log.
 	ErrFolder = errors.New("mirror: the folder is not a mirror of this log (name another folder, or restore its " +
 		"checkpoint)")
-	// ErrAhead means that the folder has more entries than the head.
-	ErrAhead = errors.New("mirror: the folder has more entries than were accepted: the state of the monitor is an older " +
-		"one")
+	// ErrAhead means that the folder has more entries than the head, or a later head.
+	ErrAhead = errors.New("mirror: the folder has a later head than was accepted, because the state of the monitor is an " +
+		"older one (the mirror continues with the log's next later head)")
 )
 
 // The names in the folder in addition to the tiles and issuers, and the maximum number of bytes of a stored file.
@@ -103,8 +102,9 @@ func (m *Mirror) stagedPath(index uint64, width int) string {
 // error wraps ErrOther or ErrAhead, or says why a file could not be read, fetched or written.
 func (m *Mirror) Accept(ctx context.Context, head watch.Head) error {
 	switch {
-	case head.TreeSize < m.kept.TreeSize:
-		return fmt.Errorf("%w: %d and %d", ErrAhead, m.kept.TreeSize, head.TreeSize)
+	case head.TreeSize < m.kept.TreeSize || head.Timestamp < m.kept.Timestamp:
+		return fmt.Errorf("%w: %d entries at %d ms, and %d at %d ms", ErrAhead, m.kept.TreeSize, m.kept.Timestamp,
+			head.TreeSize, head.Timestamp)
 	case head.TreeSize == m.kept.TreeSize && m.kept.TreeSize > 0 && head.Root != m.kept.Root:
 		return fmt.Errorf("%w: another root of %d leaves", ErrOther, head.TreeSize)
 	case head.TreeHead == m.kept:
@@ -137,18 +137,37 @@ type tile struct {
 	leaves []datatile.Leaf
 }
 
-// readTile returns a data tile of the tree of a size. If it is not staged, readTile reads it from the log, and stages
-// it.
-func (m *Mirror) readTile(ctx context.Context, index, size uint64) (tile, error) {
+// stageMissing reads the data tiles of the tree of a size that are neither stored nor staged, and stages them.
+func (m *Mirror) stageMissing(ctx context.Context, size uint64) error {
+	isStaged := func(index uint64) bool {
+		_, width := logclient.DataTileName(index, size)
+		_, err := os.Stat(m.stagedPath(index, width))
+		return err == nil
+	}
+	tiles := (size + logclient.TileWidth - 1) / logclient.TileWidth
+	for first := m.kept.TreeSize / logclient.TileWidth; first < tiles; first++ {
+		if isStaged(first) {
+			continue
+		}
+		// The client reads a range ahead.
+		end := first + 1
+		for end < tiles && !isStaged(end) {
+			end++
+		}
+		err := m.client.DataTiles(ctx, first*logclient.TileWidth, min(size, end*logclient.TileWidth),
+			func(read logclient.DataTile, _ bool) error { return m.Stage(read) })
+		if err != nil {
+			return fmt.Errorf("mirror: %w", err)
+		}
+		first = end
+	}
+	return nil
+}
+
+// readTile returns a staged data tile of the tree of a size.
+func (m *Mirror) readTile(index, size uint64) (tile, error) {
 	name, width := logclient.DataTileName(index, size)
 	content, err := os.ReadFile(m.stagedPath(index, width))
-	if errors.Is(err, fs.ErrNotExist) {
-		err = m.client.DataTiles(ctx, index*logclient.TileWidth, min(size, (index+1)*logclient.TileWidth),
-			func(read logclient.DataTile, _ bool) error {
-				content = read.Bytes
-				return m.Stage(read)
-			})
-	}
 	if err != nil {
 		return tile{}, fmt.Errorf("mirror: %s: %w", name, err)
 	}
@@ -188,12 +207,15 @@ func (m *Mirror) check(ctx context.Context, head wagtenib.TreeHead) error {
 
 // root returns the root of the tree of a size. It writes only staged tiles.
 func (m *Mirror) root(ctx context.Context, size uint64) (root wagtenib.Hash, err error) {
+	if err := m.stageMissing(ctx, size); err != nil {
+		return root, err
+	}
 	tree, err := m.edge(ctx, func(string, []byte) error { return nil })
 	if err != nil {
 		return root, err
 	}
 	for index := m.kept.TreeSize / logclient.TileWidth; index*logclient.TileWidth < size; index++ {
-		data, err := m.readTile(ctx, index, size)
+		data, err := m.readTile(index, size)
 		if err != nil {
 			return root, err
 		}
@@ -213,7 +235,7 @@ func (m *Mirror) grow(ctx context.Context, size uint64) error {
 		return err
 	}
 	for index := m.kept.TreeSize / logclient.TileWidth; index*logclient.TileWidth < size; index++ {
-		data, err := m.readTile(ctx, index, size)
+		data, err := m.readTile(index, size)
 		if err != nil {
 			return err
 		}

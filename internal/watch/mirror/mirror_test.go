@@ -11,10 +11,14 @@ import (
 	"os"
 	"path/filepath"
 	"strings"
+	"sync"
+	"syscall"
 	"testing"
 
 	"golang.org/x/mod/sumdb/tlog"
 
+	"wagtenib/bindings/go/wagtenib"
+	"wagtenib/internal/blob"
 	"wagtenib/internal/logclient"
 	"wagtenib/internal/testkit"
 	"wagtenib/internal/watch"
@@ -98,6 +102,10 @@ func (w *world) checkMirrored(t *testing.T, size uint64) {
 		name, err := filepath.Rel(w.folder, path)
 		if err != nil {
 			return err
+		}
+		// The file server may run as another user.
+		if info, err := entry.Info(); err != nil || info.Mode().Perm() != 0o644 {
+			t.Errorf("%s: %v, %v", name, info.Mode(), err)
 		}
 		files[filepath.ToSlash(name)], err = os.ReadFile(path)
 		return err
@@ -243,11 +251,143 @@ func TestNeverChangesAFile(t *testing.T) {
 	if err != nil {
 		t.Fatal(err)
 	}
-	small := w.log.Fork(50)
-	small.Publish(50, 2000)
-	if err := m.Accept(context.Background(), watch.Head{Signed: small.Checkpoint()}); !errors.Is(err, mirror.ErrAhead) {
-		t.Errorf("a head of fewer entries: %v", err)
+	root := w.log.Root(100)
+	for what, of := range map[string]struct {
+		head     wagtenib.TreeHead
+		expected error
+	}{
+		"fewer entries":                   {wagtenib.TreeHead{TreeSize: 50, Timestamp: 9000, Root: w.log.Root(50)}, mirror.ErrAhead},
+		"an earlier timestamp":            {wagtenib.TreeHead{TreeSize: 100, Timestamp: 999, Root: root}, mirror.ErrAhead},
+		"more entries at an earlier time": {wagtenib.TreeHead{TreeSize: 200, Timestamp: 999, Root: w.log.Root(200)}, mirror.ErrAhead},
+		"another root":                    {wagtenib.TreeHead{TreeSize: 100, Timestamp: 9000}, mirror.ErrOther},
+		"the same head":                   {wagtenib.TreeHead{TreeSize: 100, Timestamp: 1000, Root: root}, nil},
+	} {
+		before := w.checkpoint(t)
+		err := m.Accept(context.Background(), watch.Head{TreeHead: of.head, Signed: []byte("another checkpoint")})
+		if !errors.Is(err, of.expected) || w.checkpoint(t) != before {
+			t.Errorf("%s: %v, and the checkpoint is %q", what, err, w.checkpoint(t))
+		}
 	}
+}
+
+// checkpoint returns the stored checkpoint.
+func (w *world) checkpoint(t *testing.T) string {
+	t.Helper()
+	content, err := os.ReadFile(filepath.Join(w.folder, "checkpoint"))
+	if err != nil {
+		t.Fatal(err)
+	}
+	return string(content)
+}
+
+// A file that the mirror would write exists with other bytes, a stored tile is missing, or an issuer has another hash:
+// then the checkpoint stays as it is, and so does the file.
+func TestRefusesOtherFiles(t *testing.T) {
+	const other = "other bytes"
+	for what, of := range map[string]struct {
+		name     string // of the file
+		content  string // empty to delete it
+		expected error
+	}{
+		"a new hash tile with other bytes":    {"tile/0/000.p/200", other, mirror.ErrOther},
+		"a new data tile with other bytes":    {"tile/data/000.p/200", other, mirror.ErrOther},
+		"a stored data tile with other bytes": {"tile/data/000.p/100", other, mirror.ErrOther},
+		"a stored data tile is missing":       {"tile/data/000.p/100", "", blob.ErrAbsent},
+	} {
+		w := newWorld(t)
+		grow(w.log, 100)
+		testkit.Must(t, w.pass())
+		before, path := w.checkpoint(t), filepath.Join(w.folder, filepath.FromSlash(of.name))
+		if of.content == "" {
+			testkit.Must(t, os.Remove(path))
+		} else {
+			testkit.Must(t, os.WriteFile(path, []byte(of.content), 0o644))
+		}
+		grow(w.log, 100)
+		if err := w.pass(); !errors.Is(err, of.expected) || w.checkpoint(t) != before {
+			t.Errorf("%s: %v, and the checkpoint is %q", what, err, w.checkpoint(t))
+		}
+		if content, _ := os.ReadFile(path); string(content) != of.content {
+			t.Errorf("%s: the file is %q", what, content)
+		}
+	}
+	w := newWorld(t)
+	grow(w.log, 100)
+	w.log.Intercept(func(out http.ResponseWriter, r *http.Request) bool {
+		if !strings.HasPrefix(r.URL.Path, "/issuer/") {
+			return false
+		}
+		_, err := out.Write([]byte(other))
+		return err == nil
+	})
+	if err := w.pass(); !errors.Is(err, logclient.ErrNonsense) {
+		t.Errorf("an issuer with another hash: %v", err)
+	}
+	if _, err := os.Stat(filepath.Join(w.folder, "checkpoint")); !errors.Is(err, fs.ErrNotExist) {
+		t.Errorf("there is a checkpoint: %v", err)
+	}
+}
+
+// Until the new checkpoint is written, the older one has all of its tiles. A disk that is full in the middle of the new
+// one leaves the older one, and the mirror continues later.
+func TestKeepsTheOlderTree(t *testing.T) {
+	w := newWorld(t)
+	grow(w.log, 5)
+	testkit.Must(t, w.pass())
+	before, path := w.checkpoint(t), filepath.Join(w.folder, "checkpoint")
+	grow(w.log, 0)
+	err := testkit.ShortFiles(t, uint64(len(before)-20), w.pass)
+	if !errors.Is(err, syscall.EFBIG) || w.checkpoint(t) != before {
+		t.Errorf("%v, and the checkpoint is %q", err, w.checkpoint(t))
+	}
+	testkit.Must(t, w.pass())
+	w.checkMirrored(t, 5)
+	grow(w.log, 295)
+	m, err := mirror.Open(w.folder, w.watched, logclient.Options{Limits: logclient.Limits{Attempts: 1}})
+	testkit.Must(t, err)
+	testkit.Must(t, os.Rename(path, path+".older"))
+	testkit.Must(t, os.Mkdir(path, 0o755))
+	head := watch.Head{TreeHead: wagtenib.TreeHead{TreeSize: 300, Timestamp: 3000, Root: w.log.Root(300)},
+		Signed: w.log.Checkpoint()}
+	if err := m.Accept(context.Background(), head); err == nil {
+		t.Error("a checkpoint replaces a folder")
+	}
+	for _, name := range []string{"tile/data/000.p/5", "tile/0/000.p/5"} {
+		if _, err := os.Stat(filepath.Join(w.folder, name)); err != nil {
+			t.Errorf("no checkpoint is written yet: %v", err)
+		}
+	}
+	testkit.Must(t, os.Remove(path))
+	testkit.Must(t, os.Rename(path+".older", path))
+	testkit.Must(t, w.pass())
+	w.checkMirrored(t, 300)
+}
+
+// A mirror of a log that was read before it reads the log's tiles ahead: the log answers the first one only after it was
+// asked for the second one.
+func TestReadsAhead(t *testing.T) {
+	w := newWorld(t)
+	grow(w.log, 600)
+	second := make(chan struct{})
+	var once sync.Once
+	w.log.Intercept(func(_ http.ResponseWriter, r *http.Request) bool {
+		switch r.URL.Path {
+		case "/tile/data/000":
+			select {
+			case <-second:
+			case <-r.Context().Done():
+			}
+		case "/tile/data/001":
+			once.Do(func() { close(second) })
+		}
+		return false
+	})
+	m, err := mirror.Open(w.folder, w.watched, logclient.Options{Limits: logclient.Limits{Attempts: 1}})
+	testkit.Must(t, err)
+	head := watch.Head{TreeHead: wagtenib.TreeHead{TreeSize: 600, Timestamp: 6000, Root: w.log.Root(600)},
+		Signed: w.log.Checkpoint()}
+	testkit.Must(t, m.Accept(testkit.Limited(t, testkit.Longest), head))
+	w.checkMirrored(t, 600)
 }
 
 // If a log has only the full tile instead of the partial one of a head, the mirror stores the partial one.

@@ -26,6 +26,14 @@ import (
 // FileName is the name of the store in its folder.
 const FileName = "ctwatch.sqlite"
 
+// DefaultFolder returns the default folder of a store: the state directory of the systemd unit, or ct-watch.
+func DefaultFolder() string {
+	if folder := os.Getenv("STATE_DIRECTORY"); folder != "" {
+		return folder
+	}
+	return "ct-watch"
+}
+
 // application identifies the file as a store of ctwatch (PRAGMA application_id). version is the version of its tables
 // (PRAGMA user_version).
 const (

@@ -39,24 +39,36 @@ func TestEvidence(t *testing.T) {
 	none := write(keys, "none", []byte("no key"))
 	for key, expected := range map[string]string{own: "two roots of 300 leaves", stranger: "another key",
 		none: "not a public key"} {
-		status, out, problem := testkit.Runs(t, "evidence", folder, key)
+		status, out, problem := ctaudit(t, "evidence", folder, key)
 		if (status == 0) != (key == own) || !strings.Contains(out+problem, expected) {
 			t.Errorf("%s: status %d: %s%s", filepath.Base(key), status, out, problem)
 		}
 	}
+	for _, arguments := range [][]string{{folder}, {folder, own, own}, {}} {
+		if status, _, problem := ctaudit(t, append([]string{"evidence"}, arguments...)...); status != statusUsage ||
+			!strings.Contains(problem, "write ctaudit evidence FOLDER KEY.PEM;") {
+			t.Errorf("%d arguments: status %d: %s", len(arguments), status, problem)
+		}
+	}
+	for _, arguments := range [][]string{{folder, "/absent"}, {"/absent", own}, {folder, none}} {
+		if status, _, problem := ctaudit(t, append([]string{"evidence"}, arguments...)...); status != statusUsage ||
+			problem == "" {
+			t.Errorf("%q: status %d: %s", arguments, status, problem)
+		}
+	}
 	write(folder, "head-2", log.Checkpoint()[:60])
-	if status, out, problem := testkit.Runs(t, "evidence", folder, own); status != 1 ||
+	if status, out, problem := ctaudit(t, "evidence", folder, own); status != 1 ||
 		!strings.Contains(problem, "head-2") {
 		t.Errorf("half a head: status %d: %s%s", status, out, problem)
 	}
 	must(t, os.Remove(filepath.Join(folder, "head-2")))
-	if status, _, problem := testkit.Runs(t, "evidence", folder, own); status != 1 ||
+	if status, _, problem := ctaudit(t, "evidence", folder, own); status != 1 ||
 		!strings.Contains(problem, "head-2 is missing") {
 		t.Errorf("no head: status %d: %s", status, problem)
 	}
 }
 
-// TestEvidenceOfAFork makes a log that ctwatch follows sign another root. ctfsck must accept the evidence in the store
+// TestEvidenceOfAFork makes a log that ctwatch follows sign another root. The command must accept the evidence in the store
 // of ctwatch, with the log's key and without the log, in one command.
 func TestEvidenceOfAFork(t *testing.T) {
 	for _, kind := range []string{"tiled", "RFC 6962"} {
@@ -88,13 +100,13 @@ func TestEvidenceOfAFork(t *testing.T) {
 			must(t, os.WriteFile(filepath.Join(folder, name), content, 0o600))
 		}
 		must(t, os.WriteFile(key, pem.EncodeToMemory(&pem.Block{Type: "PUBLIC KEY", Bytes: log.PublicKey()}), 0o600))
-		if status, out, problem := testkit.Runs(t, "evidence", folder, key); status != 0 ||
+		if status, out, problem := ctaudit(t, "evidence", folder, key); status != 0 ||
 			!strings.Contains(out, "two roots of 300 leaves") {
 			t.Errorf("%s: status %d: %s%s", kind, status, out, problem)
 		}
 		head := filepath.Join(folder, watch.FileHead)
 		must(t, os.WriteFile(head, evidence.Files[watch.FileFirst], 0o600))
-		if status, out, problem := testkit.Runs(t, "evidence", folder, key); status != 1 {
+		if status, out, problem := ctaudit(t, "evidence", folder, key); status != 1 {
 			t.Errorf("%s: the same head twice: status %d: %s%s", kind, status, out, problem)
 		}
 	}

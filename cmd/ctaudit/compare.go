@@ -13,24 +13,22 @@ import (
 	"wagtenib/internal/watch/alert"
 )
 
-var _ = addCommand("compare", "PLACE compares the heads of logs with those that others saw, in a file, a folder or at "+
-	"a URL", runCompare)
+// comparePage is what `ctaudit compare --help` prints before the flags.
+const comparePage = `ctaudit compare PLACE
+
+Compares the heads of logs with those that others saw. PLACE is a file, a folder of files or a URL, with checkpoints one
+after the other, or answers to get-sth, one a line. The status is 3 if heads contradict each other.
+`
 
 // runCompare compares logs with the heads that others saw. Each head is compared with the log whose key signed it.
 func runCompare(ctx context.Context, arguments []string, out io.Writer) error {
-	s := &auditSettings{}
-	flags := flagsOf("compare", "", out)
-	s.defineLogs(flags)
-	s.defineEvidence(flags)
-	arguments, err := parseFlags(flags, arguments, 1, out)
+	a, flags := &asking{}, flagsOf("compare")
+	a.define(flags)
+	arguments, err := parseFlags(flags, comparePage, arguments, 1, 1, out)
 	if err != nil {
 		return err
 	}
-	client, err := s.client()
-	if err != nil {
-		return err
-	}
-	logs, err := s.readLogs(ctx, client)
+	client, logs, err := a.open(ctx)
 	if err != nil {
 		return err
 	}
@@ -38,7 +36,7 @@ func runCompare(ctx context.Context, arguments []string, out io.Writer) error {
 	if err != nil {
 		return err
 	}
-	c := comparison{s: s, client: client, out: out, left: seen}
+	c := comparison{asking: a, client: client, out: out, left: seen}
 	for _, log := range logs {
 		if err := c.compare(ctx, log); err != nil {
 			return err
@@ -47,9 +45,9 @@ func runCompare(ctx context.Context, arguments []string, out io.Writer) error {
 	return c.end()
 }
 
-// comparison holds the state of a run of ctwatch compare.
+// comparison holds the state of a run of ctaudit compare.
 type comparison struct {
-	s            *auditSettings
+	*asking
 	client       logclient.Options
 	out          io.Writer
 	left         map[string][][]byte // the heads for which no signing log was found yet, by their file or address
@@ -99,7 +97,7 @@ func (c *comparison) compare(ctx context.Context, log watch.Log) error {
 		} else {
 			c.inconsistent++
 		}
-		if err := c.s.writeEvidence(fmt.Sprint(c.inconsistent+c.notProved), view.Evidence); err != nil {
+		if err := c.writeEvidence(fmt.Sprint(c.inconsistent+c.notProved), view.Evidence); err != nil {
 			return err
 		}
 	}
@@ -116,15 +114,15 @@ func (c *comparison) end() error {
 		"log that was given\n", c.consistent, c.inconsistent, c.notProved, unknown)
 	switch {
 	case c.inconsistent > 0:
-		return &statusError{statusAccused, "ctwatch: a log signed heads that contradict each other (--evidence FOLDER " +
+		return &statusError{statusAccused, "ctaudit: a log signed heads that contradict each other (--evidence FOLDER " +
 			"keeps the evidence)"}
 	case c.notProved > 0:
-		return &statusError{statusUnread, "ctwatch: a log gave no proof for a head that others saw, which is no accusation " +
+		return &statusError{statusUnread, "ctaudit: a log gave no proof for a head that others saw, which is no accusation " +
 			"(ask again, and keep the head)"}
 	case len(c.faults) > 0:
 		return &statusError{statusUnread, errors.Join(c.faults...).Error()}
 	case c.consistent == 0:
-		return &statusError{statusUnknownLog, "ctwatch: no log that was given signed any of these heads"}
+		return &statusError{statusUnknownLog, "ctaudit: no log that was given signed any of these heads"}
 	}
 	return nil
 }

@@ -17,15 +17,12 @@ import (
 	"os"
 	"path/filepath"
 	"strings"
+	"syscall"
 	"testing"
 
 	"wagtenib/internal/audit/judge"
 	"wagtenib/internal/testkit"
 )
-
-var must = testkit.Must
-
-func TestMain(m *testing.M) { testkit.Main(m, main) }
 
 // log is a log with one leaf, whose certificate is longer than the default maximum of a scanner's line.
 type log struct {
@@ -86,21 +83,27 @@ func file(t testing.TB, answers ...judge.Answer) string {
 	return path
 }
 
+// judged judges a folder.
+func judged(t *testing.T, folder, keyFile string, answerFiles []string) (judge.Report, error) {
+	t.Helper()
+	return judgeLog(t.Context(), folder, keyFile, answerFiles, t.TempDir())
+}
+
 // TestJudge checks that all answers in all files are checked, and that the error names a file that does not exist or
 // has no key or answer.
 func TestJudge(t *testing.T) {
 	l := newLog(t)
-	report, err := judgeLog(l.folder, l.key, []string{file(t, l.answer), file(t, l.answer, l.answer), file(t)})
+	report, err := judged(t, l.folder, l.key, []string{file(t, l.answer), file(t, l.answer, l.answer), file(t)})
 	if expected := (judge.Report{Heads: 1, Leaves: 1, Tiles: 2, Answers: 3}); err != nil || report != expected {
 		t.Fatalf("%+v, expected %+v: %v", report, expected, err)
 	}
 	wrong := l.answer
 	wrong.Timestamp++
-	if _, err := judgeLog(l.folder, l.key, []string{file(t, wrong), file(t, l.answer)}); err == nil ||
+	if _, err := judged(t, l.folder, l.key, []string{file(t, wrong), file(t, l.answer)}); err == nil ||
 		!strings.Contains(err.Error(), "answer 0") {
 		t.Errorf("a wrong answer of the first file: %v", err)
 	}
-	if _, err := judgeLog(l.folder, l.key, []string{file(t, l.answer), file(t, wrong)}); err == nil ||
+	if _, err := judged(t, l.folder, l.key, []string{file(t, l.answer), file(t, wrong)}); err == nil ||
 		!strings.Contains(err.Error(), "answer 1") {
 		t.Errorf("a wrong answer of the second file: %v", err)
 	}
@@ -111,7 +114,7 @@ func TestJudge(t *testing.T) {
 	} {
 		path := filepath.Join(t.TempDir(), "key")
 		must(t, os.WriteFile(path, []byte(text), 0o600))
-		if _, err := judgeLog(l.folder, path, nil); err == nil ||
+		if _, err := judged(t, l.folder, path, nil); err == nil ||
 			!strings.Contains(err.Error(), "is not a public key in PEM") {
 			t.Errorf("%s in place of a key: %v", what, err)
 		}
@@ -120,14 +123,14 @@ func TestJudge(t *testing.T) {
 	whole, err := os.ReadFile(file(t, l.answer))
 	must(t, err)
 	must(t, os.WriteFile(long, append(whole, strings.Repeat(" ", maxLine)+"{}\n"...), 0o600))
-	if _, err := judgeLog(l.folder, l.key, []string{long}); !errors.Is(err, bufio.ErrTooLong) ||
+	if _, err := judged(t, l.folder, l.key, []string{long}); !errors.Is(err, bufio.ErrTooLong) ||
 		!strings.Contains(err.Error(), long+": line 2: ") {
 		t.Errorf("a line that is too long: %v", err)
 	}
 	for _, text := range []string{"x\n", "[]\n", `{"timestamp":"7"}` + "\n", "null\n", "{\n}\n"} {
 		path := filepath.Join(t.TempDir(), "answers")
 		must(t, os.WriteFile(path, []byte(text), 0o600))
-		if _, err := judgeLog(l.folder, l.key, []string{path}); err == nil ||
+		if _, err := judged(t, l.folder, l.key, []string{path}); err == nil ||
 			!strings.Contains(err.Error(), path+": not an answers file of ctload: line 1") {
 			t.Errorf("%q: %v", text, err)
 		}
@@ -138,7 +141,7 @@ func TestJudge(t *testing.T) {
 		if of[2] != "" {
 			files = append(files, of[2])
 		}
-		if _, err := judgeLog(of[0], of[1], files); !errors.Is(err, os.ErrNotExist) {
+		if _, err := judged(t, of[0], of[1], files); !errors.Is(err, os.ErrNotExist) {
 			t.Errorf("%q: %v", of, err)
 		}
 	}
@@ -155,7 +158,7 @@ func TestRefusesOtherAnswers(t *testing.T) {
 		must(t, err)
 		must(t, os.WriteFile(path, append(whole, text+"\n"...), 0o600))
 		expected = path + ": not an answers file of ctload: line 2 has no field " + expected + " "
-		if _, err := judgeLog(l.folder, l.key, []string{path}); err == nil || !strings.Contains(err.Error(), expected) {
+		if _, err := judged(t, l.folder, l.key, []string{path}); err == nil || !strings.Contains(err.Error(), expected) {
 			t.Errorf("%s: %v, expected %q", what, err, expected)
 		}
 	}
@@ -189,23 +192,8 @@ func TestRefusesOtherAnswers(t *testing.T) {
 	}
 }
 
-// TestHelp checks that a request for help prints what each argument is on standard output, with status 0.
-func TestHelp(t *testing.T) {
-	for _, arguments := range [][]string{{"--help"}, {"-h"}, {"help"}, {"evidence", "--help"}} {
-		status, out, problem := testkit.Runs(t, arguments...)
-		if status != 0 || problem != "" {
-			t.Errorf("%q: status %d and %q", arguments, status, problem)
-		}
-		for _, expected := range []string{"\n  FOLDER|s3://.. ", "\n  KEY.PEM ", "\n  ANSWERS ", "\n  FOLDER "} {
-			if !strings.Contains(out, expected) {
-				t.Errorf("%q: there is no %q in %q", arguments, expected, out)
-			}
-		}
-	}
-}
-
 // TestStatus checks that a correct log has status 0, that a wrong one has status 1 and the reason on standard error,
-// and that missing arguments have status 2.
+// and that wrong arguments have status 2.
 func TestStatus(t *testing.T) {
 	l := newLog(t)
 	wrong := l.answer
@@ -217,16 +205,38 @@ func TestStatus(t *testing.T) {
 	}{
 		{[]string{l.folder, l.key, file(t, l.answer)}, 0,
 			"1 heads, 1 leaves (0 repeats), 2 tiles, 0 issuers, 1 timestamps: all as they have to be\n", ""},
-		{[]string{l.folder, l.key, file(t, wrong)}, 1, "", "a timestamp of another log"},
-		{[]string{t.TempDir(), l.key}, 1, "", "there is no head"},
-		{[]string{l.folder}, 2, "", "ctfsck FOLDER"},
-		{nil, 2, "", "ctfsck FOLDER"},
-		{[]string{"--version"}, 0, "ctfsck ", ""},
+		{[]string{l.folder, l.key, file(t, wrong)}, statusFault, "", "a timestamp of another log"},
+		{[]string{t.TempDir(), l.key}, statusFault, "", "there is no head"},
+		{[]string{"/absent", l.key}, statusUsage, "", "no such file"},
+		{[]string{l.folder, "/absent"}, statusUsage, "", "no such file"},
+		{[]string{l.folder, l.key, "/absent"}, statusUsage, "", "no such file"},
+		{[]string{l.folder, file(t)}, statusUsage, "", "is not a public key in PEM"},
+		{[]string{l.folder}, statusUsage, "", "write ctaudit fsck FOLDER|s3://.. KEY.PEM [ANSWERS..];"},
+		{nil, statusUsage, "", "write ctaudit fsck FOLDER|s3://.. KEY.PEM [ANSWERS..];"},
 	} {
-		if status, out, problem := testkit.Runs(t, of.arguments...); status != of.status ||
-			!strings.HasPrefix(out, of.out) || (of.out == "") != (out == "") ||
-			!strings.Contains(problem, of.problem) || (of.problem == "") != (problem == "") {
+		if status, out, problem := ctaudit(t, append([]string{"fsck"}, of.arguments...)...); status != of.status ||
+			out != of.out || !strings.Contains(problem, of.problem) || (of.problem == "") != (problem == "") {
 			t.Errorf("%q: status %d, %q and %q", of.arguments, status, out, problem)
 		}
+	}
+}
+
+// TestEndsAtASignal checks that SIGTERM ends a run that still reads, with status 1.
+func TestEndsAtASignal(t *testing.T) {
+	l := newLog(t)
+	answers := filepath.Join(t.TempDir(), "answers")
+	must(t, syscall.Mkfifo(answers, 0o600))
+	command := testkit.Program(t, "fsck", l.folder, l.key, answers)
+	var problem bytes.Buffer
+	command.Stderr = &problem
+	must(t, command.Start())
+	// The file can be opened after the program has opened it to read.
+	writer, err := os.OpenFile(answers, os.O_WRONLY, 0)
+	must(t, err)
+	defer writer.Close()
+	must(t, command.Process.Signal(syscall.SIGTERM))
+	if err := command.Wait(); command.ProcessState.ExitCode() != statusFault ||
+		!strings.Contains(problem.String(), "a signal ended it") {
+		t.Errorf("%v: %s", err, &problem)
 	}
 }

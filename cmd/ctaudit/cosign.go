@@ -13,12 +13,17 @@ import (
 	"wagtenib/internal/blob"
 	"wagtenib/internal/watch"
 	"wagtenib/internal/watch/alert"
+	"wagtenib/internal/watch/logflags"
 	"wagtenib/internal/watch/watchstore"
 	"wagtenib/internal/witness"
 )
 
-var _ = addCommand("cosign", "URL,KEY asks a witness to cosign the newest head of a tiled log that ctwatch run "+
-	"accepted", runCosign)
+// cosignPage is what `ctaudit cosign --help` prints before the flags.
+const cosignPage = `ctaudit cosign URL,KEY
+
+Asks a witness to cosign the newest head of a tiled log that ctwatch run accepted. URL is the witness's address, and KEY
+its verifier key.
+`
 
 // witnessTimeout is the maximum time for the answer of a witness.
 const witnessTimeout = 30 * time.Second
@@ -26,12 +31,12 @@ const witnessTimeout = 30 * time.Second
 // runCosign asks a witness to cosign the newest accepted head of a tiled log, and writes the checkpoint with the
 // cosignature to a file, or prints it.
 func runCosign(ctx context.Context, arguments []string, out io.Writer) error {
-	s := &auditSettings{}
-	flags := flagsOf("cosign", "", out)
-	s.defineLogs(flags)
-	folder := folderFlag(flags)
+	var named logflags.Logs
+	flags := flagsOf("cosign")
+	named.Define(flags)
+	folder := flags.String("folder", watchstore.DefaultFolder(), "`folder` of the store of ctwatch")
 	into := flags.String("into", "", "`file` that gets the cosigned checkpoint; standard output if it is empty")
-	arguments, err := parseFlags(flags, arguments, 1, out)
+	arguments, err := parseFlags(flags, cosignPage, arguments, 1, 1, out)
 	if err != nil {
 		return err
 	}
@@ -39,18 +44,18 @@ func runCosign(ctx context.Context, arguments []string, out io.Writer) error {
 	if err != nil {
 		return fmt.Errorf("%w: a witness is its URL, a comma and its verifier key: %w", errUsage, err)
 	}
-	if len(s.logs.only) != 1 || !s.logs.only[0].IsTiled() {
+	if len(named.Only) != 1 || !named.Only[0].IsTiled() {
 		return fmt.Errorf("%w: name one tiled log (write --log 'tiled+https://HOST/PATH KEY-FILE')", errUsage)
 	}
-	client, err := s.client()
+	client, err := clientOf(&named)
 	if err != nil {
 		return err
 	}
-	head, err := acceptedHead(*folder, s.logs.only[0])
+	head, err := acceptedHead(*folder, named.Only[0])
 	if err != nil {
 		return err
 	}
-	reader, err := watch.NewReader(s.logs.only[0], client)
+	reader, err := watch.NewReader(named.Only[0], client)
 	if err != nil {
 		return err
 	}
@@ -85,7 +90,7 @@ func acceptedHead(folder string, log watch.Log) (head watch.Head, err error) {
 		return head, err
 	}
 	if len(state.Accepted.Signed) == 0 {
-		return head, fmt.Errorf("ctwatch: no head of %s is accepted yet (ctwatch run must have read it whole)",
+		return head, fmt.Errorf("ctaudit: no head of %s is accepted yet (ctwatch run must have read it whole)",
 			alert.Safe(log.Name))
 	}
 	return state.Accepted.Head, nil
