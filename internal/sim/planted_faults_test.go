@@ -129,8 +129,8 @@ var all = []planted{
 	}},
 	{"the partial tiles of the newest head's full ones go", []edit{
 		{"log/node/janitor/pass.go",
-			"		for full := tiles.Count(at-1, j.tiles.head.Size); left",
-			"		for full := tiles.Count(at-1, newest.Head.Size); left",
+			"		for full := tiles.Count(at-1, j.tiles.head.TreeSize); left",
+			"		for full := tiles.Count(at-1, newest.Head.TreeSize); left",
 		},
 	}},
 	{"a full tile is not compared", []edit{
@@ -252,14 +252,14 @@ var all = []planted{
 		},
 	}},
 	{"a head is not compared with its state", []edit{
-		{"heads.go", "	if head.Size != k.Size || head.Timestamp != k.Timestamp {", "	if false {"},
+		{"heads.go", "	if head.TreeSize != k.Size || head.Timestamp != k.Timestamp {", "	if false {"},
 		{"heads.go", "	if head.Root != k.Root {", "	if false {"},
 	}},
 	{"a reader gets the head that the node knows", []edit{
 		{"newest.go", "		if err != nil && seen != nil {", "		if seen != nil {"},
 	}},
 	{"a reader gets a head of another name", []edit{
-		{"newest.go", "	if headName(head.Size, head.Timestamp) != name {", "	if false {"},
+		{"newest.go", "	if headName(head.TreeSize, head.Timestamp) != name {", "	if false {"},
 	}},
 	{"a reader gets a head that is not published yet", []edit{
 		{"newest.go", "	name := headName(published.Size, published.Timestamp)\n",
@@ -302,7 +302,7 @@ var all = []planted{
 		},
 	}},
 	{"a submission is not looked up", []edit{
-		{"requests.go", "	if now == nil || now.Head.Size == 0 {", "	if true {"},
+		{"requests.go", "	if now == nil || now.Head.TreeSize == 0 {", "	if true {"},
 	}},
 	{"the index is believed", []edit{
 		{"requests.go",

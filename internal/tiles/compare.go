@@ -9,7 +9,7 @@ import (
 	"golang.org/x/mod/sumdb/tlog"
 
 	"wagtenib/bindings/go/wagtenib"
-	"wagtenib/internal/log/signer"
+	"wagtenib/internal/ct"
 )
 
 // Parse reads the name of a tile. The level of a data tile is -1.
@@ -68,7 +68,7 @@ func NewComparer(read Reader, leaves LeavesReader) *Comparer {
 // Compare returns ErrDamaged unless the content is that of a tile of a head's tree. The content must not change after
 // the call. A full tile that was compared recently is not hashed again. Its content is compared with the recent one
 // instead.
-func (c *Comparer) Compare(ctx context.Context, head signer.Head, of tlog.Tile, content []byte) error {
+func (c *Comparer) Compare(ctx context.Context, head ct.TreeHead, of tlog.Tile, content []byte) error {
 	if of.W == Width && c.recent.contains(Name(of), content) {
 		return nil
 	}
@@ -81,7 +81,7 @@ func (c *Comparer) Compare(ctx context.Context, head signer.Head, of tlog.Tile, 
 	return nil
 }
 
-func (c *Comparer) compare(ctx context.Context, head signer.Head, of tlog.Tile, content []byte) error {
+func (c *Comparer) compare(ctx context.Context, head ct.TreeHead, of tlog.Tile, content []byte) error {
 	hashes, err := c.hashesOf(of, content)
 	if err != nil {
 		return err
@@ -124,14 +124,14 @@ func (c *Comparer) hashesOf(of tlog.Tile, content []byte) ([]wagtenib.Hash, erro
 }
 
 // parentHash returns the hash of a full tile in the tile above it.
-func (c *Comparer) parentHash(ctx context.Context, head signer.Head, of tlog.Tile) ([]tlog.Hash, error) {
+func (c *Comparer) parentHash(ctx context.Context, head ct.TreeHead, of tlog.Tile) ([]tlog.Hash, error) {
 	level := max(of.L, 0) + 1
 	position := tilePosition{level, of.N / Width}
 	if hash, ok := c.known(position, of.N%Width); ok {
 		return []tlog.Hash{hash}, nil
 	}
 	parent := Full(level, uint64(position.index))
-	parent.W = WidthIn(parent, head.Size)
+	parent.W = WidthIn(parent, head.TreeSize)
 	hashes, err := hashesIn(ctx, parent, head, c.read)
 	if err != nil {
 		return nil, err

@@ -11,6 +11,7 @@ import (
 	"golang.org/x/mod/sumdb/note"
 
 	"wagtenib/internal/blob"
+	"wagtenib/internal/ct"
 	"wagtenib/internal/log/node/step"
 	"wagtenib/internal/log/signer"
 	"wagtenib/internal/witness"
@@ -18,12 +19,12 @@ import (
 
 // Head is a signed tree head, with its note (C2SP tlog-checkpoint).
 type Head struct {
-	signer.Head
+	ct.TreeHead
 	Note []byte
 }
 
 func (h Head) published() blob.Published {
-	return blob.Published{Size: h.Size, Timestamp: h.Timestamp}
+	return blob.Published{Size: h.TreeSize, Timestamp: h.Timestamp}
 }
 
 func (h Head) before(other Head) bool { return h.published().Before(other.published()) }
@@ -87,8 +88,8 @@ func (l *Loop) headOf(ctx context.Context, k *state) (Head, error) {
 // matches returns an error unless a head is a state's.
 func matches(head Head, k *state) error {
 	name := headName(k.Size, k.Timestamp)
-	if head.Size != k.Size || head.Timestamp != k.Timestamp {
-		return fmt.Errorf("%w: %w: %s has the head of %d entries at %d ms", ErrDamaged, errOtherHead, name, head.Size,
+	if head.TreeSize != k.Size || head.Timestamp != k.Timestamp {
+		return fmt.Errorf("%w: %w: %s has the head of %d entries at %d ms", ErrDamaged, errOtherHead, name, head.TreeSize,
 			head.Timestamp)
 	}
 	if head.Root != k.Root {
@@ -237,8 +238,8 @@ func (l *Loop) signedHead(ctx context.Context, k *state, of step.Head, objects [
 			}
 		}
 		var proof [][32]byte
-		if lastHead != nil && lastHead.Size < k.Size {
-			if proof, err = l.consistency(ctx, lastHead.Size, k.head(), l.reading(objects)); err != nil {
+		if lastHead != nil && lastHead.TreeSize < k.Size {
+			if proof, err = l.consistency(ctx, lastHead.TreeSize, k.head(), l.reading(objects)); err != nil {
 				return Head{}, err
 			}
 		}
@@ -266,7 +267,7 @@ func (l *Loop) signedHead(ctx context.Context, k *state, of step.Head, objects [
 }
 
 // moved reports whether the signer refused since its last head is another one by now.
-func (n *Node) moved(ctx context.Context, last *signer.Head, err error) bool {
+func (n *Node) moved(ctx context.Context, last *ct.TreeHead, err error) bool {
 	if errors.Is(err, signer.ErrMoved) {
 		return true
 	}
@@ -340,5 +341,5 @@ func (n *Node) parseNote(content []byte) (Head, error) {
 	if err != nil || len(blob) < 12 {
 		return Head{}, errNote
 	}
-	return Head{signer.Head{Size: size, Timestamp: binary.BigEndian.Uint64(blob[4:12]), Root: root}, content}, nil
+	return Head{ct.TreeHead{TreeSize: size, Timestamp: binary.BigEndian.Uint64(blob[4:12]), Root: root}, content}, nil
 }

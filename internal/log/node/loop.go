@@ -7,6 +7,7 @@ import (
 	"time"
 
 	"wagtenib/internal/blob"
+	"wagtenib/internal/ct"
 	"wagtenib/internal/log/node/decider"
 	"wagtenib/internal/log/node/step"
 	"wagtenib/internal/log/signer"
@@ -34,7 +35,7 @@ type last struct {
 	published string
 	stepping  *decider.Command
 	// signed is the head that the signer signed last for this node, or nil if that is not known.
-	signed *signer.Head
+	signed *ct.TreeHead
 	// checkpoint is a head that the object checkpoint had, or nil.
 	checkpoint *Head
 	// unneeded are the names of staged batches that this node's steps left. The decider has not said yet whether they

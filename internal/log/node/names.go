@@ -8,10 +8,10 @@ import (
 	"time"
 
 	"wagtenib/internal/blob"
+	"wagtenib/internal/ct"
 	"wagtenib/internal/log/chain"
 	"wagtenib/internal/log/node/decider"
 	"wagtenib/internal/log/node/step"
-	"wagtenib/internal/log/signer"
 	"wagtenib/internal/tiles"
 )
 
@@ -54,8 +54,8 @@ type state struct {
 }
 
 // head returns the head of a state.
-func (k *state) head() signer.Head {
-	return signer.Head{Size: k.Size, Timestamp: k.Timestamp, Root: k.Root}
+func (k *state) head() ct.TreeHead {
+	return ct.TreeHead{TreeSize: k.Size, Timestamp: k.Timestamp, Root: k.Root}
 }
 
 // published returns how far the log is published once the state is.
@@ -86,10 +86,10 @@ func HeadName(of blob.Published) string { return headName(of.Size, of.Timestamp)
 
 // HeadIn returns the head of the state that a text of the lock names. The error is ErrDamaged if it is not one of a
 // log.
-func HeadIn(text string) (signer.Head, error) {
+func HeadIn(text string) (ct.TreeHead, error) {
 	k, err := parseText(text)
 	if err != nil {
-		return signer.Head{}, err
+		return ct.TreeHead{}, err
 	}
 	return k.head(), nil
 }
@@ -116,8 +116,8 @@ func (c *Config) textAfter(before uint64, line string, to step.State, salt uint6
 }
 
 // follows reports whether a head may come after another one of the same history.
-func follows(size, timestamp uint64, before signer.Head) bool {
-	return size >= before.Size && timestamp > before.Timestamp
+func follows(size, timestamp uint64, before ct.TreeHead) bool {
+	return size >= before.TreeSize && timestamp > before.Timestamp
 }
 
 // reference names an object in the decider's commands: its name, and the digest of its content.

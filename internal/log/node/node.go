@@ -11,6 +11,7 @@ import (
 	"golang.org/x/mod/sumdb/note"
 
 	"wagtenib/internal/blob"
+	"wagtenib/internal/ct"
 	"wagtenib/internal/log/node/decider"
 	"wagtenib/internal/log/node/step"
 	"wagtenib/internal/log/signer"
@@ -77,8 +78,8 @@ type Index interface {
 // stores are old together.
 type Memory interface {
 	// Load returns what Save was given last, and nil if nothing was saved.
-	Load(ctx context.Context) (*signer.Head, error)
-	Save(ctx context.Context, head signer.Head) error
+	Load(ctx context.Context) (*ct.TreeHead, error)
+	Save(ctx context.Context, head ct.TreeHead) error
 }
 
 // Clock is the machine's time, and all waiting is done by it.
@@ -107,8 +108,8 @@ type Signer interface {
 	Key() []byte
 	// IsGuarded reports whether there is a guard. Without one, Last knows no head.
 	IsGuarded() bool
-	Last(ctx context.Context) (*signer.Head, error)
-	SignHead(ctx context.Context, head signer.Head, consistency [][32]byte) ([]byte, error)
+	Last(ctx context.Context) (*ct.TreeHead, error)
+	SignHead(ctx context.Context, head ct.TreeHead, consistency [][32]byte) ([]byte, error)
 	SignStep(ctx context.Context, step signer.Step) ([][]byte, error)
 	SignTimestamps(ctx context.Context, receipts []signer.Receipt) ([][]byte, error)
 }
@@ -281,11 +282,11 @@ func (n *Node) Lasting() error { return n.health.lasting() }
 func (n *Node) Waiting() int { return n.pool.count() }
 
 // Decided returns the newest state of the lock that this node knows.
-func (n *Node) Decided() signer.Head {
+func (n *Node) Decided() ct.TreeHead {
 	if k := n.newest.Load(); k != nil {
 		return k.head()
 	}
-	return signer.Head{}
+	return ct.TreeHead{}
 }
 
 // followFor is for how long after a state another node is taken for the one that makes the steps.

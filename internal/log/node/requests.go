@@ -71,7 +71,7 @@ func (r *Request) Find(ctx context.Context) (*Candidate, error) {
 	n := r.node
 	now := n.Snapshot()
 	r.lookup = lookup{}
-	if now == nil || now.Head.Size == 0 {
+	if now == nil || now.Head.TreeSize == 0 {
 		return nil, nil
 	}
 	places, err := n.config.Stores.Index.Find(ctx, []blob.Identity{r.identity})
@@ -79,8 +79,8 @@ func (r *Request) Find(ctx context.Context) (*Candidate, error) {
 		return nil, fmt.Errorf("node: the index: %w", err)
 	}
 	place, ok := places[r.identity]
-	r.lookup = lookup{isAbsent: !ok, size: now.Head.Size}
-	if !ok || place.Index >= now.Head.Size {
+	r.lookup = lookup{isAbsent: !ok, size: now.Head.TreeSize}
+	if !ok || place.Index >= now.Head.TreeSize {
 		// The place of an entry that is not under the head yet becomes known by the next round.
 		return nil, nil
 	}
@@ -99,7 +99,7 @@ func (r *Request) Claim(ctx context.Context, c *Candidate) (*Place, error) {
 		r.wrong = &place
 		return nil, nil
 	}
-	signatures, err := n.signTimestamps(ctx, []step.Receipt{*receipt}, now.Head.Head, n.stored)
+	signatures, err := n.signTimestamps(ctx, []step.Receipt{*receipt}, now.Head.TreeHead, n.stored)
 	if err != nil {
 		return nil, err
 	}
@@ -118,7 +118,7 @@ func (d DamagedTile) Unwrap() error { return d.Why }
 
 // claimed returns the receipt of a request's entry at a place, or nil if another entry is there.
 func (n *Node) claimed(ctx context.Context, at *Snapshot, place blob.Place, r *Request) (*step.Receipt, error) {
-	leaf, err := tiles.LeafAt(ctx, place.Index, at.Head.Head, n.stored)
+	leaf, err := tiles.LeafAt(ctx, place.Index, at.Head.TreeHead, n.stored)
 	if errors.Is(err, ErrDamaged) {
 		return nil, DamagedTile{place.Index / tiles.Width, err}
 	}
@@ -128,7 +128,7 @@ func (n *Node) claimed(ctx context.Context, at *Snapshot, place blob.Place, r *R
 	if identity(leaf.Type, leaf.IssuerKeyHash, leaf.Certificate) != r.identity || leaf.Timestamp != place.Timestamp {
 		return nil, nil
 	}
-	proofs, err := paths(ctx, []uint64{place.Index}, at.Head.Head, n.stored)
+	proofs, err := paths(ctx, []uint64{place.Index}, at.Head.TreeHead, n.stored)
 	if err != nil {
 		return nil, err
 	}

@@ -8,8 +8,8 @@ import (
 
 	"wagtenib/bindings/go/wagtenib"
 	"wagtenib/internal/blob"
+	"wagtenib/internal/ct"
 	"wagtenib/internal/log/node/step"
-	"wagtenib/internal/log/signer"
 )
 
 // A node continues from no state that is older than what it accepted before, or older than what the store has: a lock
@@ -82,7 +82,7 @@ func (l *Loop) listHeads(ctx context.Context, after string) ([]string, error) {
 // newestAccepted returns the name of the newest head that this node accepted, or nothing.
 func (l *Loop) newestAccepted() string {
 	if accepted := l.seen.accepted.head(); accepted.Timestamp > 0 {
-		return headName(accepted.Size, accepted.Timestamp)
+		return headName(accepted.TreeSize, accepted.Timestamp)
 	}
 	return ""
 }
@@ -117,7 +117,7 @@ func (l *Loop) compare(ctx context.Context, k *state, objects []step.Object, hea
 	if err != nil {
 		return err
 	}
-	return l.extends(ctx, k, head.Head, objects)
+	return l.extends(ctx, k, head.TreeHead, objects)
 }
 
 // headsUpTo compares the names of the store's heads from the newest accepted one on. In one history they are in the
@@ -142,10 +142,10 @@ func (l *Loop) headsUpTo(ctx context.Context, k *state, isNext bool, heads liste
 				return "", err
 			}
 			if isNext || !follows(size, timestamp, before) ||
-				!follows(k.Size, k.Timestamp, signer.Head{Size: size, Timestamp: timestamp}) {
+				!follows(k.Size, k.Timestamp, ct.TreeHead{TreeSize: size, Timestamp: timestamp}) {
 				return "", foreign(k, name)
 			}
-			last, before = name, signer.Head{Size: size, Timestamp: timestamp}
+			last, before = name, ct.TreeHead{TreeSize: size, Timestamp: timestamp}
 		}
 		if len(names) < blob.MaxListed {
 			return last, nil
@@ -203,28 +203,23 @@ func (l *Loop) whyLater(ctx context.Context, k *state, name string) error {
 
 // extends returns ErrRolledBack unless the proved decision accepts a state's head after another head, by a consistency
 // proof (docs/NODE.md, "A lock that falls").
-func (l *Loop) extends(ctx context.Context, k *state, head signer.Head, objects []step.Object) error {
-	if head == (signer.Head{}) {
+func (l *Loop) extends(ctx context.Context, k *state, head ct.TreeHead, objects []step.Object) error {
+	if head == (ct.TreeHead{}) {
 		// Nothing was accepted before.
 		return nil
 	}
 	var proof [][32]byte
-	if head.Size < k.Size {
+	if head.TreeSize < k.Size {
 		var err error
-		if proof, err = l.consistency(ctx, head.Size, k.head(), l.reading(objects)); err != nil {
+		if proof, err = l.consistency(ctx, head.TreeSize, k.head(), l.reading(objects)); err != nil {
 			return err
 		}
 	}
-	if err := wagtenib.NodeAccept(treeHead(head), treeHead(k.head()), proof); err != nil {
+	if err := wagtenib.NodeAccept(head, k.head(), proof); err != nil {
 		return fmt.Errorf("%w: its %d entries at %d ms do not continue the %d at %d ms that the log had: %v",
-			ErrRolledBack, k.Size, k.Timestamp, head.Size, head.Timestamp, err)
+			ErrRolledBack, k.Size, k.Timestamp, head.TreeSize, head.Timestamp, err)
 	}
 	return nil
-}
-
-// treeHead returns a head as the library has it.
-func treeHead(head signer.Head) wagtenib.TreeHead {
-	return wagtenib.TreeHead{TreeSize: head.Size, Timestamp: head.Timestamp, Root: head.Root}
 }
 
 // looksBack checks that neither the store nor the lock knows a later head than the state of the lock's text. This node

@@ -6,6 +6,7 @@ import (
 	"fmt"
 
 	"wagtenib/internal/blob"
+	"wagtenib/internal/ct"
 	"wagtenib/internal/log/node/decider"
 	"wagtenib/internal/log/signer"
 	"wagtenib/internal/tiles"
@@ -26,7 +27,7 @@ func Start(ctx context.Context, config Config) (*Node, *Loop, error) {
 		return nil, nil, fmt.Errorf("node: the memory: %w", err)
 	}
 	if remembered != nil {
-		l.seen.accepted.Size, l.seen.accepted.Timestamp, l.seen.accepted.Root = remembered.Size, remembered.Timestamp,
+		l.seen.accepted.Size, l.seen.accepted.Timestamp, l.seen.accepted.Root = remembered.TreeSize, remembered.Timestamp,
 			remembered.Root
 	}
 	for range startOver {
@@ -47,12 +48,12 @@ type found struct {
 	// k is the state of the lock's text, and last the signer's last head. Either is nil if there is none.
 	k         *state
 	published blob.Published
-	last      *signer.Head
+	last      *ct.TreeHead
 }
 
 // tryStart looks once at everything. It reports false if another node went on meanwhile, or if the lock was created just
 // now.
-func (l *Loop) tryStart(ctx context.Context, remembered *signer.Head) (bool, error) {
+func (l *Loop) tryStart(ctx context.Context, remembered *ct.TreeHead) (bool, error) {
 	f, err := l.find(ctx, remembered)
 	if err != nil {
 		return false, err
@@ -81,15 +82,15 @@ func (l *Loop) tryStart(ctx context.Context, remembered *signer.Head) (bool, err
 }
 
 // rooted returns a head as the decider reads it.
-func rooted(head *signer.Head) *decider.Rooted {
+func rooted(head *ct.TreeHead) *decider.Rooted {
 	if head == nil {
 		return nil
 	}
-	return &decider.Rooted{Point: decider.Point{Size: head.Size, Timestamp: head.Timestamp}, Root: head.Root}
+	return &decider.Rooted{Point: decider.Point{Size: head.TreeSize, Timestamp: head.Timestamp}, Root: head.Root}
 }
 
 // find reads the lock, and after that everything that may be ahead of it.
-func (l *Loop) find(ctx context.Context, remembered *signer.Head) (f found, err error) {
+func (l *Loop) find(ctx context.Context, remembered *ct.TreeHead) (f found, err error) {
 	f.Creates, f.Guarded, f.Seen = l.config.Create, l.config.Signer.IsGuarded(), rooted(remembered)
 	var exists bool
 	if f.Lock, exists, err = l.lockText(ctx); err != nil {
@@ -188,7 +189,7 @@ func (l *Loop) newestListed(ctx context.Context, f found) (*decider.Rooted, erro
 	after := ""
 	switch {
 	case f.k != nil && f.last != nil:
-		after = min(headName(f.k.Size, f.k.Timestamp), headName(f.last.Size, f.last.Timestamp))
+		after = min(headName(f.k.Size, f.k.Timestamp), headName(f.last.TreeSize, f.last.Timestamp))
 	case f.k != nil && !f.Guarded:
 		after = headName(f.k.Size, f.k.Timestamp)
 	}
@@ -249,7 +250,7 @@ func refused(refusal decider.Refusal, f found) error {
 		return fmt.Errorf("%w: it is older than the log, whose store has a head of %d entries at %d ms (see "+
 			"\"Backup\" in OPERATING.md)", signer.ErrState, f.Listed.Size, f.Listed.Timestamp)
 	case decider.BehindGuard:
-		return fmt.Errorf("%w: %s, and the signer approved %d at %d ms", ErrRolledBack, of, f.last.Size,
+		return fmt.Errorf("%w: %s, and the signer approved %d at %d ms", ErrRolledBack, of, f.last.TreeSize,
 			f.last.Timestamp)
 	case decider.BehindSeen:
 		return fmt.Errorf("%w: %s, and this machine accepted %d at %d ms, or another root", ErrRolledBack, of,

@@ -13,6 +13,7 @@ import (
 	"time"
 
 	"wagtenib/internal/blob"
+	"wagtenib/internal/ct"
 	"wagtenib/internal/log"
 	"wagtenib/internal/log/chain"
 	"wagtenib/internal/log/node"
@@ -42,7 +43,7 @@ func TestOneNode(t *testing.T) {
 		f.Fault != "" || f.Steps == 0 || f.Batches.Submissions != 300 || f.WrittenBytes == 0 {
 		t.Errorf("%+v %+v", head, f)
 	}
-	must(t, signer.CheckHead(p.key.Key(), signer.Head{Size: head.TreeSize, Timestamp: head.Timestamp,
+	must(t, signer.CheckHead(p.key.Key(), ct.TreeHead{TreeSize: head.TreeSize, Timestamp: head.Timestamp,
 		Root: head.RootHash}, head.Signature))
 	for _, phase := range f.Phases {
 		if phase.Count == 0 && phase.Name != "delete" {

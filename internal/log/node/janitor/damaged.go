@@ -38,7 +38,7 @@ func (j *Janitor) nextDamaged() (number uint64, ok bool) {
 // readDamaged reads one damaged tile again, which may have been put back.
 func (j *Janitor) readDamaged(ctx context.Context, newest Newest) error {
 	number, ok := j.nextDamaged()
-	if !ok || number*tiles.Width >= newest.Head.Size {
+	if !ok || number*tiles.Width >= newest.Head.TreeSize {
 		return nil
 	}
 	j.issuers.again = number + 1
