@@ -266,7 +266,7 @@ func (l *Loop) learn(ctx context.Context) (*state, error) {
 	text, err := l.config.Stores.Lock.Read(ctx)
 	if errors.Is(err, blob.ErrAbsent) {
 		return nil, fmt.Errorf("%w: it is gone, and had %d entries at %d ms (stop all nodes, and see \"Backup\" in "+
-			"OPERATING.md)", ErrRolledBack, before.Size, before.Timestamp)
+			"OPERATING.md)", ErrRolledBack, before.TreeSize, before.Timestamp)
 	}
 	if err != nil {
 		l.seen.isVouched = false
@@ -323,7 +323,7 @@ func (l *Loop) read(text string) (*state, error) {
 	if errors.Is(err, decider.ErrRefused) {
 		return nil, fmt.Errorf("%w: the lock's text is not one of a log: %.40q", ErrDamaged, text)
 	}
-	if err == nil && (k.look.Do != decider.Look || k.look.Seen.Text != text || k.look.Seen.Size != k.Size ||
+	if err == nil && (k.look.Do != decider.Look || k.look.Seen.Text != text || k.look.Seen.Size != k.TreeSize ||
 		k.look.Seen.Timestamp != k.Timestamp) {
 		err = fmt.Errorf("%w: %s after a text that was read", errCommand, k.look.Do)
 	}

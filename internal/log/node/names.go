@@ -53,14 +53,9 @@ type state struct {
 	readAt time.Duration
 }
 
-// head returns the head of a state.
-func (k *state) head() ct.TreeHead {
-	return ct.TreeHead{TreeSize: k.Size, Timestamp: k.Timestamp, Root: k.Root}
-}
-
 // published returns how far the log is published once the state is.
 func (k *state) published() blob.Published {
-	return blob.Published{Size: k.Size, Timestamp: k.Timestamp}
+	return blob.Published{Size: k.TreeSize, Timestamp: k.Timestamp}
 }
 
 // parseText reads a text of the lock.
@@ -91,7 +86,7 @@ func HeadIn(text string) (ct.TreeHead, error) {
 	if err != nil {
 		return ct.TreeHead{}, err
 	}
-	return k.head(), nil
+	return k.TreeHead, nil
 }
 
 // Identity returns the identity of a leaf's entry: SHA-256 over its type, and the certificate, or the issuer's key hash

@@ -10,6 +10,7 @@ import (
 
 	"golang.org/x/mod/sumdb/note"
 
+	"wagtenib/bindings/go/wagtenib"
 	"wagtenib/internal/blob"
 	"wagtenib/internal/ct"
 	"wagtenib/internal/log/node/decider"
@@ -126,7 +127,7 @@ type Steps interface {
 	Needs(line string) ([]string, error)
 	Step(line string, edge [][]byte, batch []step.Submission, now, most uint64) (*step.Stepped, error)
 	Resume(line string, bundle []byte) (*step.Resumed, error)
-	Claim(line string, index, timestamp uint64, path [][]byte, submission step.Submission) (*step.Receipt, error)
+	Claim(line string, index, timestamp uint64, path [][]byte, submission step.Submission) (*wagtenib.Receipt, error)
 }
 
 // Stores are those that all nodes of a log share.
@@ -284,7 +285,7 @@ func (n *Node) Waiting() int { return n.pool.count() }
 // Decided returns the newest state of the lock that this node knows.
 func (n *Node) Decided() ct.TreeHead {
 	if k := n.newest.Load(); k != nil {
-		return k.head()
+		return k.TreeHead
 	}
 	return ct.TreeHead{}
 }

@@ -8,6 +8,7 @@ import (
 
 	"golang.org/x/mod/sumdb/tlog"
 
+	"wagtenib/bindings/go/wagtenib"
 	"wagtenib/internal/blob"
 	"wagtenib/internal/ct"
 	"wagtenib/internal/log/node/step"
@@ -76,7 +77,7 @@ func paths(ctx context.Context, indexes []uint64, head ct.TreeHead, read tiles.R
 
 // signTimestamps has the timestamps of receipts signed. Those of a whole step are signed over its head at once. If they
 // are not, or if the signer's last head is another one, they are signed one by one.
-func (n *Node) signTimestamps(ctx context.Context, receipts []step.Receipt, head ct.TreeHead,
+func (n *Node) signTimestamps(ctx context.Context, receipts []wagtenib.Receipt, head ct.TreeHead,
 	read tiles.Reader) ([][]byte, error) {
 	if leaves := leavesTo(head.TreeSize, receipts); leaves != nil {
 		signatures, err := n.signStep(ctx, receipts, leaves, head, read)
@@ -89,12 +90,12 @@ func (n *Node) signTimestamps(ctx context.Context, receipts []step.Receipt, head
 
 // leavesTo returns the leaves of receipts in order, each once, if they are those of a tree from the first one to its
 // end, and nil otherwise. The same entry may be in a batch twice.
-func leavesTo(size uint64, receipts []step.Receipt) (leaves [][]byte) {
+func leavesTo(size uint64, receipts []wagtenib.Receipt) (leaves [][]byte) {
 	first := receipts[0].LeafIndex
 	for _, r := range receipts {
 		switch known := uint64(len(leaves)); {
 		case r.LeafIndex == first+known:
-			leaves = append(leaves, r.Sign)
+			leaves = append(leaves, r.Signed)
 		case r.LeafIndex < first || r.LeafIndex > first+known:
 			return nil
 		}
@@ -106,7 +107,7 @@ func leavesTo(size uint64, receipts []step.Receipt) (leaves [][]byte) {
 }
 
 // signStep has the timestamps of a step signed, whose head is the signer's last one.
-func (n *Node) signStep(ctx context.Context, receipts []step.Receipt, leaves [][]byte, head ct.TreeHead,
+func (n *Node) signStep(ctx context.Context, receipts []wagtenib.Receipt, leaves [][]byte, head ct.TreeHead,
 	read tiles.Reader) ([][]byte, error) {
 	first := receipts[0].LeafIndex
 	subtrees, err := subtreesOf(ctx, first, head, read)
@@ -146,7 +147,7 @@ func subtreesOf(ctx context.Context, first uint64, head ct.TreeHead, read tiles.
 // signSingly has timestamps signed with their paths in the tree of the signer's last head. A head is the first one that
 // is tried as the last. If the signer refuses it, it may know only an older one that this node had it approve, while
 // another node's signer went on. So it is asked which its last one is, which it then reads.
-func (n *Node) signSingly(ctx context.Context, receipts []step.Receipt, head ct.TreeHead,
+func (n *Node) signSingly(ctx context.Context, receipts []wagtenib.Receipt, head ct.TreeHead,
 	read tiles.Reader) ([][]byte, error) {
 	for try := 0; ; try++ {
 		last := &head
@@ -162,7 +163,7 @@ func (n *Node) signSingly(ctx context.Context, receipts []step.Receipt, head ct.
 				return nil, fmt.Errorf("node: entry %d is not in the signer's last head: %w", r.LeafIndex,
 					signer.ErrRefused)
 			}
-			asked[i], indexes[i] = signer.Receipt{Leaf: r.Sign, Index: r.LeafIndex}, r.LeafIndex
+			asked[i], indexes[i] = signer.Receipt{Leaf: r.Signed, Index: r.LeafIndex}, r.LeafIndex
 		}
 		proofs, err := paths(ctx, indexes, *last, read)
 		if err != nil {

@@ -5,6 +5,7 @@ import (
 	"errors"
 	"fmt"
 
+	"wagtenib/bindings/go/wagtenib"
 	"wagtenib/internal/blob"
 	"wagtenib/internal/log/node/step"
 	"wagtenib/internal/tiles"
@@ -99,7 +100,7 @@ func (r *Request) Claim(ctx context.Context, c *Candidate) (*Place, error) {
 		r.wrong = &place
 		return nil, nil
 	}
-	signatures, err := n.signTimestamps(ctx, []step.Receipt{*receipt}, now.Head.TreeHead, n.stored)
+	signatures, err := n.signTimestamps(ctx, []wagtenib.Receipt{*receipt}, now.Head.TreeHead, n.stored)
 	if err != nil {
 		return nil, err
 	}
@@ -117,7 +118,7 @@ func (d DamagedTile) Error() string { return d.Why.Error() }
 func (d DamagedTile) Unwrap() error { return d.Why }
 
 // claimed returns the receipt of a request's entry at a place, or nil if another entry is there.
-func (n *Node) claimed(ctx context.Context, at *Snapshot, place blob.Place, r *Request) (*step.Receipt, error) {
+func (n *Node) claimed(ctx context.Context, at *Snapshot, place blob.Place, r *Request) (*wagtenib.Receipt, error) {
 	leaf, err := tiles.LeafAt(ctx, place.Index, at.Head.TreeHead, n.stored)
 	if errors.Is(err, ErrDamaged) {
 		return nil, DamagedTile{place.Index / tiles.Width, err}

@@ -60,7 +60,7 @@ func (l *Loop) accept(ctx context.Context, k *state, objects []step.Object) erro
 
 // keep has the machine's memory keep a state as the newest one.
 func (l *Loop) keep(ctx context.Context, k *state) error {
-	if err := l.config.Machine.Memory.Save(ctx, k.head()); err != nil {
+	if err := l.config.Machine.Memory.Save(ctx, k.TreeHead); err != nil {
 		return fmt.Errorf("node: the memory: %w", err)
 	}
 	l.seen.accepted = *k
@@ -81,7 +81,7 @@ func (l *Loop) listHeads(ctx context.Context, after string) ([]string, error) {
 
 // newestAccepted returns the name of the newest head that this node accepted, or nothing.
 func (l *Loop) newestAccepted() string {
-	if accepted := l.seen.accepted.head(); accepted.Timestamp > 0 {
+	if accepted := l.seen.accepted.TreeHead; accepted.Timestamp > 0 {
 		return headName(accepted.TreeSize, accepted.Timestamp)
 	}
 	return ""
@@ -106,7 +106,7 @@ func (l *Loop) compare(ctx context.Context, k *state, objects []step.Object, hea
 	if err != nil {
 		return err
 	}
-	if err := l.extends(ctx, k, accepted.head(), objects); err != nil || between == "" {
+	if err := l.extends(ctx, k, accepted.TreeHead, objects); err != nil || between == "" {
 		return err
 	}
 	head, err := l.readHead(ctx, between)
@@ -124,7 +124,7 @@ func (l *Loop) compare(ctx context.Context, k *state, objects []step.Object, hea
 // order of their timestamps and end with the state's, unless other nodes went on meanwhile. If the state is the very
 // next, there is none between. The last one before the state's is returned.
 func (l *Loop) headsUpTo(ctx context.Context, k *state, isNext bool, heads lister) (last string, err error) {
-	after, before, own := l.newestAccepted(), l.seen.accepted.head(), headName(k.Size, k.Timestamp)
+	after, before, own := l.newestAccepted(), l.seen.accepted.TreeHead, headName(k.TreeSize, k.Timestamp)
 	for {
 		names, err := heads(ctx, after)
 		if err != nil {
@@ -142,7 +142,7 @@ func (l *Loop) headsUpTo(ctx context.Context, k *state, isNext bool, heads liste
 				return "", err
 			}
 			if isNext || !follows(size, timestamp, before) ||
-				!follows(k.Size, k.Timestamp, ct.TreeHead{TreeSize: size, Timestamp: timestamp}) {
+				!follows(k.TreeSize, k.Timestamp, ct.TreeHead{TreeSize: size, Timestamp: timestamp}) {
 				return "", foreign(k, name)
 			}
 			last, before = name, ct.TreeHead{TreeSize: size, Timestamp: timestamp}
@@ -156,25 +156,25 @@ func (l *Loop) headsUpTo(ctx context.Context, k *state, isNext bool, heads liste
 
 // foreign is the refusal of a state beside which the store has a head of another history.
 func foreign(k *state, name string) error {
-	return fmt.Errorf("%w: it has %d entries at %d ms, and the store has %s", ErrRolledBack, k.Size, k.Timestamp, name)
+	return fmt.Errorf("%w: it has %d entries at %d ms, and the store has %s", ErrRolledBack, k.TreeSize, k.Timestamp, name)
 }
 
 // continues returns ErrRolledBack if the state of a text that was read is neither the newest one that this node knows nor
 // a later one.
 func (l *Loop) continues(k *state) error {
 	before := l.seen.newest
-	if before == nil || k.head() == before.head() || follows(k.Size, k.Timestamp, before.head()) {
+	if before == nil || k.TreeHead == before.TreeHead || follows(k.TreeSize, k.Timestamp, before.TreeHead) {
 		return nil
 	}
-	return fmt.Errorf("%w: it had %d entries at %d ms, and has %d at %d ms", ErrRolledBack, before.Size,
-		before.Timestamp, k.Size, k.Timestamp)
+	return fmt.Errorf("%w: it had %d entries at %d ms, and has %d at %d ms", ErrRolledBack, before.TreeSize,
+		before.Timestamp, k.TreeSize, k.Timestamp)
 }
 
 // keepLater keeps the state of a text that was read, if it is later than the newest one that this node knows: a node
 // must never take an older text than one that it read. A text that is not a log's is refused when it is read again.
 func (l *Loop) keepLater(text string) {
 	before := l.seen.newest
-	if k, err := l.read(text); err == nil && (before == nil || follows(k.Size, k.Timestamp, before.head())) {
+	if k, err := l.read(text); err == nil && (before == nil || follows(k.TreeSize, k.Timestamp, before.TreeHead)) {
 		l.seen.newest = k
 	}
 }
@@ -209,15 +209,15 @@ func (l *Loop) extends(ctx context.Context, k *state, head ct.TreeHead, objects 
 		return nil
 	}
 	var proof [][32]byte
-	if head.TreeSize < k.Size {
+	if head.TreeSize < k.TreeSize {
 		var err error
-		if proof, err = l.consistency(ctx, head.TreeSize, k.head(), l.reading(objects)); err != nil {
+		if proof, err = l.consistency(ctx, head.TreeSize, k.TreeHead, l.reading(objects)); err != nil {
 			return err
 		}
 	}
-	if err := wagtenib.NodeAccept(head, k.head(), proof); err != nil {
+	if err := wagtenib.NodeAccept(head, k.TreeHead, proof); err != nil {
 		return fmt.Errorf("%w: its %d entries at %d ms do not continue the %d at %d ms that the log had: %v",
-			ErrRolledBack, k.Size, k.Timestamp, head.TreeSize, head.Timestamp, err)
+			ErrRolledBack, k.TreeSize, k.Timestamp, head.TreeSize, head.Timestamp, err)
 	}
 	return nil
 }
@@ -225,7 +225,7 @@ func (l *Loop) extends(ctx context.Context, k *state, head ct.TreeHead, objects 
 // looksBack checks that neither the store nor the lock knows a later head than the state of the lock's text. This node
 // could not read the lock for a while, so it does not know what was decided meanwhile.
 func (l *Loop) looksBack(ctx context.Context, k *state) error {
-	later, err := l.config.Stores.Objects.List(ctx, headsPrefix, headName(k.Size, k.Timestamp), 1)
+	later, err := l.config.Stores.Objects.List(ctx, headsPrefix, headName(k.TreeSize, k.Timestamp), 1)
 	if err != nil {
 		return fmt.Errorf("node: the heads: %w", err)
 	}
@@ -242,6 +242,6 @@ func (l *Loop) looksBack(ctx context.Context, k *state) error {
 	if err := l.checkCurrent(ctx, k); err != nil {
 		return err
 	}
-	return fmt.Errorf("%w: it has %d entries at %d ms, and %d at %d ms are published", ErrRolledBack, k.Size,
+	return fmt.Errorf("%w: it has %d entries at %d ms, and %d at %d ms are published", ErrRolledBack, k.TreeSize,
 		k.Timestamp, published.Size, published.Timestamp)
 }

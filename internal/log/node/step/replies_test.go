@@ -167,7 +167,7 @@ func make2048() [][]byte {
 func TestClaimOfOne(t *testing.T) {
 	c, _, one := oneEntry(t)
 	receipt, err := c.Claim(one.Line, 0, 7, nil, Submission{LeafCertificate: []byte("one")})
-	if err != nil || string(receipt.Sign) != string(one.Receipts[0].Sign) {
+	if err != nil || string(receipt.Signed) != string(one.Receipts[0].Signed) {
 		t.Errorf("%+v, %v", receipt, err)
 	}
 	// Bytes that are appended to an object must not change the next one.
@@ -180,7 +180,7 @@ func TestClaimOfOne(t *testing.T) {
 
 // TestBounds: a state with the maximum number of entries is read, and one with more is refused.
 func TestBounds(t *testing.T) {
-	if s, err := ParseState(lineOf(MaxLeaves, 1)); err != nil || s.Size != MaxLeaves || s.Timestamp != 1 {
+	if s, err := ParseState(lineOf(MaxLeaves, 1)); err != nil || s.TreeSize != MaxLeaves || s.Timestamp != 1 {
 		t.Errorf("%+v, %v", s, err)
 	}
 	if s, err := ParseState(lineOf(MaxLeaves+1, 1)); !errors.Is(err, ErrState) {

@@ -31,8 +31,8 @@ func TestSteps(t *testing.T) {
 	// extension.
 	leaf := "\x00\x00\x00" + "\x00\x00\x00\x00\x00\x00\x00\x07" + "\x00\x00" + "\x00\x00\x03one" +
 		"\x00\x08\x00\x00\x05\x00\x00\x00\x00\x00"
-	if one.State.Root != sha256.Sum256([]byte(leaf)) || one.State.Size != 1 ||
-		string(one.Receipts[0].Sign) != leaf[1:] {
+	if one.State.Root != sha256.Sum256([]byte(leaf)) || one.State.TreeSize != 1 ||
+		string(one.Receipts[0].Signed) != leaf[1:] {
 		t.Errorf("%+v", one)
 	}
 	names, err = c.Needs(one.Line)
@@ -47,8 +47,7 @@ func TestSteps(t *testing.T) {
 	resumed, err := c.Resume(two.Line, two.Bundle)
 	must(t, err)
 	objects = two.Objects
-	if len(objects) != 2 || len(resumed.Objects) != 2 || resumed.Checkpoint != two.Checkpoint ||
-		!bytes.Equal(resumed.Sign, two.Sign) {
+	if len(objects) != 2 || len(resumed.Objects) != 2 || resumed.Checkpoint != two.Checkpoint {
 		t.Fatalf("%+v and %+v", objects, resumed)
 	}
 	for i := range objects {
@@ -63,7 +62,7 @@ func TestSteps(t *testing.T) {
 	path, entry := [][]byte{objects[0].Content[32:64]}, Submission{LeafCertificate: []byte("one")}
 	claimed, err := c.Claim(two.Line, 0, 7, path, entry)
 	must(t, err)
-	if string(claimed.Sign) != leaf[1:] || !bytes.Equal(objects[0].Content[:32], first[:]) {
+	if string(claimed.Signed) != leaf[1:] || !bytes.Equal(objects[0].Content[:32], first[:]) {
 		t.Errorf("%+v", claimed)
 	}
 	bent := append([]byte{}, edge[0]...)
@@ -152,13 +151,13 @@ func TestReceipts(t *testing.T) {
 	must(t, err)
 	for i, index := range []uint64{1, 2, 1, 3, 2} {
 		first := map[uint64]int{1: 0, 2: 1, 3: 3}[index]
-		if r := right.Receipts[i]; r.LeafIndex != index || !bytes.Equal(r.Sign, right.Receipts[first].Sign) ||
-			!bytes.Contains(r.Sign, batch[i].LeafCertificate) {
+		if r := right.Receipts[i]; r.LeafIndex != index || !bytes.Equal(r.Signed, right.Receipts[first].Signed) ||
+			!bytes.Contains(r.Signed, batch[i].LeafCertificate) {
 			t.Errorf("receipt %d is of entry %d", i, r.LeafIndex)
 		}
 	}
-	if right.State.Size != 4 {
-		t.Errorf("%d entries", right.State.Size)
+	if right.State.TreeSize != 4 {
+		t.Errorf("%d entries", right.State.TreeSize)
 	}
 	reply, err := wagtenib.MakeStep(origin, before.Line, edgeBytes(edge), bytesOf(t, batch), 7, MaxAhead)
 	must(t, err)
