@@ -6,8 +6,7 @@ import (
 	"context"
 	"errors"
 	"time"
-
-	"wagtenib/internal/log/chain"
+	"wagtenib/internal/ct"
 )
 
 // The kinds of errors of Submit. Use errors.Is. A wrapped error says more.
@@ -27,9 +26,6 @@ var (
 	// ErrStore reports that a store, the lock, the step or the signer does not answer, or gives an impossible answer.
 	ErrStore = errors.New("log: a store failed or is damaged")
 )
-
-// Entry is the entry that chain.Checker makes of a submission, with its issuers' certificates.
-type Entry = chain.Entry
 
 // Place is an entry's index and timestamp, with its signed certificate timestamp (RFC 6962, section 3.2).
 type Place struct {
@@ -173,7 +169,7 @@ type Witness struct {
 type Log interface {
 	// Submit returns after a published head covers the entry. Its errors are ErrBusy, ErrTooLarge, ErrElsewhere,
 	// ErrEnded, ErrClock, ErrStore, and the context's. After an error the entry may be in the log anyway.
-	Submit(ctx context.Context, entry Entry) (Place, error)
+	Submit(ctx context.Context, entry ct.Entry) (Place, error)
 	// Checkpoint returns the newest published head.
 	Checkpoint(ctx context.Context) (Head, error)
 	// HeadOf returns a published head of at least so many entries. It returns the newest known head if that has them.

@@ -6,8 +6,8 @@ import (
 	"fmt"
 	"time"
 
+	"wagtenib/bindings/go/wagtenib"
 	"wagtenib/internal/log/node"
-	"wagtenib/internal/log/node/step"
 )
 
 // certificateOf returns the certificate with a number. The simulation does not parse it, so it may be any bytes.
@@ -55,7 +55,7 @@ func (w *world) submit(m *machine, number int) error {
 func (w *world) serve(m *machine, n *node.Node, number int) error {
 	ctx, cancel := within(w.background(), requestWithin)
 	defer cancel()
-	request := n.Request(step.Submission{Chain: [][]byte{}, LeafCertificate: certificateOf(number)})
+	request := n.Request(wagtenib.Submission{Certificate: certificateOf(number)})
 	for range 4 {
 		place, err := request.Lookup(ctx)
 		if err != nil {

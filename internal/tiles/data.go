@@ -6,10 +6,9 @@ import (
 	"encoding/binary"
 	"errors"
 	"fmt"
+	"wagtenib/internal/ct"
 
 	"golang.org/x/crypto/cryptobyte"
-
-	"wagtenib/internal/log/chain"
 )
 
 // ErrTile means that bytes are not a data tile.
@@ -19,7 +18,7 @@ var ErrTile = errors.New("tile: not a data tile")
 type Leaf struct {
 	// Timestamp is in milliseconds since 1970.
 	Timestamp uint64
-	Type      chain.EntryType
+	Type      ct.EntryType
 	// IssuerKeyHash has 32 bytes if the entry is a precertificate. Certificate is the certificate, or the
 	// TBSCertificate of the precertificate.
 	IssuerKeyHash, Certificate []byte
@@ -91,9 +90,9 @@ func readLeaf(tile *cryptobyte.String) (leaf Leaf, ok bool) {
 	if !tile.ReadUint64(&leaf.Timestamp) || !tile.ReadUint16(&of) {
 		return leaf, false
 	}
-	switch leaf.Type = chain.EntryType(of); leaf.Type {
-	case chain.X509Entry:
-	case chain.PrecertEntry:
+	switch leaf.Type = ct.EntryType(of); leaf.Type {
+	case ct.X509Entry:
+	case ct.PrecertEntry:
 		if !tile.ReadBytes(&leaf.IssuerKeyHash, sha256.Size) {
 			return leaf, false
 		}
@@ -104,7 +103,7 @@ func readLeaf(tile *cryptobyte.String) (leaf Leaf, ok bool) {
 		return leaf, false
 	}
 	leaf.Entry = whole[: len(whole)-len(*tile) : len(whole)-len(*tile)]
-	if leaf.Type == chain.PrecertEntry && !tile.ReadUint24LengthPrefixed(&precertificate) {
+	if leaf.Type == ct.PrecertEntry && !tile.ReadUint24LengthPrefixed(&precertificate) {
 		return leaf, false
 	}
 	if !tile.ReadUint16LengthPrefixed(&fingerprints) || len(fingerprints)%sha256.Size != 0 {

@@ -7,8 +7,7 @@ import (
 	"errors"
 	"strings"
 	"testing"
-
-	"wagtenib/internal/log/chain"
+	"wagtenib/internal/ct"
 )
 
 // These are a leaf of each type, field by field (C2SP static-ct-api, "Log Entries"; RFC 6962, section 3.4). The
@@ -37,11 +36,11 @@ func TestRead(t *testing.T) {
 		t.Fatalf("%d leaves, %v", len(leaves), err)
 	}
 	for i, expected := range []struct {
-		entryType                                          chain.EntryType
+		entryType                                          ct.EntryType
 		keyHash, certificate, precertificate, chain, entry string
 	}{
-		{chain.X509Entry, "", "300141", "", issuer, timestamp + "0000" + "000003" + "300141" + extensions},
-		{chain.PrecertEntry, keyHash, "300154", "300150", "", timestamp + "0001" + keyHash + "000003" + "300154" +
+		{ct.X509Entry, "", "300141", "", issuer, timestamp + "0000" + "000003" + "300141" + extensions},
+		{ct.PrecertEntry, keyHash, "300154", "300150", "", timestamp + "0001" + keyHash + "000003" + "300154" +
 			extensions},
 	} {
 		l := &leaves[i]
@@ -136,7 +135,7 @@ func FuzzRead(f *testing.F) {
 		var again []byte
 		for _, leaf := range leaves {
 			again = append(again, leaf.Entry...)
-			if leaf.Type == chain.PrecertEntry {
+			if leaf.Type == ct.PrecertEntry {
 				n := len(leaf.Precertificate)
 				again = append(append(again, byte(n>>16), byte(n>>8), byte(n)), leaf.Precertificate...)
 			}

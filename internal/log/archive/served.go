@@ -160,7 +160,7 @@ func (s *Served) Close() {
 }
 
 // Submit implements log.Log. An archive takes no submissions.
-func (s *Served) Submit(context.Context, log.Entry) (log.Place, error) {
+func (s *Served) Submit(context.Context, ct.Entry) (log.Place, error) {
 	return log.Place{}, log.ErrEnded
 }
 

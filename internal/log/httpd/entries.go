@@ -15,8 +15,8 @@ import (
 	"golang.org/x/crypto/cryptobyte"
 
 	"wagtenib/internal/blob"
+	"wagtenib/internal/ct"
 	"wagtenib/internal/log"
-	"wagtenib/internal/log/chain"
 	"wagtenib/internal/tiles"
 )
 
@@ -159,7 +159,7 @@ func (f *Front) dataTile(ctx context.Context, index, end uint64) ([]tiles.Leaf, 
 // 4.6). A precertificate has a PrecertChainEntry, and a certificate only its certificate_chain.
 func (f *Front) entryOf(ctx context.Context, leaf *tiles.Leaf) (entryOf, error) {
 	var extra cryptobyte.Builder
-	if leaf.Type == chain.PrecertEntry {
+	if leaf.Type == ct.PrecertEntry {
 		extra.AddUint24LengthPrefixed(func(b *cryptobyte.Builder) { b.AddBytes(leaf.Precertificate) })
 	}
 	var fault error

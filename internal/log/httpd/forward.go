@@ -6,6 +6,7 @@ import (
 	"net/http"
 	"net/netip"
 
+	"wagtenib/internal/ct"
 	"wagtenib/internal/log"
 )
 
@@ -25,7 +26,7 @@ const maxForwards = 3
 // it checks nothing.
 func (f *Front) submit(ctx context.Context, w http.ResponseWriter, r *http.Request, client netip.Addr, body []byte,
 	check chainCheck) error {
-	var entry *log.Entry
+	var entry *ct.Entry
 	for tries := 0; ; tries++ {
 		if f.options.Forward == nil || tries == maxForwards {
 			ctx = log.Forwarded(ctx)

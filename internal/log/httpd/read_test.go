@@ -13,7 +13,7 @@ import (
 
 	"golang.org/x/crypto/cryptobyte"
 
-	"wagtenib/internal/log/chain"
+	"wagtenib/internal/ct"
 	"wagtenib/internal/testkit/fakelog"
 )
 
@@ -228,7 +228,7 @@ func TestEntryOfPrecertificate(t *testing.T) {
 		!leaf.ReadUint24LengthPrefixed(&tbs) || !leaf.ReadUint16LengthPrefixed(&extensions) || !leaf.Empty() {
 		t.Fatalf("the leaf: %x", entry.LeafInput)
 	}
-	if version != 0 || kind != 0 || chain.EntryType(number) != chain.PrecertEntry ||
+	if version != 0 || kind != 0 || ct.EntryType(number) != ct.PrecertEntry ||
 		!bytes.Equal(keyHash, wanted.IssuerKeyHash[:]) || !bytes.Equal(tbs, wanted.TBSCertificate) {
 		t.Errorf("the leaf has another content: %x", entry.LeafInput)
 	}

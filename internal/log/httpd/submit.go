@@ -9,6 +9,7 @@ import (
 	"net/netip"
 	"slices"
 
+	"wagtenib/internal/ct"
 	"wagtenib/internal/log"
 	"wagtenib/internal/log/chain"
 )
@@ -31,7 +32,7 @@ func (f *Front) addPreChain(w http.ResponseWriter, r *http.Request) error {
 }
 
 // chainCheck checks a chain, and makes an entry from it.
-type chainCheck func(chain [][]byte) (*chain.Entry, error)
+type chainCheck func(chain [][]byte) (*ct.Entry, error)
 
 func (f *Front) add(w http.ResponseWriter, r *http.Request, check chainCheck) error {
 	if f.ending.Load() {
@@ -104,7 +105,7 @@ func (f *Front) body(r *http.Request, client netip.Addr) (body []byte, taken int
 }
 
 // checked checks a submission and makes an entry from it. It waits while Limits.Checks others are being checked.
-func (f *Front) checked(ctx context.Context, body []byte, check chainCheck) (*chain.Entry, error) {
+func (f *Front) checked(ctx context.Context, body []byte, check chainCheck) (*ct.Entry, error) {
 	select {
 	case f.uses.checks <- struct{}{}:
 	case <-ctx.Done():

@@ -7,9 +7,9 @@ import (
 	"strings"
 	"time"
 
+	"wagtenib/bindings/go/wagtenib"
 	"wagtenib/internal/blob"
 	"wagtenib/internal/ct"
-	"wagtenib/internal/log/chain"
 	"wagtenib/internal/log/node/decider"
 	"wagtenib/internal/log/node/step"
 	"wagtenib/internal/tiles"
@@ -122,14 +122,14 @@ func reference(object step.Object) string {
 
 // identityOf returns SHA-256 over the parts of a submission that are in its leaf: the type, and the certificate, or the
 // issuer's key hash and the TBSCertificate.
-func identityOf(s step.Submission) blob.Identity {
-	if len(s.LeafCertificate) > 0 {
-		return identity(chain.X509Entry, s.LeafCertificate)
+func identityOf(s wagtenib.Submission) blob.Identity {
+	if len(s.Certificate) > 0 {
+		return identity(ct.X509Entry, s.Certificate)
 	}
-	return identity(chain.PrecertEntry, s.IssuerKeyHash, s.TBSCertificate)
+	return identity(ct.PrecertEntry, s.IssuerKeyHash[:], s.TBSCertificate)
 }
 
-func identity(of chain.EntryType, what ...[]byte) (id blob.Identity) {
+func identity(of ct.EntryType, what ...[]byte) (id blob.Identity) {
 	hash := sha256.New()
 	hash.Write([]byte{byte(of >> 8), byte(of)})
 	for _, part := range what {

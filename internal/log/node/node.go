@@ -125,9 +125,9 @@ type Decider interface {
 type Steps interface {
 	Begin(timestamp uint64) (string, error)
 	Needs(line string) ([]string, error)
-	Step(line string, edge [][]byte, batch []step.Submission, now, most uint64) (*step.Stepped, error)
+	Step(line string, edge [][]byte, batch []wagtenib.Submission, now, most uint64) (*step.Stepped, error)
 	Resume(line string, bundle []byte) (*step.Resumed, error)
-	Claim(line string, index, timestamp uint64, path [][]byte, submission step.Submission) (*wagtenib.Receipt, error)
+	Claim(line string, index, timestamp uint64, path [][32]byte, submission wagtenib.Submission) (*wagtenib.Receipt, error)
 }
 
 // Stores are those that all nodes of a log share.

@@ -255,7 +255,7 @@ func (p *pass) stepOver(ctx context.Context) (*step.Stepped, error) {
 	if err := p.config.Machine.Parallel(ctx, calls...); err != nil {
 		return nil, err
 	}
-	batch := make([]step.Submission, 0, len(p.batch))
+	batch := make([]wagtenib.Submission, 0, len(p.batch))
 	for _, t := range p.batch {
 		batch = append(batch, t.submission)
 	}

@@ -5,8 +5,8 @@ import (
 	"fmt"
 	"sync"
 
+	"wagtenib/bindings/go/wagtenib"
 	"wagtenib/internal/blob"
-	"wagtenib/internal/log/node/step"
 )
 
 // Place is where a submission's entry is, with the signature that promises it: what an SCT is made of (RFC 6962,
@@ -25,7 +25,7 @@ type Answer struct {
 
 // Ticket is a submission that waits for a step.
 type Ticket struct {
-	submission step.Submission
+	submission wagtenib.Submission
 	identity   blob.Identity
 	// wrong is the place that the index had when the submission was looked up, if another entry is there. misplaced
 	// says that the index has a place that must be replaced.
@@ -61,7 +61,7 @@ func newPool(limits Limits) *pool { return &pool{limits: limits, wake: make(chan
 // length returns how many bytes a ticket counts as.
 func (t *Ticket) length() int {
 	s := &t.submission
-	return len(s.LeafCertificate) + len(s.PreCertificate) + len(s.TBSCertificate) + 32*len(s.Chain)
+	return len(s.Certificate) + len(s.PreCertificate) + len(s.TBSCertificate) + 32*len(s.Chain)
 }
 
 // end has the pool take no more.

@@ -15,7 +15,7 @@ import (
 // Its methods are for one goroutine, which is not the loop's.
 type Request struct {
 	node       *Node
-	submission step.Submission
+	submission wagtenib.Submission
 	identity   blob.Identity
 	wrong      *blob.Place
 	isMovable  bool
@@ -23,7 +23,7 @@ type Request struct {
 }
 
 // Request returns the request of a submission.
-func (n *Node) Request(submission step.Submission) *Request {
+func (n *Node) Request(submission wagtenib.Submission) *Request {
 	return &Request{node: n, submission: submission, identity: identityOf(submission)}
 }
 
@@ -133,11 +133,7 @@ func (n *Node) claimed(ctx context.Context, at *Snapshot, place blob.Place, r *R
 	if err != nil {
 		return nil, err
 	}
-	hashesUp := make([][]byte, len(proofs[0]))
-	for i := range hashesUp {
-		hashesUp[i] = proofs[0][i][:]
-	}
-	receipt, err := n.config.Proved.Steps.Claim(at.Line, place.Index, place.Timestamp, hashesUp, r.submission)
+	receipt, err := n.config.Proved.Steps.Claim(at.Line, place.Index, place.Timestamp, proofs[0], r.submission)
 	if errors.Is(err, step.NoClaim) {
 		return nil, nil
 	}

@@ -15,7 +15,6 @@ import (
 	"wagtenib/internal/blob"
 	"wagtenib/internal/ct"
 	"wagtenib/internal/log"
-	"wagtenib/internal/log/chain"
 	"wagtenib/internal/log/node"
 	"wagtenib/internal/log/service"
 	"wagtenib/internal/log/signer"
@@ -77,11 +76,11 @@ func TestIndexOf(t *testing.T) {
 }
 
 // leafHash returns the hash of an entry's MerkleTreeLeaf (RFC 6962, sections 2.1 and 3.4).
-func leafHash(of log.Entry, at log.Place) [32]byte {
+func leafHash(of ct.Entry, at log.Place) [32]byte {
 	leaf := append([]byte{0, 0, 0}, binary.BigEndian.AppendUint64(nil, at.Timestamp)...)
 	leaf = append(leaf, byte(of.Type>>8), byte(of.Type))
 	content := of.Certificate
-	if of.Type == chain.PrecertEntry {
+	if of.Type == ct.PrecertEntry {
 		leaf, content = append(leaf, of.IssuerKeyHash[:]...), of.TBSCertificate
 	}
 	leaf = append(leaf, byte(len(content)>>16), byte(len(content)>>8), byte(len(content)))

@@ -6,17 +6,18 @@ import (
 	"errors"
 	"fmt"
 
+	"wagtenib/bindings/go/wagtenib"
+	"wagtenib/internal/ct"
 	"wagtenib/internal/log"
 	"wagtenib/internal/log/chain"
 	"wagtenib/internal/log/node"
-	"wagtenib/internal/log/node/step"
 	"wagtenib/internal/tiles"
 )
 
 // Submit implements log.Log. A duplicate is answered with the first timestamp of its entry, without waiting
 // for a step. Other submissions wait for a step. If another node makes the steps, and the submission may be forwarded
 // (log.IsForwarded), the error is log.ErrElsewhere.
-func (l *Log) Submit(ctx context.Context, entry log.Entry) (log.Place, error) {
+func (l *Log) Submit(ctx context.Context, entry ct.Entry) (log.Place, error) {
 	submission, err := submissionOf(entry)
 	if err != nil {
 		return log.Place{}, err
@@ -95,28 +96,27 @@ func (l *Log) placeOf(of node.Place) log.Place {
 
 // submissionOf returns an entry as a submission for a step. The error is log.ErrTooLarge if the entry has too
 // many bytes.
-func submissionOf(entry log.Entry) (step.Submission, error) {
-	var s step.Submission
+func submissionOf(entry ct.Entry) (wagtenib.Submission, error) {
+	var s wagtenib.Submission
 	switch entry.Type {
-	case chain.X509Entry:
-		s.LeafCertificate = entry.Certificate
-	case chain.PrecertEntry:
-		s.IssuerKeyHash, s.TBSCertificate, s.PreCertificate = entry.IssuerKeyHash[:], entry.TBSCertificate,
+	case ct.X509Entry:
+		s.Certificate = entry.Certificate
+	case ct.PrecertEntry:
+		s.IssuerKeyHash, s.TBSCertificate, s.PreCertificate = entry.IssuerKeyHash, entry.TBSCertificate,
 			entry.Precertificate
 	default:
 		return s, fmt.Errorf("%w: an entry of type %d", node.ErrConfig, entry.Type)
 	}
-	if bytes := len(s.LeafCertificate) + len(s.PreCertificate) + len(s.TBSCertificate); bytes > MaxEntry {
+	if bytes := len(s.Certificate) + len(s.PreCertificate) + len(s.TBSCertificate); bytes > MaxEntry {
 		return s, fmt.Errorf("%w: it has %d bytes, and may have %d", log.ErrTooLarge, bytes, MaxEntry)
 	}
-	isWhole := len(s.LeafCertificate) > 0 || len(s.PreCertificate) > 0 && len(s.TBSCertificate) > 0
+	isWhole := len(s.Certificate) > 0 || len(s.PreCertificate) > 0 && len(s.TBSCertificate) > 0
 	if !isWhole || len(entry.Issuers) > chain.MaxCertificates {
 		return s, fmt.Errorf("%w: the entry is neither a certificate nor a precertificate, or its chain is too long",
 			node.ErrConfig)
 	}
 	for _, issuer := range entry.Issuers {
-		fingerprint := sha256.Sum256(issuer)
-		s.Chain = append(s.Chain, fingerprint[:])
+		s.Chain = append(s.Chain, sha256.Sum256(issuer))
 	}
 	return s, nil
 }

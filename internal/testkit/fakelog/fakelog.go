@@ -18,8 +18,8 @@ import (
 	"golang.org/x/crypto/cryptobyte"
 
 	"wagtenib/internal/blob"
+	"wagtenib/internal/ct"
 	"wagtenib/internal/log"
-	"wagtenib/internal/log/chain"
 )
 
 // Log is a log in memory. It publishes a head when Publish is called, and if Interval is above 0, at each interval.
@@ -60,7 +60,7 @@ type tree struct {
 }
 
 type waiting struct {
-	entry log.Entry
+	entry ct.Entry
 	place chan log.Place
 }
 
@@ -98,7 +98,7 @@ func (l *Log) run() {
 }
 
 // Submit implements log.Log.
-func (l *Log) Submit(ctx context.Context, entry log.Entry) (log.Place, error) {
+func (l *Log) Submit(ctx context.Context, entry ct.Entry) (log.Place, error) {
 	w := waiting{entry, make(chan log.Place, 1)}
 	l.mutex.Lock()
 	var err error
@@ -125,7 +125,7 @@ func (l *Log) Submit(ctx context.Context, entry log.Entry) (log.Place, error) {
 }
 
 // Add publishes entries without waiting for their places.
-func (l *Log) Add(entries []log.Entry) {
+func (l *Log) Add(entries []ct.Entry) {
 	l.mutex.Lock()
 	defer l.mutex.Unlock()
 	for _, entry := range entries {
@@ -163,13 +163,13 @@ func (l *Log) publish() {
 }
 
 // take adds an entry to the tree.
-func (l *Log) take(entry log.Entry, now uint64) log.Place {
+func (l *Log) take(entry ct.Entry, now uint64) log.Place {
 	index := uint64(len(l.tree.leaves))
 	extensions := []byte{0, 0, 5, byte(index >> 32), byte(index >> 24), byte(index >> 16),
 		byte(index >> 8), byte(index)}
 	timestamped := timestampedEntry(entry, now, extensions)
 	leaf := cryptobyte.NewBuilder(append([]byte(nil), timestamped...))
-	if entry.Type == chain.PrecertEntry {
+	if entry.Type == ct.PrecertEntry {
 		leaf.AddUint24LengthPrefixed(func(b *cryptobyte.Builder) { b.AddBytes(entry.Precertificate) })
 	}
 	leaf.AddUint16LengthPrefixed(func(b *cryptobyte.Builder) {
@@ -185,12 +185,12 @@ func (l *Log) take(entry log.Entry, now uint64) log.Place {
 		Signature: l.sign(append([]byte{0, 0}, timestamped...))}
 }
 
-func timestampedEntry(entry log.Entry, now uint64, extensions []byte) []byte {
+func timestampedEntry(entry ct.Entry, now uint64, extensions []byte) []byte {
 	var b cryptobyte.Builder
 	b.AddUint64(now)
 	b.AddUint16(uint16(entry.Type))
 	certificate := entry.Certificate
-	if entry.Type == chain.PrecertEntry {
+	if entry.Type == ct.PrecertEntry {
 		b.AddBytes(entry.IssuerKeyHash[:])
 		certificate = entry.TBSCertificate
 	}
@@ -403,6 +403,6 @@ func HeadSigned(head log.Head) []byte {
 }
 
 // TimestampSigned returns the bytes under the signature of an SCT (RFC 6962, section 3.2).
-func TimestampSigned(entry log.Entry, timestamp uint64, extensions []byte) []byte {
+func TimestampSigned(entry ct.Entry, timestamp uint64, extensions []byte) []byte {
 	return append([]byte{0, 0}, timestampedEntry(entry, timestamp, extensions)...)
 }

@@ -149,7 +149,7 @@ type Stepped struct {
 // Step returns the state after a batch, with the objects that it publishes. The edge has the contents of the objects
 // that Needs names, in that order. Now is the step's timestamp in milliseconds. If it is later than the line's by more
 // than maxAhead, the error is TooFar.
-func (s *Stepper) Step(line string, edge [][]byte, batch []Submission, now, maxAhead uint64) (*Stepped, error) {
+func (s *Stepper) Step(line string, edge [][]byte, batch []wagtenib.Submission, now, maxAhead uint64) (*Stepped, error) {
 	before, err := ParseState(line)
 	if err != nil {
 		return nil, err
@@ -201,19 +201,12 @@ func stepped(reply *wagtenib.Step, line string, size uint64, batch int, now uint
 // Claim returns the receipt of a submission whose entry has this index in the log of this line. The audit path has the
 // hashes from the leaf up (RFC 9162, section 2.1.3.2). If it does not lead from the entry's leaf to the line's root, the
 // error is NoClaim.
-func (s *Stepper) Claim(line string, index, timestamp uint64, path [][]byte, submission Submission) (*wagtenib.Receipt, error) {
-	hashes := make([]wagtenib.Hash, len(path))
-	for i, hash := range path {
-		if len(hash) != wagtenib.HashSize {
-			return nil, fmt.Errorf("%w: a hash of %d bytes", NoClaim, len(hash))
-		}
-		hashes[i] = wagtenib.Hash(hash)
-	}
-	asked, err := batchBytes([]Submission{submission})
+func (s *Stepper) Claim(line string, index, timestamp uint64, path [][32]byte, submission wagtenib.Submission) (*wagtenib.Receipt, error) {
+	asked, err := batchBytes([]wagtenib.Submission{submission})
 	if err != nil {
 		return nil, err
 	}
-	signed, err := s.functions.Claim(line, index, timestamp, hashes, asked)
+	signed, err := s.functions.Claim(line, index, timestamp, path, asked)
 	if err != nil {
 		return nil, refused(err)
 	}

@@ -25,7 +25,7 @@ func TestSteps(t *testing.T) {
 	if err != nil || len(names) != 0 {
 		t.Fatalf("%v, %v", names, err)
 	}
-	one, err := c.Step(line, nil, []Submission{{LeafCertificate: []byte("one")}}, 7, MaxAhead)
+	one, err := c.Step(line, nil, []wagtenib.Submission{{Certificate: []byte("one")}}, 7, MaxAhead)
 	must(t, err)
 	// The root of one leaf is the leaf's hash: by hand, from RFC 6962, sections 2.1 and 3.4, and static-ct-api's
 	// extension.
@@ -41,7 +41,7 @@ func TestSteps(t *testing.T) {
 	}
 	objects := one.Objects
 	edge := [][]byte{objects[0].Content, objects[1].Content}
-	two, err := c.Step(one.Line, edge, []Submission{{IssuerKeyHash: make([]byte, 32), PreCertificate: []byte("p"),
+	two, err := c.Step(one.Line, edge, []wagtenib.Submission{{PreCertificate: []byte("p"),
 		TBSCertificate: []byte("t")}}, 8, MaxAhead)
 	must(t, err)
 	resumed, err := c.Resume(two.Line, two.Bundle)
@@ -59,7 +59,7 @@ func TestSteps(t *testing.T) {
 	}
 	// The path in a tree of two leaves is the other leaf's hash.
 	first := sha256.Sum256([]byte(leaf))
-	path, entry := [][]byte{objects[0].Content[32:64]}, Submission{LeafCertificate: []byte("one")}
+	path, entry := [][32]byte{[32]byte(objects[0].Content[32:64])}, wagtenib.Submission{Certificate: []byte("one")}
 	claimed, err := c.Claim(two.Line, 0, 7, path, entry)
 	must(t, err)
 	if string(claimed.Signed) != leaf[1:] || !bytes.Equal(objects[0].Content[:32], first[:]) {
@@ -81,7 +81,7 @@ func TestSteps(t *testing.T) {
 			t.Errorf("%v, and not %s", err, want)
 		}
 	}
-	if _, err := c.Step(one.Line, edge, []Submission{{}}, 8, MaxAhead); !errors.Is(err, BadBatch) {
+	if _, err := c.Step(one.Line, edge, []wagtenib.Submission{{}}, 8, MaxAhead); !errors.Is(err, BadBatch) {
 		t.Error(err)
 	}
 }
@@ -110,7 +110,7 @@ func oneEntry(t *testing.T) (c *Stepper, before string, first *Stepped) {
 }
 
 // oneSubmission is its batch.
-var oneSubmission = []Submission{{LeafCertificate: []byte("one")}}
+var oneSubmission = []wagtenib.Submission{{Certificate: []byte("one")}}
 
 // TestWrongStates: a state in a reply with one wrong field is refused, since it must follow from the request.
 func TestWrongStates(t *testing.T) {
@@ -142,17 +142,17 @@ func TestReceipts(t *testing.T) {
 	c := New(origin)
 	line, err := c.Begin(5)
 	must(t, err)
-	of := func(leaf string) Submission { return Submission{LeafCertificate: []byte(leaf)} }
-	before, err := c.Step(line, nil, []Submission{of("zero")}, 6, MaxAhead)
+	of := func(leaf string) wagtenib.Submission { return wagtenib.Submission{Certificate: []byte(leaf)} }
+	before, err := c.Step(line, nil, []wagtenib.Submission{of("zero")}, 6, MaxAhead)
 	must(t, err)
 	edge := [][]byte{before.Objects[0].Content, before.Objects[1].Content}
-	batch := []Submission{of("one"), of("two"), of("one"), of("three"), of("two")}
+	batch := []wagtenib.Submission{of("one"), of("two"), of("one"), of("three"), of("two")}
 	right, err := c.Step(before.Line, edge, batch, 7, MaxAhead)
 	must(t, err)
 	for i, index := range []uint64{1, 2, 1, 3, 2} {
 		first := map[uint64]int{1: 0, 2: 1, 3: 3}[index]
 		if r := right.Receipts[i]; r.LeafIndex != index || !bytes.Equal(r.Signed, right.Receipts[first].Signed) ||
-			!bytes.Contains(r.Signed, batch[i].LeafCertificate) {
+			!bytes.Contains(r.Signed, batch[i].Certificate) {
 			t.Errorf("receipt %d is of entry %d", i, r.LeafIndex)
 		}
 	}
@@ -182,7 +182,7 @@ func TestReceipts(t *testing.T) {
 }
 
 // bytesOf returns the bytes of a batch.
-func bytesOf(t *testing.T, batch []Submission) []byte {
+func bytesOf(t *testing.T, batch []wagtenib.Submission) []byte {
 	t.Helper()
 	text, err := batchBytes(batch)
 	must(t, err)
