@@ -116,9 +116,9 @@ func (s *Served) checkWhole(ctx context.Context) error {
 	if root != s.tree.Root {
 		return fmt.Errorf("%w: the tiles and the head have different roots", ErrDamaged)
 	}
-	last := tiles.Data(s.tree.TreeSize-1, s.tree.TreeSize)
+	last := ct.DataTile(s.tree.TreeSize-1, s.tree.TreeSize)
 	last.L = 0
-	content, err := s.read(ctx, tiles.Name(last))
+	content, err := s.read(ctx, ct.TileName(last))
 	if err != nil {
 		return fmt.Errorf("%w: %w", ErrDamaged, err)
 	}
@@ -172,7 +172,7 @@ func (s *Served) HeadOf(context.Context, uint64) (log.Head, error) { return s.he
 
 // Object implements log.Log. It compares each tile with the tree of the head.
 func (s *Served) Object(ctx context.Context, name string, maxBytes int64) ([]byte, error) {
-	of, isTile := tiles.Parse(name)
+	of, isTile := ct.ParseTile(name)
 	if !isTile && !strings.HasPrefix(name, "issuer/") {
 		return nil, fmt.Errorf("%w: %.80q is not published", blob.ErrName, name)
 	}

@@ -8,6 +8,7 @@ import (
 	"slices"
 
 	"wagtenib/internal/blob"
+	"wagtenib/internal/ct"
 	"wagtenib/internal/tiles"
 )
 
@@ -65,7 +66,7 @@ func (l *Loop) indexWorks(ctx context.Context, k *state) error {
 
 // newestLeaf returns a state's newest entry, or nil if there is none, or if it is missing or damaged: then the step
 // says so, and a damaged edge is made again. Any other error may pass, so it must not count as a missing entry.
-func (l *Loop) newestLeaf(ctx context.Context, k *state) (*tiles.Leaf, error) {
+func (l *Loop) newestLeaf(ctx context.Context, k *state) (*ct.Leaf, error) {
 	if k.TreeSize == 0 {
 		return nil, nil
 	}

@@ -91,7 +91,7 @@ func HeadIn(text string) (ct.TreeHead, error) {
 
 // Identity returns the identity of a leaf's entry: SHA-256 over its type, and the certificate, or the issuer's key hash
 // and the TBSCertificate.
-func Identity(leaf *tiles.Leaf) blob.Identity {
+func Identity(leaf *ct.Leaf) blob.Identity {
 	return identity(leaf.Type, leaf.IssuerKeyHash, leaf.Certificate)
 }
 
@@ -143,7 +143,7 @@ func identity(of ct.EntryType, what ...[]byte) (id blob.Identity) {
 // steps as well.
 func rowsIn(objects []step.Object) (rows []blob.Row, err error) {
 	for _, object := range objects {
-		if !strings.HasPrefix(object.Name, tiles.DataPrefix) {
+		if !strings.HasPrefix(object.Name, ct.DataTilePrefix) {
 			continue
 		}
 		leaves, err := tiles.Leaves(object.Name, object.Content)

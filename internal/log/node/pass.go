@@ -10,9 +10,9 @@ import (
 
 	"wagtenib/bindings/go/wagtenib"
 	"wagtenib/internal/blob"
+	"wagtenib/internal/ct"
 	"wagtenib/internal/log/node/decider"
 	"wagtenib/internal/log/node/step"
-	"wagtenib/internal/tiles"
 )
 
 // pass is one way through the decider's commands, from a text that the lock had. It ends with its round.
@@ -421,7 +421,7 @@ func (p *pass) keepEdge() {
 		if !strings.Contains(object.Name, ".p/") {
 			continue
 		}
-		level := object.Name[:strings.IndexByte(object.Name[len(tiles.Prefix):], '/')+len(tiles.Prefix)+1]
+		level := object.Name[:strings.IndexByte(object.Name[len(ct.TilePrefix):], '/')+len(ct.TilePrefix)+1]
 		for name := range p.edge {
 			if strings.HasPrefix(name, level) {
 				delete(p.edge, name)

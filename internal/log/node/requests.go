@@ -7,6 +7,7 @@ import (
 
 	"wagtenib/bindings/go/wagtenib"
 	"wagtenib/internal/blob"
+	"wagtenib/internal/ct"
 	"wagtenib/internal/log/node/step"
 	"wagtenib/internal/tiles"
 )
@@ -121,7 +122,7 @@ func (d DamagedTile) Unwrap() error { return d.Why }
 func (n *Node) claimed(ctx context.Context, at *Snapshot, place blob.Place, r *Request) (*wagtenib.Receipt, error) {
 	leaf, err := tiles.LeafAt(ctx, place.Index, at.Head.TreeHead, n.stored)
 	if errors.Is(err, ErrDamaged) {
-		return nil, DamagedTile{place.Index / tiles.Width, err}
+		return nil, DamagedTile{place.Index / ct.TileWidth, err}
 	}
 	if err != nil {
 		return nil, err

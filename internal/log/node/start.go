@@ -9,7 +9,6 @@ import (
 	"wagtenib/internal/ct"
 	"wagtenib/internal/log/node/decider"
 	"wagtenib/internal/log/signer"
-	"wagtenib/internal/tiles"
 )
 
 // Start looks at the lock, the stores, the signer and the machine's memory, and returns a node if the node may continue
@@ -156,7 +155,7 @@ func (l *Loop) lockText(ctx context.Context) (text string, exists bool, err erro
 
 // hasLog reports whether the store has any object of a log.
 func (l *Loop) hasLog(ctx context.Context) (bool, error) {
-	for _, prefix := range []string{headsPrefix, tiles.Prefix, stagingPrefix} {
+	for _, prefix := range []string{headsPrefix, ct.TilePrefix, stagingPrefix} {
 		names, err := l.config.Stores.Objects.List(ctx, prefix, "", 1)
 		if err != nil {
 			return false, fmt.Errorf("node: the objects: %w", err)

@@ -77,9 +77,9 @@ func rebuild(ctx context.Context, of Stores, head ct.TreeHead, below uint64, rep
 	read := tiles.Stored(func(ctx context.Context, name string) ([]byte, error) {
 		return of.Objects.Get(ctx, name, blob.MaxObject)
 	})
-	for number := (below + tiles.Width - 1) / tiles.Width; number > 0; number-- {
-		left := (number - 1) * tiles.Width
-		leaves, err := tiles.LeavesOf(ctx, tiles.Data(left, head.TreeSize), head, read)
+	for number := (below + ct.TileWidth - 1) / ct.TileWidth; number > 0; number-- {
+		left := (number - 1) * ct.TileWidth
+		leaves, err := tiles.LeavesOf(ctx, ct.DataTile(left, head.TreeSize), head, read)
 		if err != nil {
 			return err
 		}

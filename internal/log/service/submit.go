@@ -11,7 +11,6 @@ import (
 	"wagtenib/internal/log"
 	"wagtenib/internal/log/chain"
 	"wagtenib/internal/log/node"
-	"wagtenib/internal/tiles"
 )
 
 // Submit implements log.Log. A duplicate is answered with the first timestamp of its entry, without waiting
@@ -90,7 +89,7 @@ func (l *Log) why(ctx context.Context, err error) error {
 
 // placeOf returns a node's place as a log.Place.
 func (l *Log) placeOf(of node.Place) log.Place {
-	return log.Place{LeafIndex: of.Index, Timestamp: of.Timestamp, Extensions: tiles.Extensions(of.Index),
+	return log.Place{LeafIndex: of.Index, Timestamp: of.Timestamp, Extensions: ct.IndexExtension(of.Index),
 		Signature: of.Signature, LogID: l.running.logID}
 }
 

@@ -95,7 +95,7 @@ func (m *Mirror) Stage(tile logclient.DataTile) error {
 }
 
 func (m *Mirror) stagedPath(index uint64, width int) string {
-	name, _ := logclient.DataTileName(index, index*logclient.TileWidth+uint64(width))
+	name := ct.TileName(ct.DataTile(index*ct.TileWidth, index*ct.TileWidth+uint64(width)))
 	return filepath.Join(m.folder, stagedFolder, filepath.FromSlash(name))
 }
 
@@ -134,16 +134,17 @@ func (m *Mirror) Accept(ctx context.Context, head watch.Head) error {
 type tile struct {
 	name   string
 	bytes  []byte
-	leaves []datatile.Leaf
+	leaves []ct.Leaf
 }
 
 // readTile returns a data tile of the tree of a size. If it is not staged, readTile reads it from the log, and stages
 // it.
 func (m *Mirror) readTile(ctx context.Context, index, size uint64) (tile, error) {
-	name, width := logclient.DataTileName(index, size)
+	of := ct.DataTile(index*ct.TileWidth, size)
+	name, width := ct.TileName(of), of.W
 	content, err := os.ReadFile(m.stagedPath(index, width))
 	if errors.Is(err, fs.ErrNotExist) {
-		err = m.client.DataTiles(ctx, index*logclient.TileWidth, min(size, (index+1)*logclient.TileWidth),
+		err = m.client.DataTiles(ctx, index*ct.TileWidth, min(size, (index+1)*ct.TileWidth),
 			func(read logclient.DataTile, _ bool) error {
 				content = read.Bytes
 				return m.Stage(read)
@@ -152,15 +153,15 @@ func (m *Mirror) readTile(ctx context.Context, index, size uint64) (tile, error)
 	if err != nil {
 		return tile{}, fmt.Errorf("mirror: %s: %w", name, err)
 	}
-	leaves, err := datatile.ReadData(content)
-	if err != nil || len(leaves) < width {
-		return tile{}, fmt.Errorf("%w: %s has %d entries: %v", ErrOther, name, len(leaves), err)
+	first, ok := ct.FirstEntries(content, width)
+	if !ok {
+		return tile{}, fmt.Errorf("%w: %s does not begin with %d entries", ErrOther, name, width)
 	}
-	length := 0
-	for i := range leaves[:width] {
-		length += leaves[i].Length()
+	leaves, err := ct.ReadDataTile(first)
+	if err != nil {
+		return tile{}, fmt.Errorf("%w: %s: %v", ErrOther, name, err)
 	}
-	return tile{name, content[:length], leaves[:width]}, nil
+	return tile{name, first, leaves}, nil
 }
 
 // check compares the root of the stored tree with the new data tiles with the root of the head. If they differ, it
@@ -192,7 +193,7 @@ func (m *Mirror) root(ctx context.Context, size uint64) (root wagtenib.Hash, err
 	if err != nil {
 		return root, err
 	}
-	for index := m.kept.TreeSize / logclient.TileWidth; index*logclient.TileWidth < size; index++ {
+	for index := m.kept.TreeSize / ct.TileWidth; index*ct.TileWidth < size; index++ {
 		data, err := m.readTile(ctx, index, size)
 		if err != nil {
 			return root, err
@@ -212,7 +213,7 @@ func (m *Mirror) grow(ctx context.Context, size uint64) error {
 	if err != nil {
 		return err
 	}
-	for index := m.kept.TreeSize / logclient.TileWidth; index*logclient.TileWidth < size; index++ {
+	for index := m.kept.TreeSize / ct.TileWidth; index*ct.TileWidth < size; index++ {
 		data, err := m.readTile(ctx, index, size)
 		if err != nil {
 			return err
@@ -250,10 +251,10 @@ func (m *Mirror) put(ctx context.Context, name string, content []byte) error {
 
 // checkPrefix returns an error if a data tile does not begin with the bytes of the stored partial tile.
 func (m *Mirror) checkPrefix(ctx context.Context, index uint64, data tile) error {
-	if m.kept.TreeSize%logclient.TileWidth == 0 || index != m.kept.TreeSize/logclient.TileWidth {
+	if m.kept.TreeSize%ct.TileWidth == 0 || index != m.kept.TreeSize/ct.TileWidth {
 		return nil
 	}
-	name, _ := logclient.DataTileName(index, m.kept.TreeSize)
+	name := ct.TileName(ct.DataTile(index*ct.TileWidth, m.kept.TreeSize))
 	kept, err := m.objects.Get(ctx, name, maxObject)
 	if err != nil {
 		return fmt.Errorf("mirror: %w", err)

@@ -70,8 +70,8 @@ func logOf256(t *testing.T) (kept, ct.TreeHead) {
 	var all hashes
 	var data []byte
 	objects := kept{}
-	for i := range uint64(tiles.Width) {
-		extensions := tiles.Extensions(i)
+	for i := range uint64(ct.TileWidth) {
+		extensions := ct.IndexExtension(i)
 		entry := append(binary.BigEndian.AppendUint64(nil, 1800000000000+i), 0, 0, 0, 0, 1, byte(i))
 		entry = append(binary.BigEndian.AppendUint16(entry, uint16(len(extensions))), extensions...)
 		data = append(append(data, entry...), 0, 0)
@@ -84,20 +84,20 @@ func logOf256(t *testing.T) (kept, ct.TreeHead) {
 		}
 	}
 	objects["tile/data/000"] = data
-	for _, size := range []int64{3, tiles.Width} {
+	for _, size := range []int64{3, ct.TileWidth} {
 		for _, one := range tlog.NewTiles(8, 0, size) {
 			content, err := tlog.ReadTileData(one, all)
 			if err != nil {
 				t.Fatal(err)
 			}
-			objects[tiles.Name(one)] = content
+			objects[ct.TileName(one)] = content
 		}
 	}
-	root, err := tlog.TreeHash(tiles.Width, all)
+	root, err := tlog.TreeHash(ct.TileWidth, all)
 	if err != nil {
 		t.Fatal(err)
 	}
-	return objects, ct.TreeHead{TreeSize: tiles.Width, Timestamp: 1800000001000, Root: root}
+	return objects, ct.TreeHead{TreeSize: ct.TileWidth, Timestamp: 1800000001000, Root: root}
 }
 
 // TestKeepsPartialTilesOfDamagedTile bends a full tile, of the data or of the hashes. Its partial ones must stay, and

@@ -76,7 +76,7 @@ func (j *Janitor) pass(ctx context.Context) {
 	}
 	j.report.Lock()
 	defer j.report.Unlock()
-	j.report.DeletedTo, j.report.Next = j.partial.next[0]*tiles.Width, j.reread.next
+	j.report.DeletedTo, j.report.Next = j.partial.next[0]*ct.TileWidth, j.reread.next
 }
 
 // call calls a function with the time limit of one call.
@@ -151,8 +151,8 @@ const maxFailed = 3
 
 // deletePartials deletes the partial tiles of a full one, if the full one is whole.
 func (j *Janitor) deletePartials(ctx context.Context, level int, number uint64, newest ct.TreeHead) error {
-	full := tiles.Full(level, number)
-	partials, err := j.list(ctx, tiles.Name(full)+tiles.Partial, "")
+	full := ct.FullTile(level, number)
+	partials, err := j.list(ctx, ct.TileName(full)+ct.PartialTile, "")
 	if err != nil || len(partials) == 0 {
 		return err
 	}
@@ -269,7 +269,7 @@ func (j *Janitor) damaged(number uint64, err error) {
 
 // readTile reads one data tile again, and keeps whether it is damaged. An error says that this is not known.
 func (j *Janitor) readTile(ctx context.Context, number uint64, newest Newest) error {
-	leaves, err := tiles.LeavesOf(ctx, tiles.Data(number*tiles.Width, newest.Head.TreeSize), newest.Head, j.read)
+	leaves, err := tiles.LeavesOf(ctx, ct.DataTile(number*ct.TileWidth, newest.Head.TreeSize), newest.Head, j.read)
 	if err != nil && !errors.Is(err, tiles.ErrDamaged) {
 		return err
 	}
