@@ -12,6 +12,7 @@ import (
 
 	"wagtenib/internal/audit"
 	"wagtenib/internal/command/version"
+	"wagtenib/internal/ct"
 	"wagtenib/internal/logclient"
 	"wagtenib/internal/watch"
 	"wagtenib/internal/watch/alert"
@@ -110,11 +111,11 @@ func runAudit(ctx context.Context, arguments []string, out io.Writer) error {
 	if err != nil {
 		return err
 	}
-	var scts []audit.SCT
+	var scts []ct.SCT
 	if *sctFile != "" {
 		content, err := readSmall(*sctFile)
 		if err == nil {
-			scts, err = audit.ReadSCTs(content)
+			scts, err = ct.ReadSCTs(content)
 		}
 		if err != nil {
 			return fmt.Errorf("%s: %w", *sctFile, err)

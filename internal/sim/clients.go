@@ -7,6 +7,7 @@ import (
 	"time"
 
 	"wagtenib/bindings/go/wagtenib"
+	"wagtenib/internal/ct"
 	"wagtenib/internal/log/node"
 )
 
@@ -78,7 +79,7 @@ func (w *world) serve(m *machine, n *node.Node, number int) error {
 			return answer.Err
 		}
 		if !answer.Known {
-			w.answers(m, number, answer.Place)
+			w.answers(m, number, answer.SCT)
 			return nil
 		}
 	}
@@ -86,10 +87,11 @@ func (w *world) serve(m *machine, n *node.Node, number int) error {
 }
 
 // answers logs and judges the answer to a client.
-func (w *world) answers(m *machine, number int, place node.Place) {
-	w.log("client", fmt.Sprintf("entry %d", number), fmt.Sprintf("%s answers %d at %d ms", m.name, place.Index,
-		place.Timestamp), "")
-	w.judge.answered(m, number, place.Index, place.Timestamp, place.Signature)
+func (w *world) answers(m *machine, number int, sct ct.SCT) {
+	index, _ := sct.Index()
+	w.log("client", fmt.Sprintf("entry %d", number), fmt.Sprintf("%s answers %d at %d ms", m.name, index,
+		sct.Timestamp), "")
+	w.judge.answered(m, number, index, sct.Timestamp, sct.Signature)
 }
 
 func isClosed(done <-chan struct{}) bool {

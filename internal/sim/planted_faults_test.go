@@ -273,8 +273,8 @@ var all = []planted{
 			"		r := p.made.receipts[0*i]\n		p.pool",
 		},
 		{"pass.go",
-			"Answer{Place: Place{r.LeafIndex, r.Timestamp, p.made.signatures[i]}}",
-			"Answer{Place: Place{r.LeafIndex, r.Timestamp, p.made.signatures[0]}}",
+			"Answer{SCT: p.sct(r.LeafIndex, r.Timestamp, p.made.signatures[i])}",
+			"Answer{SCT: p.sct(r.LeafIndex, r.Timestamp, p.made.signatures[0])}",
 		},
 	}},
 	{"the answer comes before the head", []edit{

@@ -160,8 +160,8 @@ func (s *Served) Close() {
 }
 
 // Submit implements log.Log. An archive takes no submissions.
-func (s *Served) Submit(context.Context, ct.Entry) (log.Place, error) {
-	return log.Place{}, log.ErrEnded
+func (s *Served) Submit(context.Context, ct.Entry) (ct.SCT, error) {
+	return ct.SCT{}, log.ErrEnded
 }
 
 // Checkpoint implements log.Log. It returns the last head of the log.

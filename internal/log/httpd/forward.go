@@ -53,7 +53,7 @@ func (f *Front) submit(ctx context.Context, w http.ResponseWriter, r *http.Reque
 			// The entry has a copy of the bytes that it needs.
 			body = nil
 		}
-		place, err := f.log.Submit(ctx, *entry)
+		sct, err := f.log.Submit(ctx, *entry)
 		if errors.Is(err, log.ErrElsewhere) && tries < maxForwards {
 			continue
 		}
@@ -61,7 +61,7 @@ func (f *Front) submit(ctx context.Context, w http.ResponseWriter, r *http.Reque
 			return err
 		}
 		w.Header().Set("Cache-Control", "no-store")
-		writeJSON(w, http.StatusOK, timestampOf(place))
+		writeJSON(w, http.StatusOK, sct)
 		return nil
 	}
 }

@@ -10,18 +10,8 @@ import (
 	"slices"
 
 	"wagtenib/internal/ct"
-	"wagtenib/internal/log"
 	"wagtenib/internal/log/chain"
 )
-
-// signedTimestamp is the answer to a submission (RFC 6962, section 4.1). Bytes are in base64.
-type signedTimestamp struct {
-	Version    int    `json:"sct_version"`
-	ID         []byte `json:"id"`
-	Timestamp  uint64 `json:"timestamp"`
-	Extensions []byte `json:"extensions"`
-	Signature  []byte `json:"signature"`
-}
 
 func (f *Front) addChain(w http.ResponseWriter, r *http.Request) error {
 	return f.add(w, r, f.checker.Certificate)
@@ -53,10 +43,6 @@ func (f *Front) add(w http.ResponseWriter, r *http.Request, check chainCheck) er
 	ctx, cancel := context.WithTimeout(r.Context(), f.limits.Submission)
 	defer cancel()
 	return f.submit(ctx, w, r, client, body, check)
-}
-
-func timestampOf(place log.Place) signedTimestamp {
-	return signedTimestamp{0, place.LogID[:], place.Timestamp, place.Extensions, place.Signature}
 }
 
 // maxPiece is the maximum number of bytes that are allocated for a body before they were received.

@@ -256,6 +256,7 @@ type Snapshot struct {
 // Node is what requests may use of a node. All that its loop decides by is in Loop.
 type Node struct {
 	config   Config
+	logID    [32]byte
 	verifier note.Verifier
 	pool     *pool
 	snapshot atomic.Pointer[Snapshot]
@@ -318,13 +319,18 @@ func (n *Node) RefuseAll(err error) int { return n.pool.refuse(err) }
 // show makes a head the one that readers see. It is no earlier one, since no state is accepted after a later one.
 func (n *Node) show(head Head, line string) { n.snapshot.Store(&Snapshot{Head: head, Line: line}) }
 
+// sct returns the timestamp of an entry with an index.
+func (n *Node) sct(index, timestamp uint64, signature []byte) ct.SCT {
+	return ct.SCT{LogID: n.logID, Timestamp: timestamp, Extensions: ct.IndexExtension(index), Signature: signature}
+}
+
 // newNode returns a node that does nothing yet.
 func newNode(config Config) *Node {
 	config.Stores = limit(config)
 	if config.Machine.Observer == nil {
 		config.Machine.Observer = unobserved{}
 	}
-	return &Node{config: config, verifier: verifierOf(config), pool: newPool(config.Limits)}
+	return &Node{config: config, logID: wagtenib.LogID(config.Signer.Key()), verifier: verifierOf(config), pool: newPool(config.Limits)}
 }
 
 // verifierOf returns what verifies the log's own signature of a note (C2SP static-ct-api, signatures of type 5).

@@ -407,7 +407,7 @@ func (p *pass) answer(ctx context.Context) (*decider.Outcome, error) {
 	}
 	for i, t := range p.batch {
 		r := p.made.receipts[i]
-		p.pool.resolve(t, Answer{Place: Place{r.LeafIndex, r.Timestamp, p.made.signatures[i]}})
+		p.pool.resolve(t, Answer{SCT: p.sct(r.LeafIndex, r.Timestamp, p.made.signatures[i])})
 	}
 	p.last.answered, p.seen.isMade = len(p.batch), p.made.isNew
 	return decider.Done(), nil

@@ -7,18 +7,13 @@ import (
 
 	"wagtenib/bindings/go/wagtenib"
 	"wagtenib/internal/blob"
+	"wagtenib/internal/ct"
 )
 
 // Place is where a submission's entry is, with the signature that promises it: what an SCT is made of (RFC 6962,
-// section 3.2).
-type Place struct {
-	Index, Timestamp uint64
-	Signature        []byte
-}
-
 // Answer is what a submission is answered with. If Known is true, the log had the entry already, and Lookup finds it.
 type Answer struct {
-	Place Place
+	SCT   ct.SCT
 	Known bool
 	Err   error
 }

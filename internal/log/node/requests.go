@@ -54,7 +54,7 @@ func (r *Request) Movable() { r.isMovable = true }
 // Lookup returns where the log has the entry already, with a new signature over its first timestamp, or nil. A place
 // that the index has is believed only if the proved claim accepts the entry's audit path under the head that readers
 // see.
-func (r *Request) Lookup(ctx context.Context) (*Place, error) {
+func (r *Request) Lookup(ctx context.Context) (*ct.SCT, error) {
 	c, err := r.Find(ctx)
 	if err != nil || c == nil {
 		return nil, err
@@ -91,7 +91,7 @@ func (r *Request) Find(ctx context.Context) (*Candidate, error) {
 
 // Claim returns the entry at a candidate's place, with a new signature over its first timestamp, or nil if another
 // entry is there. It may read two data tiles.
-func (r *Request) Claim(ctx context.Context, c *Candidate) (*Place, error) {
+func (r *Request) Claim(ctx context.Context, c *Candidate) (*ct.SCT, error) {
 	n, now, place := r.node, c.at, c.place
 	receipt, err := n.claimed(ctx, now, place, r)
 	if err != nil {
@@ -106,7 +106,8 @@ func (r *Request) Claim(ctx context.Context, c *Candidate) (*Place, error) {
 		return nil, err
 	}
 	n.config.Machine.Observer.Count(Duplicate)
-	return &Place{place.Index, place.Timestamp, signatures[0]}, nil
+	sct := n.sct(place.Index, place.Timestamp, signatures[0])
+	return &sct, nil
 }
 
 // DamagedTile is ErrDamaged of a data tile with a number, or of the hash tiles above it.

@@ -151,7 +151,13 @@ type answers struct {
 	all []judge.Answer
 }
 
-func (a *answers) add(entry ct.Entry, place log.Place) {
+// indexOf returns the index that an SCT names.
+func indexOf(sct ct.SCT) uint64 {
+	index, _ := sct.Index()
+	return index
+}
+
+func (a *answers) add(entry ct.Entry, place ct.SCT) {
 	a.mu.Lock()
 	defer a.mu.Unlock()
 	one := judge.Answer{Certificate: entry.Certificate, Timestamp: place.Timestamp, Extensions: place.Extensions,

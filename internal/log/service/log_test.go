@@ -67,8 +67,8 @@ func TestIndexOf(t *testing.T) {
 		must(t, err)
 		found, err := l.IndexOf(limited(t), leafHash(entryOf(n), place))
 		must(t, err)
-		if found != place.LeafIndex {
-			t.Errorf("leaf %d is found at %d", place.LeafIndex, found)
+		if found != indexOf(place) {
+			t.Errorf("leaf %d is found at %d", indexOf(place), found)
 		}
 	}
 	_, err := l.IndexOf(limited(t), sha256.Sum256([]byte("no leaf")))
@@ -76,7 +76,7 @@ func TestIndexOf(t *testing.T) {
 }
 
 // leafHash returns the hash of an entry's MerkleTreeLeaf (RFC 6962, sections 2.1 and 3.4).
-func leafHash(of ct.Entry, at log.Place) [32]byte {
+func leafHash(of ct.Entry, at ct.SCT) [32]byte {
 	leaf := append([]byte{0, 0, 0}, binary.BigEndian.AppendUint64(nil, at.Timestamp)...)
 	leaf = append(leaf, byte(of.Type>>8), byte(of.Type))
 	content := of.Certificate

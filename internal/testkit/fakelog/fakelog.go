@@ -61,7 +61,7 @@ type tree struct {
 
 type waiting struct {
 	entry ct.Entry
-	place chan log.Place
+	place chan ct.SCT
 }
 
 // New makes a log without entries, which publishes at each interval. If the interval is 0, it publishes only when
@@ -98,8 +98,8 @@ func (l *Log) run() {
 }
 
 // Submit implements log.Log.
-func (l *Log) Submit(ctx context.Context, entry ct.Entry) (log.Place, error) {
-	w := waiting{entry, make(chan log.Place, 1)}
+func (l *Log) Submit(ctx context.Context, entry ct.Entry) (ct.SCT, error) {
+	w := waiting{entry, make(chan ct.SCT, 1)}
 	l.mutex.Lock()
 	var err error
 	switch {
@@ -114,13 +114,13 @@ func (l *Log) Submit(ctx context.Context, entry ct.Entry) (log.Place, error) {
 	}
 	l.mutex.Unlock()
 	if err != nil {
-		return log.Place{}, err
+		return ct.SCT{}, err
 	}
 	select {
 	case place := <-w.place:
 		return place, nil
 	case <-ctx.Done():
-		return log.Place{}, ctx.Err()
+		return ct.SCT{}, ctx.Err()
 	}
 }
 
@@ -129,7 +129,7 @@ func (l *Log) Add(entries []ct.Entry) {
 	l.mutex.Lock()
 	defer l.mutex.Unlock()
 	for _, entry := range entries {
-		l.waiting = append(l.waiting, waiting{entry, make(chan log.Place, 1)})
+		l.waiting = append(l.waiting, waiting{entry, make(chan ct.SCT, 1)})
 	}
 	l.publish()
 }
@@ -147,7 +147,7 @@ func (l *Log) publish() {
 	now := uint64(time.Now().UnixMilli())
 	batch := l.waiting
 	l.waiting = nil
-	var places []log.Place
+	var places []ct.SCT
 	for _, w := range batch {
 		places = append(places, l.take(w.entry, now))
 	}
@@ -163,7 +163,7 @@ func (l *Log) publish() {
 }
 
 // take adds an entry to the tree.
-func (l *Log) take(entry ct.Entry, now uint64) log.Place {
+func (l *Log) take(entry ct.Entry, now uint64) ct.SCT {
 	index := uint64(len(l.tree.leaves))
 	extensions := []byte{0, 0, 5, byte(index >> 32), byte(index >> 24), byte(index >> 16),
 		byte(index >> 8), byte(index)}
@@ -181,7 +181,7 @@ func (l *Log) take(entry ct.Entry, now uint64) log.Place {
 	})
 	l.tree.leaves = append(l.tree.leaves, leaf.BytesOrPanic())
 	l.tree.hashes = append(l.tree.hashes, LeafHash(append([]byte{0, 0}, timestamped...)))
-	return log.Place{LeafIndex: index, Timestamp: now, Extensions: extensions, LogID: l.id,
+	return ct.SCT{Timestamp: now, Extensions: extensions, LogID: l.id,
 		Signature: l.sign(append([]byte{0, 0}, timestamped...))}
 }
 
