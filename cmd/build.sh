@@ -60,7 +60,7 @@ case $what in
     for target in FuzzHandlers FuzzConnections; do
       go test ./internal/log/httpd -run '^$' -fuzz "^$target\$" -fuzztime "${1:-60}s" -fuzzminimizetime 1s -parallel "${PROCESSORS:-2}"
     done
-    go test ./internal/tiles -run '^$' -fuzz '^FuzzRead$' -fuzztime "${1:-60}s" -fuzzminimizetime 1s -parallel "${PROCESSORS:-2}"
+    go test ./internal/ct -run '^$' -fuzz '^FuzzReadDataTile$' -fuzztime "${1:-60}s" -fuzzminimizetime 1s -parallel "${PROCESSORS:-2}"
     # (what ctwatch reads: certificates, watch lists, answers of logs, log lists, and settings)
     for target in watch/namesearch/FuzzSearch watch/namesearch/FuzzLists watch/alert/FuzzSafe watch/watchstore/FuzzKeep watch/FuzzLogAnswers watch/loglist/FuzzParse; do
       go test "./internal/${target%/*}" -run '^$' -fuzz "^${target##*/}\$" -fuzztime "${1:-60}s" -fuzzminimizetime 1s -parallel "${PROCESSORS:-2}"

@@ -9,6 +9,7 @@ import (
 	"strings"
 
 	"wagtenib/internal/audit"
+	"wagtenib/internal/ct"
 	"wagtenib/internal/watch/alert"
 )
 
@@ -44,11 +45,11 @@ func runSCT(ctx context.Context, arguments []string, out io.Writer) error {
 	if err != nil {
 		return err
 	}
-	var scts []audit.SCT
+	var scts []ct.SCT
 	if *sctFile != "" {
 		content, err := readSmall(*sctFile)
 		if err == nil {
-			scts, err = audit.ReadSCTs(content)
+			scts, err = ct.ReadSCTs(content)
 		}
 		if err != nil {
 			return fmt.Errorf("%s: %w", *sctFile, err)

@@ -28,9 +28,9 @@ import (
 	"golang.org/x/mod/sumdb/tlog"
 
 	"wagtenib/internal/audit/judge"
+	"wagtenib/internal/ct"
 	"wagtenib/internal/log/signer"
 	"wagtenib/internal/testkit"
-	"wagtenib/internal/tiles"
 )
 
 // bucketReader is a monitor that reads a log only from its bucket. It verifies what it reads with the log's key and
@@ -136,12 +136,12 @@ func (r *bucketReader) grows(now tlog.Tree) error {
 		}
 	}
 	for first := r.tree.N / 256 * 256; first < now.N; first += 256 {
-		name := tiles.Name(tlog.Tile{H: 8, L: -1, N: first / 256, W: int(min(now.N-first, 256))})
+		name := ct.TileName(tlog.Tile{H: 8, L: -1, N: first / 256, W: int(min(now.N-first, 256))})
 		content, err := r.get(name)
 		if err != nil {
 			return err
 		}
-		leaves, err := tiles.ReadData(content)
+		leaves, err := ct.ReadDataTile(content)
 		if err != nil || int64(len(leaves)) != min(now.N-first, 256) {
 			return fmt.Errorf("%s: %d entries, %v", name, len(leaves), err)
 		}

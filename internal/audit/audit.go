@@ -40,7 +40,7 @@ func (o Outcome) String() string {
 
 // Result holds the outcome of the audit of one timestamp.
 type Result struct {
-	SCT      SCT
+	SCT      ct.SCT
 	Log      watch.Log // zero for UnknownLog
 	Outcome  Outcome
 	Index    uint64 // the index of the leaf, for Included
@@ -77,7 +77,7 @@ func (a *Auditor) Certificate(ctx context.Context, certificate, issuer []byte) (
 	if err != nil {
 		return nil, err
 	}
-	return a.each(ctx, scts, func(sct SCT) ([]byte, error) {
+	return a.each(ctx, scts, func(sct ct.SCT) ([]byte, error) {
 		return wagtenib.PromisedLeaf(wagtenib.Promise{Certificate: certificate, Issuer: issuer, Timestamp: sct.Timestamp,
 			Extensions: sct.Extensions})
 	}), nil
@@ -86,7 +86,7 @@ func (a *Auditor) Certificate(ctx context.Context, certificate, issuer []byte) (
 // SCTs audits timestamps that a log returned for a submitted certificate, all at once. The certificate is in DER. If it
 // has the poison extension, it is a precertificate, and the certificate of its final issuer must be given. Otherwise
 // the certificate itself is the entry, and the issuer is ignored. The error wraps ErrCertificate.
-func (a *Auditor) SCTs(ctx context.Context, scts []SCT, certificate, issuer []byte) ([]Result, error) {
+func (a *Auditor) SCTs(ctx context.Context, scts []ct.SCT, certificate, issuer []byte) ([]Result, error) {
 	_, tbs, isPrecertificate, err := extension(certificate, poison)
 	if err != nil {
 		return nil, err
@@ -103,13 +103,13 @@ func (a *Auditor) SCTs(ctx context.Context, scts []SCT, certificate, issuer []by
 		key := sha256.Sum256(parsed.RawSubjectPublicKeyInfo)
 		header = append([]byte{0, 1}, key[:]...)
 	}
-	return a.each(ctx, scts, func(sct SCT) ([]byte, error) { return Leaf(sct, header, content) }), nil
+	return a.each(ctx, scts, func(sct ct.SCT) ([]byte, error) { return Leaf(sct, header, content) }), nil
 }
 
 // Leaf returns the MerkleTreeLeaf of an entry (RFC 6962, section 3.4), which is also the text that its SCT signs. The
 // header is the entry's type and, for a precertificate, the hash of its issuer's key. It returns an error if a part is
 // too long.
-func Leaf(sct SCT, header, content []byte) ([]byte, error) {
+func Leaf(sct ct.SCT, header, content []byte) ([]byte, error) {
 	leaf := cryptobyte.NewBuilder([]byte{0, 0})
 	leaf.AddUint64(sct.Timestamp)
 	leaf.AddBytes(header)
@@ -119,7 +119,7 @@ func Leaf(sct SCT, header, content []byte) ([]byte, error) {
 }
 
 // each audits timestamps at the same time, so that a slow log does not delay the others.
-func (a *Auditor) each(ctx context.Context, scts []SCT, leafOf func(SCT) ([]byte, error)) []Result {
+func (a *Auditor) each(ctx context.Context, scts []ct.SCT, leafOf func(ct.SCT) ([]byte, error)) []Result {
 	results := make([]Result, len(scts))
 	var running sync.WaitGroup
 	for i, sct := range scts {
@@ -134,7 +134,7 @@ func (a *Auditor) each(ctx context.Context, scts []SCT, leafOf func(SCT) ([]byte
 }
 
 // one audits one timestamp.
-func (a *Auditor) one(ctx context.Context, sct SCT, leafOf func(SCT) ([]byte, error)) Result {
+func (a *Auditor) one(ctx context.Context, sct ct.SCT, leafOf func(ct.SCT) ([]byte, error)) Result {
 	result := Result{SCT: sct}
 	finish := func(outcome Outcome, format string, values ...any) Result {
 		result.Outcome, result.Text = outcome, fmt.Sprintf(format, values...)

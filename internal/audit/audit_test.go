@@ -21,6 +21,7 @@ import (
 
 	"wagtenib/internal/audit"
 	"wagtenib/internal/audit/judge"
+	"wagtenib/internal/ct"
 	"wagtenib/internal/logclient"
 	"wagtenib/internal/testkit"
 	"wagtenib/internal/watch"
@@ -253,9 +254,9 @@ func TestRefusesCertificates(t *testing.T) {
 	}{
 		"no timestamps": {a.issue(), audit.ErrNoSCTs},
 		"no list": {a.issue(pkix.Extension{Id: asn1.ObjectIdentifier{1, 3, 6, 1, 4, 1, 11129, 2, 4, 2},
-			Value: []byte{4, 2, 0, 9}}), audit.ErrSCT},
-		"a short one": {a.issueWith(make([]byte, 40)), audit.ErrSCT},
-		"version 2":   {a.issueWith(append([]byte{1}, make([]byte, 60)...)), audit.ErrSCT},
+			Value: []byte{4, 2, 0, 9}}), ct.ErrSCT},
+		"a short one": {a.issueWith(make([]byte, 40)), ct.ErrSCT},
+		"version 2":   {a.issueWith(append([]byte{1}, make([]byte, 60)...)), ct.ErrSCT},
 		"no bytes":    {nil, audit.ErrCertificate},
 		"text":        {[]byte("certificate"), audit.ErrCertificate},
 		"cut off":     {a.issue()[:100], audit.ErrCertificate},
@@ -287,7 +288,7 @@ func TestAuditsReturnedTimestamps(t *testing.T) {
 		"at a later index": {log.SCT(plain, 9), final, audit.NotYet},
 	} {
 		for form, content := range forms(t, test.sct) {
-			scts, err := audit.ReadSCTs(content)
+			scts, err := ct.ReadSCTs(content)
 			if err != nil || len(scts) != 1 {
 				t.Fatalf("%s %s: %d timestamps, %v", what, form, len(scts), err)
 			}
@@ -306,7 +307,7 @@ func TestAuditsReturnedTimestamps(t *testing.T) {
 		t.Errorf("a precertificate without an issuer: %v", err)
 	}
 	for _, nonsense := range []string{"", "{}", `{"id":"AAAA"}`, "<html>", "AAAA"} {
-		if _, err := audit.ReadSCTs([]byte(nonsense)); !errors.Is(err, audit.ErrSCT) {
+		if _, err := ct.ReadSCTs([]byte(nonsense)); !errors.Is(err, ct.ErrSCT) {
 			t.Errorf("%q: %v", nonsense, err)
 		}
 	}

@@ -9,13 +9,14 @@ import (
 	"time"
 
 	"wagtenib/bindings/go/wagtenib"
+	"wagtenib/internal/ct"
 	"wagtenib/internal/watch"
 )
 
 // promise holds a timestamp that a log signed, the leaf that it promises, and the log's newest head.
 type promise struct {
 	reader *watch.Reader
-	sct    SCT
+	sct    ct.SCT
 	leaf   []byte
 	head   watch.Head
 }
@@ -112,7 +113,7 @@ func (p promise) judgeOther(ctx context.Context, index uint64, why error) judgem
 }
 
 func (p promise) files() map[string][]byte {
-	return map[string][]byte{watch.FileLeaf: p.leaf, watch.FileSCT: p.sct.Raw, watch.FileHead: p.head.Signed}
+	return map[string][]byte{watch.FileLeaf: p.leaf, watch.FileSCT: p.sct.Bytes(), watch.FileHead: p.head.Signed}
 }
 
 // maxClockError is the difference between two clocks that is no fault of a log.

@@ -7,7 +7,7 @@ import (
 	"errors"
 	"time"
 
-	"wagtenib/internal/log/chain"
+	"wagtenib/internal/ct"
 )
 
 // The kinds of errors of Submit. Use errors.Is. A wrapped error says more.
@@ -27,23 +27,6 @@ var (
 	// ErrStore reports that a store, the lock, the step or the signer does not answer, or gives an impossible answer.
 	ErrStore = errors.New("log: a store failed or is damaged")
 )
-
-// Entry is the entry that chain.Checker makes of a submission, with its issuers' certificates.
-type Entry = chain.Entry
-
-// Place is an entry's index and timestamp, with its signed certificate timestamp (RFC 6962, section 3.2).
-type Place struct {
-	// LeafIndex counts from 0; it is below 2^40.
-	LeafIndex uint64
-	// Timestamp is in milliseconds since 1970.
-	Timestamp uint64
-	// Extensions are the bytes of CtExtensions, without their length: the extension leaf_index (C2SP static-ct-api).
-	Extensions []byte
-	// Signature is the DigitallySigned: the two bytes of the algorithms, two of length, and the signature.
-	Signature []byte
-	// LogID is SHA-256 over the log's key (its SubjectPublicKeyInfo in DER).
-	LogID [32]byte
-}
 
 // Head is a published tree head.
 type Head struct {
@@ -173,7 +156,7 @@ type Witness struct {
 type Log interface {
 	// Submit returns after a published head covers the entry. Its errors are ErrBusy, ErrTooLarge, ErrElsewhere,
 	// ErrEnded, ErrClock, ErrStore, and the context's. After an error the entry may be in the log anyway.
-	Submit(ctx context.Context, entry Entry) (Place, error)
+	Submit(ctx context.Context, entry ct.Entry) (ct.SCT, error)
 	// Checkpoint returns the newest published head.
 	Checkpoint(ctx context.Context) (Head, error)
 	// HeadOf returns a published head of at least so many entries. It returns the newest known head if that has them.

@@ -7,6 +7,7 @@ import (
 	"testing"
 
 	"wagtenib/bindings/go/wagtenib"
+	"wagtenib/internal/ct"
 	"wagtenib/internal/log/chain"
 	"wagtenib/internal/log/service"
 	"wagtenib/internal/logclient"
@@ -16,7 +17,7 @@ import (
 // ctserve accepts, and splits it by the library.
 func TestReadsTheLargestDataTile(t *testing.T) {
 	var largest []byte
-	for index := range uint64(logclient.TileWidth) {
+	for index := range uint64(ct.TileWidth) {
 		largest = binary.BigEndian.AppendUint64(largest, 1_800_000_000_000+index)
 		largest = append(largest, 0, 0, byte(service.MaxEntry>>16), byte(service.MaxEntry>>8&0xff), byte(service.MaxEntry&0xff))
 		largest = append(largest, bytes.Repeat([]byte{byte(index)}, service.MaxEntry)...)
@@ -29,7 +30,7 @@ func TestReadsTheLargestDataTile(t *testing.T) {
 	c := client(t, http.HandlerFunc(func(w http.ResponseWriter, _ *http.Request) { _, _ = w.Write(largest) }),
 		logclient.Options{})
 	read := 0
-	err := c.DataTiles(t.Context(), 0, logclient.TileWidth, func(tile logclient.DataTile, _ bool) error {
+	err := c.DataTiles(t.Context(), 0, ct.TileWidth, func(tile logclient.DataTile, _ bool) error {
 		if !bytes.Equal(tile.Bytes, largest) {
 			t.Errorf("the tile has %d bytes, and %d or other ones are returned", len(largest), len(tile.Bytes))
 		}
@@ -37,7 +38,7 @@ func TestReadsTheLargestDataTile(t *testing.T) {
 		read = len(entries)
 		return err
 	})
-	if err != nil || read != logclient.TileWidth {
+	if err != nil || read != ct.TileWidth {
 		t.Errorf("a data tile of %d bytes: %d entries, %v", len(largest), read, err)
 	}
 }

@@ -11,6 +11,7 @@ import (
 	"testing"
 	"time"
 
+	"wagtenib/internal/ct"
 	"wagtenib/internal/logclient"
 )
 
@@ -137,7 +138,7 @@ func TestRefusalsDoNotDoubleTheTime(t *testing.T) {
 		},
 		"tiled": func(c *logclient.Client, use func(uint64, int) error) error {
 			return c.DataTiles(context.Background(), 0, size, func(tile logclient.DataTile, _ bool) error {
-				return use(tile.Index*logclient.TileWidth, tile.Width)
+				return use(tile.Index*ct.TileWidth, tile.Width)
 			})
 		},
 	} {
@@ -145,7 +146,7 @@ func TestRefusalsDoNotDoubleTheTime(t *testing.T) {
 		for _, withRefusals := range []bool{false, true} {
 			m := &model{log: log, latency: time.Second / 2, withRefusals: withRefusals, inFlight: inFlight, now: start,
 				observed: observed{refused: map[string]time.Time{}},
-				unread:   (size + logclient.TileWidth - 1) / logclient.TileWidth}
+				unread:   (size + ct.TileWidth - 1) / ct.TileWidth}
 			c, err := logclient.New("https://log.example", logclient.Options{Transport: m, Clock: m,
 				Limits: logclient.Limits{InFlight: inFlight}})
 			if err != nil {

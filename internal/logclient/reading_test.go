@@ -13,8 +13,6 @@ import (
 	"sync/atomic"
 	"testing"
 
-	"golang.org/x/mod/sumdb/tlog"
-
 	"wagtenib/internal/logclient"
 )
 
@@ -124,23 +122,6 @@ func TestStopsAtAFailure(t *testing.T) {
 		return failure
 	}); err != failure {
 		t.Errorf("%v, expected the caller's error", err)
-	}
-}
-
-// TestDataTileName checks that the name and the width of each data tile are those of tlog.
-func TestDataTileName(t *testing.T) {
-	for _, size := range []uint64{1, 255, 256, 257, 1_000_000, 256_000_000_001} {
-		for _, index := range []uint64{0, 1, 3, 999, 1000, 3905, 999_999, 1_000_000, 1_000_000_000} {
-			if index*256 >= size {
-				continue
-			}
-			width := int(min(256, size-index*256))
-			expected := strings.Replace(tlog.Tile{H: 8, L: -1, N: int64(index), W: width}.Path(), "tile/8/", "tile/", 1)
-			if name, found := logclient.DataTileName(index, size); name != expected || found != width {
-				t.Errorf("tile %d of %d is %s with %d entries, expected %s with %d", index, size, name, found,
-					expected, width)
-			}
-		}
 	}
 }
 

@@ -6,25 +6,18 @@ import (
 	"encoding/hex"
 	"errors"
 	"fmt"
-	"strconv"
-	"strings"
 
 	"wagtenib/bindings/go/wagtenib"
+	"wagtenib/internal/ct"
 )
 
 // The limits of the answers of a tiled log, in bytes.
 const (
-	// TileWidth is the number of hashes or entries in a full tile (C2SP tlog-tiles).
-	TileWidth = 256
-
 	maxCheckpoint = 64 << 10
 	// This is enough for 256 entries with certificates of 128 KiB each, and the fingerprints of their chains.
 	maxDataTile = 48 << 20
 	maxIssuer   = 1 << 20
 )
-
-// partialMark is the text before the width in the name of a partial tile (C2SP tlog-tiles).
-const partialMark = ".p/"
 
 // Checkpoint returns the log's checkpoint, a signed note (C2SP static-ct-api). It verifies nothing.
 func (c *Client) Checkpoint(ctx context.Context) ([]byte, error) {
@@ -35,10 +28,13 @@ func (c *Client) Checkpoint(ctx context.Context) ([]byte, error) {
 // partial tile no longer exists, its content is cut from the full tile (C2SP tlog-tiles). The error wraps ErrNonsense
 // if the tile has not as many bytes as its name implies.
 func (c *Client) HashTile(ctx context.Context, name string) ([]byte, error) {
-	const maxBytes = TileWidth * wagtenib.HashSize
-	full, width := splitName(name)
+	const maxBytes = ct.TileWidth * wagtenib.HashSize
+	full, width, isPartial := ct.FullTileName(name)
+	if !isPartial {
+		width = ct.TileWidth
+	}
 	content, err := c.get(ctx, name, nil, maxBytes, nil)
-	if errors.Is(err, ErrNotFound) && width < TileWidth {
+	if errors.Is(err, ErrNotFound) && isPartial {
 		content, err = c.get(ctx, full, nil, maxBytes, nil)
 		if err == nil && len(content) == maxBytes {
 			content = content[:width*wagtenib.HashSize]
@@ -54,19 +50,6 @@ func (c *Client) HashTile(ctx context.Context, name string) ([]byte, error) {
 	return content, nil
 }
 
-// splitName returns the name of the full tile, and the width in a tile's name.
-func splitName(name string) (full string, width int) {
-	full, text, partial := strings.Cut(name, partialMark)
-	if !partial {
-		return full, TileWidth
-	}
-	width, err := strconv.Atoi(text)
-	if err != nil || width < 1 || width >= TileWidth {
-		return full, TileWidth
-	}
-	return full, width
-}
-
 // DataTile is a data tile (C2SP static-ct-api, "Log Entries").
 type DataTile struct {
 	Index uint64 // of the tile
@@ -75,45 +58,32 @@ type DataTile struct {
 	Bytes []byte // the entries, of which there may be more than Width if the partial tile was gone
 }
 
-// DataTileName returns the name of a data tile in a tree of size leaves (C2SP static-ct-api), and its width.
-func DataTileName(index, size uint64) (name string, width int) {
-	name = fmt.Sprintf("%03d", index%1000)
-	for rest := index / 1000; rest > 0; rest /= 1000 {
-		name = fmt.Sprintf("x%03d/%s", rest%1000, name)
-	}
-	name = "tile/data/" + name
-	if size/TileWidth > index {
-		return name, TileWidth
-	}
-	width = int(size % TileWidth)
-	return name + partialMark + strconv.Itoa(width), width
-}
-
 // DataTiles reads the data tiles of a tree of size leaves, from the tile with the entry start on, and calls use for
 // each, in order. more is true if the next tile has already been read. An error of use ends the reading, and is
 // returned as it is.
 func (c *Client) DataTiles(ctx context.Context, start, size uint64, use func(tile DataTile, more bool) error) error {
-	index := start / TileWidth
+	index := start / ct.TileWidth
 	next := func() (piece, bool) {
-		if index*TileWidth >= size {
+		if index*ct.TileWidth >= size {
 			return piece{}, false
 		}
-		one := piece{index * TileWidth, min((index+1)*TileWidth, size)}
+		one := piece{index * ct.TileWidth, min((index+1)*ct.TileWidth, size)}
 		index++
 		return one, true
 	}
 	return inOrder(ctx, c, next, func(ctx context.Context, one piece, ahead *reservation) (DataTile, error) {
-		return c.dataTile(ctx, one.start/TileWidth, size, ahead)
+		return c.dataTile(ctx, one.start/ct.TileWidth, size, ahead)
 	}, use)
 }
 
 func (c *Client) dataTile(ctx context.Context, index, size uint64, ahead *reservation) (DataTile, error) {
-	name, width := DataTileName(index, size)
+	of := ct.DataTile(index*ct.TileWidth, size)
+	name := ct.TileName(of)
 	content, err := c.get(ctx, name, nil, maxDataTile, ahead)
-	if full, _ := splitName(name); errors.Is(err, ErrNotFound) && width < TileWidth {
+	if full, _, isPartial := ct.FullTileName(name); errors.Is(err, ErrNotFound) && isPartial {
 		content, err = c.get(ctx, full, nil, maxDataTile, ahead)
 	}
-	return DataTile{Index: index, Name: name, Width: width, Bytes: content}, err
+	return DataTile{Index: index, Name: name, Width: of.W, Bytes: content}, err
 }
 
 // Issuer returns the certificate with this SHA-256 fingerprint, in DER (C2SP static-ct-api, "Issuers"). The error wraps

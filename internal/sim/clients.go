@@ -6,8 +6,9 @@ import (
 	"fmt"
 	"time"
 
+	"wagtenib/bindings/go/wagtenib"
+	"wagtenib/internal/ct"
 	"wagtenib/internal/log/node"
-	"wagtenib/internal/log/node/step"
 )
 
 // certificateOf returns the certificate with a number. The simulation does not parse it, so it may be any bytes.
@@ -55,7 +56,7 @@ func (w *world) submit(m *machine, number int) error {
 func (w *world) serve(m *machine, n *node.Node, number int) error {
 	ctx, cancel := within(w.background(), requestWithin)
 	defer cancel()
-	request := n.Request(step.Submission{Chain: [][]byte{}, LeafCertificate: certificateOf(number)})
+	request := n.Request(wagtenib.Submission{Certificate: certificateOf(number)})
 	for range 4 {
 		place, err := request.Lookup(ctx)
 		if err != nil {
@@ -78,7 +79,7 @@ func (w *world) serve(m *machine, n *node.Node, number int) error {
 			return answer.Err
 		}
 		if !answer.Known {
-			w.answers(m, number, answer.Place)
+			w.answers(m, number, answer.SCT)
 			return nil
 		}
 	}
@@ -86,10 +87,11 @@ func (w *world) serve(m *machine, n *node.Node, number int) error {
 }
 
 // answers logs and judges the answer to a client.
-func (w *world) answers(m *machine, number int, place node.Place) {
-	w.log("client", fmt.Sprintf("entry %d", number), fmt.Sprintf("%s answers %d at %d ms", m.name, place.Index,
-		place.Timestamp), "")
-	w.judge.answered(m, number, place.Index, place.Timestamp, place.Signature)
+func (w *world) answers(m *machine, number int, sct ct.SCT) {
+	index, _ := sct.Index()
+	w.log("client", fmt.Sprintf("entry %d", number), fmt.Sprintf("%s answers %d at %d ms", m.name, index,
+		sct.Timestamp), "")
+	w.judge.answered(m, number, index, sct.Timestamp, sct.Signature)
 }
 
 func isClosed(done <-chan struct{}) bool {

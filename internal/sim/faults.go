@@ -11,6 +11,7 @@ import (
 	"time"
 
 	"wagtenib/internal/blob"
+	"wagtenib/internal/ct"
 	"wagtenib/internal/log/signer"
 )
 
@@ -132,7 +133,7 @@ func (w *world) losesLock(which int) bool {
 // are killed, and the store loses the tiles and heads that were put since the state was decided.
 func (w *world) losesStep() bool {
 	k := cells(w.stores.text)
-	if k == nil || !w.isPublished() || w.judge.newest.Timestamp != k.timestamp || w.judge.newest.Size != k.size ||
+	if k == nil || !w.isPublished() || w.judge.newest.Timestamp != k.timestamp || w.judge.newest.TreeSize != k.size ||
 		w.stores.objects["staging/"+k.name] == nil {
 		return false
 	}
@@ -226,7 +227,7 @@ func (w *world) swapsHead(which int) bool {
 
 // bendsEdge changes a byte of a partial tile of the newest head's tree.
 func (w *world) bendsEdge() bool {
-	size := w.judge.newest.Size
+	size := w.judge.newest.TreeSize
 	if !w.isPublished() {
 		return false
 	}
@@ -245,7 +246,7 @@ func (w *world) bendsEdge() bool {
 // isPublished reports whether the newest head is published according to the lock. A node may not replace the content of
 // an object of an unpublished state, because the lock may have been rolled back.
 func (w *world) isPublished() bool {
-	newest := blob.Published{Size: w.judge.newest.Size, Timestamp: w.judge.newest.Timestamp}
+	newest := blob.Published{Size: w.judge.newest.TreeSize, Timestamp: w.judge.newest.Timestamp}
 	return w.stores.published == newest
 }
 
@@ -354,7 +355,7 @@ const listedWithin = 100 * time.Millisecond
 
 // unputHead returns the head that the guard approved last if it is not in the store, or was put so late that a node
 // that swaps may have listed the heads before. Otherwise it returns nil.
-func (w *world) unputHead() *signer.Head {
+func (w *world) unputHead() *ct.TreeHead {
 	guard, err := signer.ReadState(w.stores.guard)
 	if err != nil || guard.Last() == nil {
 		return nil
@@ -375,7 +376,7 @@ func (w *world) allRemember() bool {
 		newest = max(newest, unput.Timestamp)
 	}
 	for _, m := range w.machines {
-		if m.remembered == nil || m.remembered.Size < uint64(len(w.judge.leaves)) || m.remembered.Timestamp < newest {
+		if m.remembered == nil || m.remembered.TreeSize < uint64(len(w.judge.leaves)) || m.remembered.Timestamp < newest {
 			return false
 		}
 	}

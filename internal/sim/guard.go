@@ -16,6 +16,7 @@ import (
 	"golang.org/x/mod/sumdb/note"
 
 	"wagtenib/internal/blob"
+	"wagtenib/internal/ct"
 	"wagtenib/internal/log/signer"
 	"wagtenib/internal/witness"
 )
@@ -65,7 +66,7 @@ var ownVerifier = verifier{witness.OfRFC6962(Origin, keyDER), func(text, signatu
 	if err != nil || !bytes.HasPrefix(text, []byte(Origin+"\n")) || len(signature) <= 8 {
 		return false
 	}
-	return isSigned(headMessage(signer.Head{Size: size, Timestamp: binary.BigEndian.Uint64(signature),
+	return isSigned(headMessage(ct.TreeHead{TreeSize: size, Timestamp: binary.BigEndian.Uint64(signature),
 		Root: root}), signature[8:])
 }}
 
@@ -94,9 +95,9 @@ func (g *guarded) sign(message []byte) []byte {
 }
 
 // headMessage returns the bytes of a tree head that are signed (RFC 6962, section 3.5).
-func headMessage(head signer.Head) []byte {
+func headMessage(head ct.TreeHead) []byte {
 	message := binary.BigEndian.AppendUint64([]byte{0, 1}, head.Timestamp)
-	return append(binary.BigEndian.AppendUint64(message, head.Size), head.Root[:]...)
+	return append(binary.BigEndian.AppendUint64(message, head.TreeSize), head.Root[:]...)
 }
 
 // guarded implements the signer of a machine. It signs only what the proved guard approves. The guard's state is in the
@@ -147,7 +148,7 @@ func (g *guarded) state(ctx context.Context) (state signer.State, err error) {
 	return state, err
 }
 
-func (g *guarded) Last(ctx context.Context) (*signer.Head, error) {
+func (g *guarded) Last(ctx context.Context) (*ct.TreeHead, error) {
 	inner, done, err := g.turn(ctx)
 	if err != nil {
 		return nil, err
@@ -162,7 +163,7 @@ func (g *guarded) Last(ctx context.Context) (*signer.Head, error) {
 
 // SignHead signs a head that the guard approves, after the guard's new state is in the lock's engine. Before the first
 // head with leaves, the guard's state gets the head of the empty tree.
-func (g *guarded) SignHead(ctx context.Context, head signer.Head, consistency [][32]byte) ([]byte, error) {
+func (g *guarded) SignHead(ctx context.Context, head ct.TreeHead, consistency [][32]byte) ([]byte, error) {
 	inner, done, err := g.turn(ctx)
 	if err != nil {
 		return nil, err

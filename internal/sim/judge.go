@@ -16,6 +16,7 @@ import (
 	"github.com/transparency-dev/merkle/rfc6962"
 
 	"wagtenib/internal/blob"
+	"wagtenib/internal/ct"
 	"wagtenib/internal/log/node"
 	"wagtenib/internal/log/signer"
 )
@@ -29,7 +30,7 @@ type judge struct {
 	knownList
 	// newest is the newest head that was put. raised is how far the log was published at most. tiles holds the contents
 	// that were put of each tile.
-	newest, checkpoint signer.Head
+	newest, checkpoint ct.TreeHead
 	raised             blob.Published
 	tiles              map[string]*puts
 	// standing holds all heads that were put, in the order in which they were put.
@@ -132,7 +133,7 @@ func (j *judge) putHead(name, note string) {
 	}
 	j.witnessed(name, note)
 	j.grow(added, name)
-	if root := j.roots[head.Size]; root != head.Root {
+	if root := j.roots[head.TreeSize]; root != head.Root {
 		j.breaks("a head is the list's", "%s has the root %x and not %x", name, head.Root[:4], root[:4])
 	}
 	j.judgeTime(head, name)
@@ -143,22 +144,22 @@ func (j *judge) putHead(name, note string) {
 	if now := cells(j.w.stores.text); now != nil && head.Timestamp < now.timestamp {
 		j.stats.Late++
 	}
-	j.standing = append(j.standing, standing{head.Size, head.Timestamp, j.w.now})
+	j.standing = append(j.standing, standing{head.TreeSize, head.Timestamp, j.w.now})
 	j.stats.Heads++
 }
 
 // isNext judges whether a head that is put may follow the newest one.
-func (j *judge) isNext(head signer.Head, name string) {
+func (j *judge) isNext(head ct.TreeHead, name string) {
 	// Witnesses remember trees, but not their timestamps. If everything else was rolled back to an earlier head of a tree
 	// that they saw, the timestamp of a head with more entries may be that of a head of this tree, or earlier.
-	isSmaller := head.Timestamp > j.newest.Timestamp && head.Size < j.newest.Size
-	isEarlier := head.Timestamp <= j.newest.Timestamp && head.Size > j.newest.Size
+	isSmaller := head.Timestamp > j.newest.Timestamp && head.TreeSize < j.newest.TreeSize
+	isEarlier := head.Timestamp <= j.newest.Timestamp && head.TreeSize > j.newest.TreeSize
 	isExcused := isEarlier && j.w.excuses.signed
 	if head.Timestamp == j.newest.Timestamp && head != j.newest && !isExcused {
-		j.breaks("one head a timestamp", "%s and the head of %d entries have one timestamp", name, j.newest.Size)
+		j.breaks("one head a timestamp", "%s and the head of %d entries have one timestamp", name, j.newest.TreeSize)
 	}
 	if isSmaller || isEarlier && !isExcused {
-		j.breaks("heads do not go back", "%s is put after the head of %d entries at %d ms", name, j.newest.Size,
+		j.breaks("heads do not go back", "%s is put after the head of %d entries at %d ms", name, j.newest.TreeSize,
 			j.newest.Timestamp)
 	}
 }
@@ -177,17 +178,17 @@ func (j *judge) putCheckpoint(name string, content []byte) {
 		// It may have been rolled back with the other objects. If there is none, there was no head before.
 		before, _ = readNote(string(j.w.stores.checkpoint))
 	}
-	if head.Size < before.Size || head.Timestamp <= before.Timestamp {
+	if head.TreeSize < before.TreeSize || head.Timestamp <= before.Timestamp {
 		j.breaks("the checkpoint does not go back", "it gets the head of %d entries at %d ms after that of %d at %d ms",
-			head.Size, head.Timestamp, before.Size, before.Timestamp)
+			head.TreeSize, head.Timestamp, before.TreeSize, before.Timestamp)
 	}
 	j.checkpoint = head
-	j.isLists(head, fmt.Sprintf("the checkpoint of %d entries at %d ms", head.Size, head.Timestamp),
+	j.isLists(head, fmt.Sprintf("the checkpoint of %d entries at %d ms", head.TreeSize, head.Timestamp),
 		"a checkpoint is the list's")
 }
 
 // judgeTime judges a head's timestamp by the true time.
-func (j *judge) judgeTime(head signer.Head, name string) {
+func (j *judge) judgeTime(head ct.TreeHead, name string) {
 	now := epoch.Add(j.w.now)
 	if ahead := time.UnixMilli(int64(head.Timestamp)).Sub(now); ahead > maxSkew && !j.w.excuses.ahead {
 		j.breaks("no timestamp of the future", "%s is %v ahead of the true time", name, ahead)
@@ -195,12 +196,12 @@ func (j *judge) judgeTime(head signer.Head, name string) {
 }
 
 // signs judges a head that a machine has the key sign. All of its tree must be in the store by then.
-func (j *judge) signs(m *machine, head signer.Head) {
+func (j *judge) signs(m *machine, head ct.TreeHead) {
 	if j.w.excuses.unput[m] {
 		j.w.excuses.theirs[head] = true
 		return
 	}
-	added, ok := j.isLists(head, fmt.Sprintf("a signed head of %d entries at %d ms", head.Size, head.Timestamp),
+	added, ok := j.isLists(head, fmt.Sprintf("a signed head of %d entries at %d ms", head.TreeSize, head.Timestamp),
 		"a signed head is the list's")
 	if ok {
 		j.continues(m, head, added)
@@ -238,9 +239,9 @@ func (j *judge) swaps(by *process, old, new string) {
 // takes judges whether the process that swaps the lock may make a step. A node that started after the log was rolled
 // back with its machines may not, because the witnesses saw more.
 func (j *judge) takes(by *process, before, after *cell) {
-	if j.w.excuses.signed && !by.dead && !before.isBegin() && before.size < j.newest.Size {
+	if j.w.excuses.signed && !by.dead && !before.isBegin() && before.size < j.newest.TreeSize {
 		j.breaks("an old log takes nothing", "the lock gets the text of %d entries, and a head of %d was published",
-			after.size, j.newest.Size)
+			after.size, j.newest.TreeSize)
 	}
 	if after.size == before.size && j.w.edge.isBent(&j.w.stores) {
 		// A node that has the tile in its memory makes a step without entries. The newest staged batch then no longer has the
@@ -282,11 +283,11 @@ func (j *judge) raises(p blob.Published) {
 	if j.raised.Before(p) {
 		j.raised = p
 	}
-	name := headName(signer.Head{Size: p.Size, Timestamp: p.Timestamp})
+	name := headName(ct.TreeHead{TreeSize: p.Size, Timestamp: p.Timestamp})
 	if _, ok := j.w.stores.objects[name]; !ok && !j.w.excuses.missing {
 		j.breaks("a published size has a head", "%s is published and not in the store", name)
 	}
-	checkpoint := blob.Published{Size: j.checkpoint.Size, Timestamp: j.checkpoint.Timestamp}
+	checkpoint := blob.Published{Size: j.checkpoint.TreeSize, Timestamp: j.checkpoint.Timestamp}
 	if j.w.plan.Public && !j.w.excuses.missing && checkpoint.Before(p) {
 		j.breaks("a published head is at the checkpoint", "%s is published, and the checkpoint is of %d entries at %d ms",
 			name, checkpoint.Size, checkpoint.Timestamp)
@@ -295,7 +296,7 @@ func (j *judge) raises(p blob.Published) {
 
 // shows judges a head that a machine says to be published: its node put that head, or read it.
 func (j *judge) shows(m *machine, p blob.Published) {
-	if name := headName(signer.Head{Size: p.Size, Timestamp: p.Timestamp}); !m.process.known.seen[name] {
+	if name := headName(ct.TreeHead{TreeSize: p.Size, Timestamp: p.Timestamp}); !m.process.known.seen[name] {
 		j.breaks("a published head was seen", "%s says that %s is published, and neither put nor read it", m.name, name)
 	}
 }
@@ -347,27 +348,27 @@ func (j *judge) alarms(m *machine, err error, isStill bool) {
 }
 
 // read judges a head that a reader sees.
-func (j *judge) read(m *machine, head signer.Head, note string, before signer.Head) {
+func (j *judge) read(m *machine, head ct.TreeHead, note string, before ct.TreeHead) {
 	j.stats.Reads++
-	what := fmt.Sprintf("%s shows the head of %d entries at %d ms", m.name, head.Size, head.Timestamp)
+	what := fmt.Sprintf("%s shows the head of %d entries at %d ms", m.name, head.TreeSize, head.Timestamp)
 	j.witnessed(what, note)
 	read, err := readNote(note)
 	switch {
 	case err != nil || read != head:
 		j.breaks("a head is signed", "%s: %v", what, err)
-	case head.Size >= uint64(len(j.roots)) || j.roots[head.Size] != head.Root:
+	case head.TreeSize >= uint64(len(j.roots)) || j.roots[head.TreeSize] != head.Root:
 		j.breaks("a reader sees the list", "%s, which is not the list's", what)
-	case head.Size < before.Size || head.Timestamp < before.Timestamp:
-		j.breaks("a reader sees no older head", "%s after one of %d entries at %d ms", what, before.Size,
+	case head.TreeSize < before.TreeSize || head.Timestamp < before.Timestamp:
+		j.breaks("a reader sees no older head", "%s after one of %d entries at %d ms", what, before.TreeSize,
 			before.Timestamp)
-	case !j.w.excuses.loss && j.w.stores.published.Before(blob.Published{Size: head.Size, Timestamp: head.Timestamp}):
+	case !j.w.excuses.loss && j.w.stores.published.Before(blob.Published{Size: head.TreeSize, Timestamp: head.Timestamp}):
 		j.breaks("a reader sees published heads", "%s, which is not published", what)
 	}
 }
 
 // readNote reads a signed head: its text has three lines, and its signature is of type 5 (C2SP static-ct-api,
 // tlog-checkpoint).
-func readNote(note string) (head signer.Head, err error) {
+func readNote(note string) (head ct.TreeHead, err error) {
 	text, signatures, ok := strings.Cut(note, "\n\n")
 	lines := strings.Split(text, "\n")
 	if !ok || len(lines) != 3 || lines[0] != Origin {
@@ -377,7 +378,7 @@ func readNote(note string) (head signer.Head, err error) {
 	if err != nil || len(root) != 32 {
 		return head, fmt.Errorf("no root: %v", err)
 	}
-	if head.Size, err = strconv.ParseUint(lines[1], 10, 64); err != nil {
+	if head.TreeSize, err = strconv.ParseUint(lines[1], 10, 64); err != nil {
 		return head, err
 	}
 	head.Root = [32]byte(root)

@@ -53,7 +53,7 @@ func (m *machine) begins() {
 func (m *machine) finds(text string) string {
 	k, listed := cells(text), m.w.listed()
 	if k == nil || m.node == nil || m.w.now-m.process.known.heard <= lookBack ||
-		!k.isBefore(listed.Size, listed.Timestamp) {
+		!k.isBefore(listed.TreeSize, listed.Timestamp) {
 		return ""
 	}
 	return "the store had a later head when it read that after a while"

@@ -56,7 +56,7 @@ var all = []planted{
 		{"pass.go", "			return p.index(ctx)\n", "			return nil\n"},
 	}},
 	{"no leaf is added", []edit{
-		{"pass.go", "Leaf: blob.Identity(tlog.RecordHash(r.Sign)),", "Leaf: t.identity,"},
+		{"pass.go", "Leaf: blob.Identity(tlog.RecordHash(r.Signed)),", "Leaf: t.identity,"},
 		{"pass.go", "	\"golang.org/x/mod/sumdb/tlog\"\n\n", ""},
 		{"start.go", "	isKnown = isKnown && at.Index == index && len(places) > 0", "	_, isKnown = at, len(places) > 0"},
 	}},
@@ -129,8 +129,8 @@ var all = []planted{
 	}},
 	{"the partial tiles of the newest head's full ones go", []edit{
 		{"log/node/janitor/pass.go",
-			"		for full := tiles.Count(at-1, j.tiles.head.Size); left",
-			"		for full := tiles.Count(at-1, newest.Head.Size); left",
+			"		for full := tiles.Count(at-1, j.tiles.head.TreeSize); left",
+			"		for full := tiles.Count(at-1, newest.Head.TreeSize); left",
 		},
 	}},
 	{"a full tile is not compared", []edit{
@@ -180,7 +180,7 @@ var all = []planted{
 	}},
 	{"the memory keeps nothing", []edit{
 		{"seen.go",
-			"	if err := l.config.Machine.Memory.Save(ctx, k.head()); err != nil {",
+			"	if err := l.config.Machine.Memory.Save(ctx, k.TreeHead); err != nil {",
 			"	if err := error(nil); err != nil {",
 		},
 	}},
@@ -194,7 +194,7 @@ var all = []planted{
 		},
 	}},
 	{"a state need not go on from the accepted one", []edit{
-		{"seen.go", "	if err := l.extends(ctx, k, accepted.head(), objects); err != nil || between == \"\" {", "	if true {"},
+		{"seen.go", "	if err := l.extends(ctx, k, accepted.TreeHead, objects); err != nil || between == \"\" {", "	if true {"},
 	}},
 	{"nothing is compared at all", []edit{
 		{"seen.go", "	if l.isAccepted(k) {", "	if true {"},
@@ -225,7 +225,7 @@ var all = []planted{
 	}},
 	{"the head is not put", []edit{
 		{"heads.go",
-			"		return l.config.Stores.Objects.Put(ctx, headName(k.Size, k.Timestamp), made.Note)",
+			"		return l.config.Stores.Objects.Put(ctx, headName(k.TreeSize, k.Timestamp), made.Note)",
 			"		return nil",
 		},
 	}},
@@ -252,14 +252,14 @@ var all = []planted{
 		},
 	}},
 	{"a head is not compared with its state", []edit{
-		{"heads.go", "	if head.Size != k.Size || head.Timestamp != k.Timestamp {", "	if false {"},
+		{"heads.go", "	if head.TreeSize != k.TreeSize || head.Timestamp != k.Timestamp {", "	if false {"},
 		{"heads.go", "	if head.Root != k.Root {", "	if false {"},
 	}},
 	{"a reader gets the head that the node knows", []edit{
 		{"newest.go", "		if err != nil && seen != nil {", "		if seen != nil {"},
 	}},
 	{"a reader gets a head of another name", []edit{
-		{"newest.go", "	if headName(head.Size, head.Timestamp) != name {", "	if false {"},
+		{"newest.go", "	if headName(head.TreeSize, head.Timestamp) != name {", "	if false {"},
 	}},
 	{"a reader gets a head that is not published yet", []edit{
 		{"newest.go", "	name := headName(published.Size, published.Timestamp)\n",
@@ -273,17 +273,17 @@ var all = []planted{
 			"		r := p.made.receipts[0*i]\n		p.pool",
 		},
 		{"pass.go",
-			"Answer{Place: Place{r.LeafIndex, r.Timestamp, p.made.signatures[i]}}",
-			"Answer{Place: Place{r.LeafIndex, r.Timestamp, p.made.signatures[0]}}",
+			"Answer{SCT: p.sct(r.LeafIndex, r.Timestamp, p.made.signatures[i])}",
+			"Answer{SCT: p.sct(r.LeafIndex, r.Timestamp, p.made.signatures[0])}",
 		},
 	}},
 	{"the answer comes before the head", []edit{
 		{"pass.go",
-			"	head, err := p.putHead(ctx, p.from, p.made.head, p.made.objects, p.sign)",
+			"	head, err := p.putHead(ctx, p.from, p.made.checkpoint, p.made.objects, p.sign)",
 			"	if len(p.batch) > 0 {\n" +
-				"		if _, err := p.signedHead(ctx, p.from, p.made.head, p.made.objects); err != nil {\n" +
+				"		if _, err := p.signedHead(ctx, p.from, p.made.checkpoint, p.made.objects); err != nil {\n" +
 				"			return nil, err\n		}\n		if _, err := p.answer(ctx); err != nil {\n			return nil, err\n		}\n	}\n" +
-				"	head, err := p.putHead(ctx, p.from, p.made.head, p.made.objects, p.sign)",
+				"	head, err := p.putHead(ctx, p.from, p.made.checkpoint, p.made.objects, p.sign)",
 		},
 	}},
 	{"a failed round forgets its batch", []edit{
@@ -297,12 +297,12 @@ var all = []planted{
 	}},
 	{"the round does not ask the index", []edit{
 		{"known.go",
-			"		if ok && place.Index < k.Size && (t.wrong == nil || *t.wrong != place) {",
+			"		if ok && place.Index < k.TreeSize && (t.wrong == nil || *t.wrong != place) {",
 			"		if ok && place.Index > 1<<50 {",
 		},
 	}},
 	{"a submission is not looked up", []edit{
-		{"requests.go", "	if now == nil || now.Head.Size == 0 {", "	if true {"},
+		{"requests.go", "	if now == nil || now.Head.TreeSize == 0 {", "	if true {"},
 	}},
 	{"the index is believed", []edit{
 		{"requests.go",
@@ -313,7 +313,7 @@ var all = []planted{
 		{"requests.go",
 			"	if errors.Is(err, step.NoClaim) {\n		return nil, nil\n	}",
 			"	if errors.Is(err, step.NoClaim) {\n" +
-				"		return &step.Receipt{LeafIndex: place.Index, Timestamp: place.Timestamp, Sign: leaf.Input()}, nil\n" +
+				"		return &wagtenib.Receipt{LeafIndex: place.Index, Timestamp: place.Timestamp, Signed: leaf.Input()}, nil\n" +
 				"	}",
 		},
 	}},
@@ -344,8 +344,8 @@ var all = []planted{
 	}},
 	{"a step goes on from an unpublished state", []edit{
 		{"heads.go",
-			"	if published.Size < k.Size {\n		return false, nil\n	}",
-			"	if published.Size < k.Size {\n		return true, nil\n	}",
+			"	if published.Size < k.TreeSize {\n		return false, nil\n	}",
+			"	if published.Size < k.TreeSize {\n		return true, nil\n	}",
 		},
 	}},
 	{"a call has no time limit", []edit{
@@ -376,7 +376,7 @@ var all = []planted{
 				"				next, err = state.After(head, nil, head.Timestamp)\n			}\n		}\n	}\n",
 		},
 		{"sim/guard.go", "		case old.Text():\n", "		default:\n"},
-		{"seen.go", "	if err := l.extends(ctx, k, accepted.head(), objects); err != nil || between == \"\" {", "	if true {"},
+		{"seen.go", "	if err := l.extends(ctx, k, accepted.TreeHead, objects); err != nil || between == \"\" {", "	if true {"},
 	}},
 	{"the seen head is forgotten, and the store's heads are not compared", []edit{
 		{"seen.go", "	l.seen.accepted = *k", "	_ = k"},
@@ -386,7 +386,7 @@ var all = []planted{
 		},
 	}},
 	{"an older text is taken, and a state need not go on from the accepted one", []edit{
-		{"seen.go", "	if err := l.extends(ctx, k, accepted.head(), objects); err != nil || between == \"\" {", "	if true {"},
+		{"seen.go", "	if err := l.extends(ctx, k, accepted.TreeHead, objects); err != nil || between == \"\" {", "	if true {"},
 		{"loop.go", "		if err := l.continues(k); err != nil {", "		if err := error(nil); err != nil {"},
 	}},
 	{"a lock that is gone is made again, the engine lets it, and a start is never refused", []edit{
@@ -415,7 +415,7 @@ var all = []planted{
 	{"the checkpoint is put before the tiles", []edit{
 		{"pass.go",
 			"	if err := errors.Join(p.checkState(), p.checkObjects()); err != nil {",
-			"	if head, err := p.signedHead(ctx, p.from, p.made.head, p.made.objects); err == nil {\n" +
+			"	if head, err := p.signedHead(ctx, p.from, p.made.checkpoint, p.made.objects); err == nil {\n" +
 				"		if err := p.putCheckpoint(ctx, head); err != nil {\n			return nil, err\n		}\n	}\n" +
 				"	if err := errors.Join(p.checkState(), p.checkObjects()); err != nil {",
 		},

@@ -36,8 +36,8 @@ var mistakes = []planted{
 	}},
 	{"a state counts as accepted before the memory has it", []edit{
 		{"seen.go",
-			"	if err := l.config.Machine.Memory.Save(ctx, k.head()); err != nil {",
-			"	l.seen.accepted = *k\n	if err := l.config.Machine.Memory.Save(ctx, k.head()); err != nil {",
+			"	if err := l.config.Machine.Memory.Save(ctx, k.TreeHead); err != nil {",
+			"	l.seen.accepted = *k\n	if err := l.config.Machine.Memory.Save(ctx, k.TreeHead); err != nil {",
 		},
 	}},
 	{"the edge is kept before the lock decides", []edit{
@@ -61,8 +61,8 @@ var mistakes = []planted{
 	}},
 	{"a start that is refused looks at the lock only again", []edit{
 		{"start.go",
-			"	if last == nil || f.last == nil {",
-			"	if last == nil || true {\n		return false, nil\n	}\n	if f.last == nil {",
+			"	if last == nil || f.Signed == nil {",
+			"	if last == nil || true {\n		return false, nil\n	}\n	if f.Signed == nil {",
 		},
 	}},
 	{"a lost swap of the checkpoint is tried again from the same head", []edit{
@@ -108,7 +108,7 @@ var mistakes = []planted{
 	{"the rows behind a repeated entry of a batch are forgotten", []edit{
 		{"pass.go",
 			"		if r.LeafIndex != next {\n			continue\n		}",
-			"		if r.LeafIndex != p.from.Size+uint64(i) {\n			continue\n		}",
+			"		if r.LeafIndex != p.from.TreeSize+uint64(i) {\n			continue\n		}",
 		},
 	}},
 	{"a witness that cosigned this very head saw more", []edit{

@@ -6,15 +6,15 @@ import (
 	"time"
 
 	"wagtenib/internal/blob"
+	"wagtenib/internal/ct"
 	"wagtenib/internal/log/node"
-	"wagtenib/internal/log/signer"
 )
 
 // reading holds what readers saw of one run of a node.
 type reading struct {
 	of *process
 	// shown is the head that the node showed last. newest is the newest head that it returned to a reader.
-	shown, newest signer.Head
+	shown, newest ct.TreeHead
 	// asked is the number of readers that now ask the node for the newest head.
 	asked int
 }
@@ -54,17 +54,17 @@ func (w *world) reader() {
 
 // looksAt judges the head that a machine shows.
 func (w *world) looksAt(m *machine, now node.Snapshot, last *reading) {
-	w.judgeTree(m, now.Head.Head)
-	if now.Head.Head == last.shown {
+	w.judgeTree(m, now.Head.TreeHead)
+	if now.Head.TreeHead == last.shown {
 		return
 	}
 	if line := cells(now.Line + "\nnode -\nsalt " + strings.Repeat("0", 32) + "\n"); line == nil ||
-		line.size != now.Head.Size || line.timestamp != now.Head.Timestamp {
+		line.size != now.Head.TreeSize || line.timestamp != now.Head.Timestamp {
 		w.judge.breaks("a reader sees a head with its state", "%s shows the head of %d entries at %d ms with another state",
-			m.name, now.Head.Size, now.Head.Timestamp)
+			m.name, now.Head.TreeSize, now.Head.Timestamp)
 	}
-	w.judge.read(m, now.Head.Head, string(now.Head.Note), last.shown)
-	last.shown = now.Head.Head
+	w.judge.read(m, now.Head.TreeHead, string(now.Head.Note), last.shown)
+	last.shown = now.Head.TreeHead
 }
 
 // asksNewest asks a machine for the newest head, as a reader of the checkpoint over HTTP does, and judges the answer.
@@ -82,21 +82,21 @@ func (w *world) asksNewest(m *machine, last *reading) {
 		if err != nil {
 			return
 		}
-		w.judgeTree(m, head.Head)
-		w.judge.read(m, head.Head, string(head.Note), before)
+		w.judgeTree(m, head.TreeHead)
+		w.judge.read(m, head.TreeHead, string(head.Note), before)
 		if head.Timestamp > last.newest.Timestamp {
-			last.newest = head.Head
+			last.newest = head.TreeHead
 		}
 		isCalm := counts == w.judge.counts && !isAway && !w.excuses.loss
-		if isCalm && (blob.Published{Size: head.Size, Timestamp: head.Timestamp}).Before(published) {
+		if isCalm && (blob.Published{Size: head.TreeSize, Timestamp: head.Timestamp}).Before(published) {
 			w.judge.breaks("a reader gets the newest head", "%s returns the head of %d entries at %d ms, and that of %d at "+
-				"%d ms was published", m.name, head.Size, head.Timestamp, published.Size, published.Timestamp)
+				"%d ms was published", m.name, head.TreeSize, head.Timestamp, published.Size, published.Timestamp)
 		}
 	})
 }
 
 // judgeTree judges whether the tree of a head that a reader gets is in the store, although janitors delete objects.
-func (w *world) judgeTree(m *machine, head signer.Head) {
+func (w *world) judgeTree(m *machine, head ct.TreeHead) {
 	if w.plan.Janitors && !w.excuses.missing {
 		// A reader may still read a head that it saw before.
 		w.judge.treeOf(head, fmt.Sprintf("%s shows a head whose tree is not whole", m.name))

@@ -5,6 +5,7 @@ import (
 	"strings"
 
 	"wagtenib/internal/blob"
+	"wagtenib/internal/ct"
 	"wagtenib/internal/log/signer"
 )
 
@@ -22,12 +23,12 @@ func (w *world) refuses(m *machine) string {
 	ahead := func(size, timestamp uint64) bool { return size > k.size || timestamp > k.timestamp }
 	listed, published, seen := w.listed(), w.stores.published, m.remembered
 	switch {
-	case ahead(listed.Size, listed.Timestamp):
-		return fmt.Sprintf("%s, and the store has a head of %d at %d ms", of, listed.Size, listed.Timestamp)
+	case ahead(listed.TreeSize, listed.Timestamp):
+		return fmt.Sprintf("%s, and the store has a head of %d at %d ms", of, listed.TreeSize, listed.Timestamp)
 	case ahead(published.Size, published.Timestamp):
 		return fmt.Sprintf("%s, and %d at %d ms are published", of, published.Size, published.Timestamp)
-	case seen != nil && ahead(seen.Size, seen.Timestamp):
-		return fmt.Sprintf("%s, and the machine remembers %d at %d ms", of, seen.Size, seen.Timestamp)
+	case seen != nil && ahead(seen.TreeSize, seen.Timestamp):
+		return fmt.Sprintf("%s, and the machine remembers %d at %d ms", of, seen.TreeSize, seen.Timestamp)
 	case w.lacksNewest(k, published):
 		return fmt.Sprintf("the index lacks the newest entry, %d", k.size-1)
 	}
@@ -35,15 +36,15 @@ func (w *world) refuses(m *machine) string {
 }
 
 // headName returns the name of a head's object.
-func headName(head signer.Head) string {
-	return fmt.Sprintf("heads/%020d-%020d", head.Size, head.Timestamp)
+func headName(head ct.TreeHead) string {
+	return fmt.Sprintf("heads/%020d-%020d", head.TreeSize, head.Timestamp)
 }
 
 // listed returns the size and the timestamp of the newest head in the store, by its name.
-func (w *world) listed() (head signer.Head) {
+func (w *world) listed() (head ct.TreeHead) {
 	if heads := w.stores.list("heads/", ""); len(heads) > 0 {
 		// A name that cannot be read is not the name of a head, so both stay 0.
-		_, _ = fmt.Sscanf(heads[len(heads)-1], "heads/%020d-%020d", &head.Size, &head.Timestamp)
+		_, _ = fmt.Sscanf(heads[len(heads)-1], "heads/%020d-%020d", &head.TreeSize, &head.Timestamp)
 	}
 	return head
 }
@@ -55,16 +56,16 @@ func (w *world) isBehindGuard(k *cell) string {
 	if err != nil {
 		return ""
 	}
-	last, listed := signer.Head{}, w.listed()
+	last, listed := ct.TreeHead{}, w.listed()
 	if signed := guard.Last(); signed != nil {
 		last = *signed
 	}
 	switch {
-	case last.Size > k.size || last.Timestamp > k.timestamp:
-		return fmt.Sprintf("the lock has %d entries at %d ms, and %d at %d ms were signed", k.size, k.timestamp, last.Size,
+	case last.TreeSize > k.size || last.Timestamp > k.timestamp:
+		return fmt.Sprintf("the lock has %d entries at %d ms, and %d at %d ms were signed", k.size, k.timestamp, last.TreeSize,
 			last.Timestamp)
-	case last.Size < listed.Size || last.Timestamp < listed.Timestamp:
-		return fmt.Sprintf("the guard is older than the head of %d entries at %d ms", listed.Size, listed.Timestamp)
+	case last.TreeSize < listed.TreeSize || last.Timestamp < listed.Timestamp:
+		return fmt.Sprintf("the guard is older than the head of %d entries at %d ms", listed.TreeSize, listed.Timestamp)
 	}
 	return ""
 }

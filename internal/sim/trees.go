@@ -5,11 +5,10 @@ import (
 	"slices"
 	"strconv"
 	"strings"
+	"wagtenib/internal/ct"
 
 	"github.com/transparency-dev/merkle/compact"
 	"github.com/transparency-dev/merkle/rfc6962"
-
-	"wagtenib/internal/log/signer"
 )
 
 // ranges makes the judge's trees.
@@ -90,9 +89,9 @@ func (j *judge) tile(prefix string, n, width uint64, name string) (of *puts, may
 }
 
 // treeOf reads the tiles of a head's tree, compares them with the list, and returns the leaves that follow the list.
-func (j *judge) treeOf(head signer.Head, name string) (added []leaf, ok bool) {
-	for first := uint64(0); first < head.Size; first += 256 {
-		width := min(head.Size-first, 256)
+func (j *judge) treeOf(head ct.TreeHead, name string) (added []leaf, ok bool) {
+	for first := uint64(0); first < head.TreeSize; first += 256 {
+		width := min(head.TreeSize-first, 256)
 		leaves, ok := j.tileOf(head, first, width, added, name)
 		if !ok {
 			return nil, false
@@ -112,7 +111,7 @@ func (j *judge) treeOf(head signer.Head, name string) (added []leaf, ok bool) {
 
 // tileOf returns the leaves of one data tile of a head's tree. The tile of hashes must have their hashes. `added` holds
 // the leaves in the tiles before that follow the list.
-func (j *judge) tileOf(head signer.Head, first, width uint64, added []leaf, name string) ([]leaf, bool) {
+func (j *judge) tileOf(head ct.TreeHead, first, width uint64, added []leaf, name string) ([]leaf, bool) {
 	data, may, ok := j.tile("tile/data/", first/256, width, name)
 	if !ok {
 		return nil, false
@@ -148,14 +147,14 @@ func (j *judge) tileOf(head signer.Head, first, width uint64, added []leaf, name
 
 // isOf reports whether the leaves of a data tile belong to a head: they agree with the list, and the last ones lead to
 // the head's root.
-func (j *judge) isOf(head signer.Head, first uint64, leaves, added []leaf) bool {
+func (j *judge) isOf(head ct.TreeHead, first uint64, leaves, added []leaf) bool {
 	known := min(max(len(j.leaves)-int(first), 0), len(leaves))
 	for i := range known {
 		if !bytes.Equal(leaves[i].tile, j.leaves[int(first)+i].tile) {
 			return false
 		}
 	}
-	isLast := first+uint64(len(leaves)) == head.Size && known < len(leaves)
+	isLast := first+uint64(len(leaves)) == head.TreeSize && known < len(leaves)
 	return !isLast || j.rootOf(slices.Concat(added, leaves[known:])) == head.Root
 }
 
@@ -182,14 +181,14 @@ func (j *judge) rootOf(added []leaf) (root [32]byte) {
 
 // isLists judges whether a head has the root of the tree whose tiles are in the store, and whether that tree's leaves
 // agree with the list. It returns the leaves that follow the list.
-func (j *judge) isLists(head signer.Head, name, rule string) (added []leaf, ok bool) {
+func (j *judge) isLists(head ct.TreeHead, name, rule string) (added []leaf, ok bool) {
 	if j.w.excuses.signed {
 		return nil, false
 	}
 	if added, ok = j.treeOf(head, name); !ok {
 		return nil, false
 	}
-	root := j.roots[min(head.Size, uint64(len(j.leaves)))]
+	root := j.roots[min(head.TreeSize, uint64(len(j.leaves)))]
 	if len(added) > 0 {
 		root = j.rootOf(added)
 	}
@@ -203,21 +202,21 @@ func (j *judge) isLists(head signer.Head, name, rule string) (added []leaf, ok b
 // continues judges whether a head that a machine has signed continues all heads that the machine accepted. A node that
 // accepted a head of one list must never have a head of another list signed (docs/NODE.md, "A lock that falls").
 // `added` holds the leaves that follow the list.
-func (j *judge) continues(m *machine, head signer.Head, added []leaf) {
+func (j *judge) continues(m *machine, head ct.TreeHead, added []leaf) {
 	if len(m.accepted) == 0 {
 		return
 	}
 	for _, before := range m.accepted {
 		var root [32]byte
 		switch known := uint64(len(j.leaves)); {
-		case before.Size <= min(known, head.Size):
-			root = j.roots[before.Size]
-		case before.Size <= head.Size:
-			root = j.rootOf(added[:before.Size-known])
+		case before.TreeSize <= min(known, head.TreeSize):
+			root = j.roots[before.TreeSize]
+		case before.TreeSize <= head.TreeSize:
+			root = j.rootOf(added[:before.TreeSize-known])
 		}
 		if root != before.Root {
 			j.breaks("a node keeps to what it accepted", "%s has a head of %d entries at %d ms signed, and accepted another "+
-				"list of %d at %d ms", m.name, head.Size, head.Timestamp, before.Size, before.Timestamp)
+				"list of %d at %d ms", m.name, head.TreeSize, head.Timestamp, before.TreeSize, before.Timestamp)
 		}
 	}
 	// All of them belong to one list now, so the newest is enough.

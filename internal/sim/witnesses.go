@@ -15,8 +15,8 @@ import (
 	"golang.org/x/mod/sumdb/note"
 
 	"wagtenib/bindings/go/wagtenib"
+	"wagtenib/internal/ct"
 	"wagtenib/internal/log/node"
-	"wagtenib/internal/log/signer"
 	"wagtenib/internal/witness"
 )
 
@@ -195,10 +195,10 @@ func (w *world) mayRoll() bool {
 
 // cosigns judges a checkpoint that a witness cosigns. It must be a head of the list, unless the witness was rolled
 // back, or the machine that signed it cannot know the list's newest head.
-func (j *judge) cosigns(by *observer, head signer.Head) {
+func (j *judge) cosigns(by *observer, head ct.TreeHead) {
 	j.stats.Cosigned++
 	if !by.rolled && !j.w.excuses.theirs[head] {
-		j.isLists(head, fmt.Sprintf("%s cosigns a head of %d entries at %d ms, which", by.name, head.Size,
+		j.isLists(head, fmt.Sprintf("%s cosigns a head of %d entries at %d ms, which", by.name, head.TreeSize,
 			head.Timestamp), "a cosigned head is the list's")
 	}
 }

@@ -11,9 +11,9 @@ import (
 	"time"
 
 	"wagtenib/internal/blob"
+	"wagtenib/internal/ct"
 	"wagtenib/internal/log/node"
 	"wagtenib/internal/log/node/janitor"
-	"wagtenib/internal/log/signer"
 )
 
 // Origin is the log's name in checkpoints, which the proved steps need.
@@ -89,8 +89,8 @@ type machine struct {
 type disk struct {
 	// remembered is the newest head in the memory. accepted holds all heads that a node loaded from it or saved to it
 	// since it was made.
-	remembered *signer.Head
-	accepted   []signer.Head
+	remembered *ct.TreeHead
+	accepted   []ct.TreeHead
 }
 
 // excuses holds what a history is allowed to do after a store lost something that it acknowledged, or a clock was
@@ -110,7 +110,7 @@ type excuses struct {
 	// before that head was put. Their nodes may have a head of another list signed, which must not be put. theirs holds
 	// the heads that they had signed since. A witness may cosign one of them if it did not see the lost head.
 	unput  map[*machine]bool
-	theirs map[signer.Head]bool
+	theirs map[ct.TreeHead]bool
 	// again holds the identities that may get one more entry.
 	again map[[32]byte]bool
 }
@@ -129,7 +129,7 @@ func newWorld(plan Plan, proved node.Proved, logs bool) *world {
 		observed: observed{history: history{isKept: logs}, bentAt: -readWithin}}
 	w.random = rand.New(rand.NewSource(plan.Seed ^ 0x5deece66d))
 	w.judge, w.excuses.again = newJudge(w), map[[32]byte]bool{}
-	w.excuses.unput, w.excuses.theirs = map[*machine]bool{}, map[signer.Head]bool{}
+	w.excuses.unput, w.excuses.theirs = map[*machine]bool{}, map[ct.TreeHead]bool{}
 	w.newObservers()
 	for i := range plan.Machines {
 		m := &machine{w: w, name: fmt.Sprintf("n%d", i+1)}
@@ -237,7 +237,7 @@ func (c clock) Wait(ctx context.Context, long time.Duration, wake <-chan struct{
 // remembering implements the memory of a machine, which is a file on its disk.
 type remembering struct{ m *machine }
 
-func (r remembering) Load(ctx context.Context) (head *signer.Head, err error) {
+func (r remembering) Load(ctx context.Context) (head *ct.TreeHead, err error) {
 	err = r.m.call(ctx, "memory", "load", false, func() error {
 		head = r.m.remembered
 		return nil
@@ -248,8 +248,8 @@ func (r remembering) Load(ctx context.Context) (head *signer.Head, err error) {
 	return head, err
 }
 
-func (r remembering) Save(ctx context.Context, head signer.Head) error {
-	err := r.m.call(ctx, "memory", fmt.Sprintf("save %d %d", head.Size, head.Timestamp), false, func() error {
+func (r remembering) Save(ctx context.Context, head ct.TreeHead) error {
+	err := r.m.call(ctx, "memory", fmt.Sprintf("save %d %d", head.TreeSize, head.Timestamp), false, func() error {
 		r.m.remembered = &head
 		return nil
 	})

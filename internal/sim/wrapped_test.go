@@ -5,6 +5,7 @@ import (
 	"testing"
 	"time"
 
+	"wagtenib/bindings/go/wagtenib"
 	"wagtenib/internal/log/node"
 	"wagtenib/internal/log/node/decider"
 	"wagtenib/internal/log/node/step"
@@ -44,17 +45,17 @@ func skips(do string) node.Decider {
 // ahead makes steps with timestamps that are 50 minutes ahead.
 type ahead struct{ *step.Stepper }
 
-func (a ahead) Step(line string, edge [][]byte, batch []step.Submission, now, most uint64) (*step.Stepped, error) {
+func (a ahead) Step(line string, edge [][]byte, batch []wagtenib.Submission, now, most uint64) (*step.Stepped, error) {
 	return a.Stepper.Step(line, edge, batch, now+3_000_000, most+3_000_000)
 }
 
 // other makes steps with another certificate instead of the last one that was submitted.
 type other struct{ *step.Stepper }
 
-func (o other) Step(line string, edge [][]byte, batch []step.Submission, now, most uint64) (*step.Stepped, error) {
+func (o other) Step(line string, edge [][]byte, batch []wagtenib.Submission, now, most uint64) (*step.Stepped, error) {
 	if len(batch) > 0 {
-		batch = append([]step.Submission{}, batch...)
-		batch[len(batch)-1].LeafCertificate = append([]byte("another "), batch[len(batch)-1].LeafCertificate...)
+		batch = append([]wagtenib.Submission{}, batch...)
+		batch[len(batch)-1].Certificate = append([]byte("another "), batch[len(batch)-1].Certificate...)
 	}
 	return o.Stepper.Step(line, edge, batch, now, most)
 }

@@ -3,36 +3,28 @@ package tiles
 import (
 	"context"
 	"fmt"
-	"strings"
 	"sync"
 
 	"golang.org/x/mod/sumdb/tlog"
 
 	"wagtenib/bindings/go/wagtenib"
-	"wagtenib/internal/log/signer"
+	"wagtenib/internal/ct"
 )
 
-// Parse reads the name of a tile. The level of a data tile is -1.
-func Parse(name string) (tlog.Tile, bool) {
-	// The names of tlog contain the height of tiles, and those of C2SP do not.
-	of, err := tlog.ParseTilePath("tile/8/" + strings.TrimPrefix(name, Prefix))
-	return of, err == nil && strings.HasPrefix(name, Prefix)
-}
-
 // FirstOf returns the index of the first entry below a tile.
-func FirstOf(of tlog.Tile) uint64 { return uint64(of.N) << uint(height*max(of.L, 0)) }
+func FirstOf(of tlog.Tile) uint64 { return uint64(of.N) << uint(ct.TileHeight*max(of.L, 0)) }
 
 // WidthIn returns the number of hashes or entries that a tile with this level and number has in a tree, at most 256.
 func WidthIn(of tlog.Tile, size uint64) int {
-	level := uint(height * max(of.L, 0))
-	all, before := uint64(0), uint64(of.N)*Width
+	level := uint(ct.TileHeight * max(of.L, 0))
+	all, before := uint64(0), uint64(of.N)*ct.TileWidth
 	if level < 64 {
 		all = size >> level
 	}
 	if all <= before {
 		return 0
 	}
-	return int(min(all-before, Width))
+	return int(min(all-before, ct.TileWidth))
 }
 
 // Comparer compares tiles with tree heads of one log. It remembers hash tiles that it compared with the root of a head,
@@ -49,7 +41,7 @@ type Comparer struct {
 }
 
 // LeavesReader reads the leaves of a data tile. Leaves and LeavesOfArchive are such functions.
-type LeavesReader func(name string, content []byte) ([]Leaf, error)
+type LeavesReader func(name string, content []byte) ([]ct.Leaf, error)
 
 // maxCompared is the maximum number of hash tiles that are remembered, of at most 8 KB each.
 const maxCompared = 1024
@@ -68,26 +60,26 @@ func NewComparer(read Reader, leaves LeavesReader) *Comparer {
 // Compare returns ErrDamaged unless the content is that of a tile of a head's tree. The content must not change after
 // the call. A full tile that was compared recently is not hashed again. Its content is compared with the recent one
 // instead.
-func (c *Comparer) Compare(ctx context.Context, head signer.Head, of tlog.Tile, content []byte) error {
-	if of.W == Width && c.recent.contains(Name(of), content) {
+func (c *Comparer) Compare(ctx context.Context, head ct.TreeHead, of tlog.Tile, content []byte) error {
+	if of.W == ct.TileWidth && c.recent.contains(ct.TileName(of), content) {
 		return nil
 	}
 	if err := c.compare(ctx, head, of, content); err != nil {
 		return err
 	}
-	if of.W == Width {
-		c.recent.remember(Name(of), content)
+	if of.W == ct.TileWidth {
+		c.recent.remember(ct.TileName(of), content)
 	}
 	return nil
 }
 
-func (c *Comparer) compare(ctx context.Context, head signer.Head, of tlog.Tile, content []byte) error {
+func (c *Comparer) compare(ctx context.Context, head ct.TreeHead, of tlog.Tile, content []byte) error {
 	hashes, err := c.hashesOf(of, content)
 	if err != nil {
 		return err
 	}
 	var expected []tlog.Hash
-	if of.W == Width {
+	if of.W == ct.TileWidth {
 		hashes = []wagtenib.Hash{PerfectRoot(hashes)}
 		expected, err = c.parentHash(ctx, head, of)
 	} else {
@@ -98,7 +90,7 @@ func (c *Comparer) compare(ctx context.Context, head signer.Head, of tlog.Tile, 
 	}
 	for i := range hashes {
 		if hashes[i] != wagtenib.Hash(expected[i]) {
-			return fmt.Errorf("%w: %s is not that of the tree (put it back from a backup)", ErrDamaged, Name(of))
+			return fmt.Errorf("%w: %s is not that of the tree (put it back from a backup)", ErrDamaged, ct.TileName(of))
 		}
 	}
 	return nil
@@ -109,12 +101,12 @@ func (c *Comparer) hashesOf(of tlog.Tile, content []byte) ([]wagtenib.Hash, erro
 	if of.L >= 0 {
 		return HashesIn(of, content)
 	}
-	leaves, err := c.leaves(Name(of), content)
+	leaves, err := c.leaves(ct.TileName(of), content)
 	if err != nil {
 		return nil, err
 	}
 	if len(leaves) != of.W {
-		return nil, fmt.Errorf("%w: %s has another width (put it back from a backup)", ErrDamaged, Name(of))
+		return nil, fmt.Errorf("%w: %s has another width (put it back from a backup)", ErrDamaged, ct.TileName(of))
 	}
 	hashes := make([]wagtenib.Hash, len(leaves))
 	for i := range leaves {
@@ -124,20 +116,20 @@ func (c *Comparer) hashesOf(of tlog.Tile, content []byte) ([]wagtenib.Hash, erro
 }
 
 // parentHash returns the hash of a full tile in the tile above it.
-func (c *Comparer) parentHash(ctx context.Context, head signer.Head, of tlog.Tile) ([]tlog.Hash, error) {
+func (c *Comparer) parentHash(ctx context.Context, head ct.TreeHead, of tlog.Tile) ([]tlog.Hash, error) {
 	level := max(of.L, 0) + 1
-	position := tilePosition{level, of.N / Width}
-	if hash, ok := c.known(position, of.N%Width); ok {
+	position := tilePosition{level, of.N / ct.TileWidth}
+	if hash, ok := c.known(position, of.N%ct.TileWidth); ok {
 		return []tlog.Hash{hash}, nil
 	}
-	parent := Full(level, uint64(position.index))
-	parent.W = WidthIn(parent, head.Size)
+	parent := ct.FullTile(level, uint64(position.index))
+	parent.W = WidthIn(parent, head.TreeSize)
 	hashes, err := hashesIn(ctx, parent, head, c.read)
 	if err != nil {
 		return nil, err
 	}
 	c.remember(position, hashes)
-	return []tlog.Hash{hashes[of.N%Width]}, nil
+	return []tlog.Hash{hashes[of.N%ct.TileWidth]}, nil
 }
 
 // known returns one hash of a tile that was compared before.

@@ -6,6 +6,7 @@ import (
 	"golang.org/x/mod/sumdb/tlog"
 
 	"wagtenib/bindings/go/wagtenib"
+	"wagtenib/internal/ct"
 )
 
 // Edge is the right edge of a tree that grows leaf by leaf: the last tile of each level of hash tiles. It passes each
@@ -29,9 +30,9 @@ type lastTile struct {
 func EdgeAt(tiles uint64, partial func(of tlog.Tile) ([]wagtenib.Hash, error), put Put) (*Edge, error) {
 	e := &Edge{levels: []lastTile{{index: tiles}}, put: put}
 	for level := 1; tiles > 0; level++ {
-		last := lastTile{index: tiles / Width}
-		if width := int(tiles % Width); width > 0 {
-			of := Full(level, last.index)
+		last := lastTile{index: tiles / ct.TileWidth}
+		if width := int(tiles % ct.TileWidth); width > 0 {
+			of := ct.FullTile(level, last.index)
 			of.W = width
 			hashes, err := partial(of)
 			if err != nil {
@@ -40,7 +41,7 @@ func EdgeAt(tiles uint64, partial func(of tlog.Tile) ([]wagtenib.Hash, error), p
 			last.hashes = hashes
 		}
 		e.levels = append(e.levels, last)
-		tiles /= Width
+		tiles /= ct.TileWidth
 	}
 	return e, nil
 }
@@ -53,7 +54,7 @@ func (e *Edge) Push(hash wagtenib.Hash) error {
 		}
 		of := &e.levels[level]
 		of.hashes = append(of.hashes, hash)
-		if len(of.hashes) < Width {
+		if len(of.hashes) < ct.TileWidth {
 			return nil
 		}
 		if err := e.putLast(level, *of); err != nil {
@@ -69,9 +70,9 @@ func (e *Edge) putLast(level int, of lastTile) error {
 	for _, hash := range of.hashes {
 		content = append(content, hash[:]...)
 	}
-	tile := Full(level, of.index)
+	tile := ct.FullTile(level, of.index)
 	tile.W = len(of.hashes)
-	return e.put(Name(tile), content)
+	return e.put(ct.TileName(tile), content)
 }
 
 // End puts the partial tiles, and returns the root.
@@ -91,7 +92,7 @@ func (e *Edge) End() (wagtenib.Hash, error) {
 // They are computed from the partial tiles.
 func (e *Edge) Subtrees() (subtrees []wagtenib.Hash) {
 	for level := len(e.levels) - 1; level >= 0; level-- {
-		for hashes, bit := e.levels[level].hashes, Width/2; bit > 0; bit /= 2 {
+		for hashes, bit := e.levels[level].hashes, ct.TileWidth/2; bit > 0; bit /= 2 {
 			if len(hashes) >= bit {
 				subtrees = append(subtrees, PerfectRoot(hashes[:bit]))
 				hashes = hashes[bit:]
@@ -116,7 +117,7 @@ func PerfectRoot(hashes []wagtenib.Hash) wagtenib.Hash {
 // many hashes as the tile.
 func HashesIn(of tlog.Tile, content []byte) ([]wagtenib.Hash, error) {
 	if len(content) != of.W*wagtenib.HashSize {
-		return nil, fmt.Errorf("%w: %s has another width (put it back from a backup)", ErrDamaged, Name(of))
+		return nil, fmt.Errorf("%w: %s has another width (put it back from a backup)", ErrDamaged, ct.TileName(of))
 	}
 	hashes := make([]wagtenib.Hash, of.W)
 	for i := range hashes {
@@ -130,7 +131,7 @@ func HashesIn(of tlog.Tile, content []byte) ([]wagtenib.Hash, error) {
 func Overtaken(before, now uint64) (folders []string) {
 	for level := -1; level <= 0 || Count(level-1, now) > 0; level++ {
 		if Count(level, before) < Count(level, now) {
-			folders = append(folders, Name(Full(level, Count(level, before)))+".p")
+			folders = append(folders, ct.TileName(ct.FullTile(level, Count(level, before)))+".p")
 		}
 	}
 	return folders
@@ -139,11 +140,11 @@ func Overtaken(before, now uint64) (folders []string) {
 // PartialOnly returns the names of the partial tiles of the tree of the size before that the tree of the size now does
 // not have.
 func PartialOnly(before, now uint64) (names []string) {
-	for level := -1; level <= 0 || before>>(height*level) > 0; level++ {
-		of := Full(level, Count(level, before))
+	for level := -1; level <= 0 || before>>(ct.TileHeight*level) > 0; level++ {
+		of := ct.FullTile(level, Count(level, before))
 		of.W = WidthIn(of, before)
 		if of.W > 0 && WidthIn(of, now) != of.W {
-			names = append(names, Name(of))
+			names = append(names, ct.TileName(of))
 		}
 	}
 	return names

@@ -7,6 +7,7 @@ import (
 	"strings"
 
 	"wagtenib/bindings/go/wagtenib"
+	"wagtenib/internal/ct"
 )
 
 // The proved functions return these errors if a tile is missing or wrong.
@@ -103,7 +104,7 @@ func read(ctx context.Context, names []string, err error, from tiles) ([][]byte,
 	}
 	contents := make([][]byte, 0, len(names))
 	for _, name := range names {
-		if !strings.HasPrefix(name, "tile/") || strings.HasPrefix(name, "tile/data/") {
+		if !strings.HasPrefix(name, ct.TilePrefix) || strings.HasPrefix(name, ct.DataTilePrefix) {
 			return nil, fmt.Errorf("%w: %.80q is not a hash tile", ErrReply, name)
 		}
 		content, err := from(ctx, name)

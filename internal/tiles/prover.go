@@ -4,10 +4,11 @@ import (
 	"context"
 	"errors"
 	"fmt"
-	"strings"
 	"time"
 
 	"golang.org/x/mod/sumdb/tlog"
+
+	"wagtenib/internal/ct"
 )
 
 // A Prover returns these errors, in addition to errors of reading the tiles, refusals and ErrReply. Use errors.Is.
@@ -82,9 +83,8 @@ func within[T any](ctx context.Context, r *Prover, call func(context.Context) (T
 // beginning of a wider one, and only the widest version of each tile may exist.
 func (r *Prover) tiles(of uint64) tiles {
 	return func(ctx context.Context, name string) ([]byte, error) {
-		// The names of tlog contain the height of tiles, and those of C2SP do not.
-		tile, err := tlog.ParseTilePath("tile/8/" + strings.TrimPrefix(name, "tile/"))
-		if err != nil || tile.L < 0 || tile.L > 7 {
+		tile, ok := ct.ParseTile(name)
+		if !ok || tile.L < 0 || tile.L > 7 {
 			return nil, fmt.Errorf("%w: %.80q is not a hash tile", ErrReply, name)
 		}
 		width, hashes, before := tile.W, of>>(8*tile.L), 256*uint64(tile.N)
@@ -95,7 +95,7 @@ func (r *Prover) tiles(of uint64) tiles {
 		if hashes-before < 256 {
 			tile.W = int(hashes - before)
 		}
-		content, err := r.object(ctx, "tile/"+strings.TrimPrefix(tile.Path(), "tile/8/"), 32*256)
+		content, err := r.object(ctx, ct.TileName(tile), 32*256)
 		if err != nil {
 			return nil, err
 		}

@@ -9,6 +9,7 @@ import (
 	"testing"
 
 	"wagtenib/internal/blob"
+	"wagtenib/internal/ct"
 )
 
 // leafOf returns a TileLeaf of a certificate (C2SP static-ct-api, "Log Entries").
@@ -16,7 +17,7 @@ func leafOf(index uint64, certificate string) []byte {
 	leaf := binary.BigEndian.AppendUint64(nil, 1800000000000+index)
 	leaf = append(leaf, 0, 0, 0, 0, byte(len(certificate)))
 	leaf = append(leaf, certificate...)
-	extensions := Extensions(index)
+	extensions := ct.IndexExtension(index)
 	leaf = append(binary.BigEndian.AppendUint16(leaf, uint16(len(extensions))), extensions...)
 	return append(leaf, 0, 0)
 }
@@ -24,13 +25,13 @@ func leafOf(index uint64, certificate string) []byte {
 // TestReadsPartialTileOutOfFullOne checks that a deleted partial tile is read as the beginning of its full one.
 func TestReadsPartialTileOutOfFullOne(t *testing.T) {
 	var data, partial []byte
-	for i := range uint64(Width) {
+	for i := range uint64(ct.TileWidth) {
 		data = append(data, leafOf(i, fmt.Sprintf("certificate %*d", i%7, i))...)
 		if i == 2 {
 			partial = bytes.Clone(data)
 		}
 	}
-	hashes := bytes.Repeat([]byte("0123456789abcdef0123456789abcdef"), Width)
+	hashes := bytes.Repeat([]byte("0123456789abcdef0123456789abcdef"), ct.TileWidth)
 	broken := errors.New("broken")
 	read := Stored(func(_ context.Context, name string) ([]byte, error) {
 		switch name {

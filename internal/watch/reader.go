@@ -70,7 +70,7 @@ func (r *Reader) Entry(ctx context.Context, head Head, index uint64) (Entry, err
 	end := index + 1
 	if r.Log.IsTiled() {
 		// This reads the whole tile, by its name in the head's tree.
-		end = min((index/logclient.TileWidth+1)*logclient.TileWidth, head.TreeSize)
+		end = min((index/ct.TileWidth+1)*ct.TileWidth, head.TreeSize)
 	}
 	var found []Entry
 	err := r.source.entries(ctx, index, end, func(b batch, _ bool) error {

@@ -10,7 +10,7 @@ import (
 	"golang.org/x/mod/sumdb/tlog"
 
 	"wagtenib/bindings/go/wagtenib"
-	"wagtenib/internal/logclient"
+	"wagtenib/internal/ct"
 )
 
 // The maximum size of a batch. The Keeper stores each batch in one step. Larger batches are read faster, and the
@@ -309,7 +309,7 @@ func (f *Follower) accuseTile(ctx context.Context, log *tiles, b batch, entry En
 	}
 	files := map[string][]byte{FileHead: head.Signed, FileProof: proof, FileLeaf: entry.Leaf}
 	for _, tile := range b.tiles {
-		if tile.Index == entry.Index/logclient.TileWidth {
+		if tile.Index == entry.Index/ct.TileWidth {
 			files[FileTile] = tile.Bytes
 		}
 	}

@@ -2,12 +2,9 @@ package watch
 
 import (
 	"context"
-	"crypto/sha256"
 	"errors"
 	"fmt"
-	"strings"
 
-	"golang.org/x/crypto/cryptobyte"
 	"golang.org/x/mod/sumdb/tlog"
 
 	"wagtenib/bindings/go/wagtenib"
@@ -53,7 +50,7 @@ func (t *tiles) head(ctx context.Context) (Head, error) {
 // entries reads whole data tiles. It leaves out the entries of the first tile that are before `start`.
 func (t *tiles) entries(ctx context.Context, start, size uint64, use func(b batch, more bool) error) error {
 	return t.client.DataTiles(ctx, start, size, func(tile logclient.DataTile, more bool) error {
-		first := tile.Index * logclient.TileWidth
+		first := tile.Index * ct.TileWidth
 		entries, otherIndex, err := readDataTile(tile, max(first, start))
 		if err != nil {
 			return err
@@ -74,10 +71,14 @@ func (t *tiles) entries(ctx context.Context, start, size uint64, use func(b batc
 }
 
 // readDataTile reads a data tile. otherIndex is the first index from next on whose entry names another index in its
-// extensions; nil if there is none. A log may answer with a full tile for a partial one, so only the first tiles.Width
+// extensions; nil if there is none. A log may answer with a full tile for a partial one, so only the first ct.TileWidth
 // entries are read.
 func readDataTile(tile logclient.DataTile, next uint64) (entries []wagtenib.TileEntry, otherIndex *uint64, err error) {
-	content := firstEntries(tile.Bytes, tile.Width)
+	content, ok := ct.FirstEntries(tile.Bytes, tile.Width)
+	if !ok {
+		// The library judges the form, and stops at the entry that cannot be read.
+		content = tile.Bytes
+	}
 	index, err := wagtenib.CompareDataTile(tile.Name, next, content)
 	switch {
 	case errors.Is(err, wagtenib.ErrWrongIndex):
@@ -91,29 +92,6 @@ func readDataTile(tile logclient.DataTile, next uint64) (entries []wagtenib.Tile
 		return nil, nil, fmt.Errorf("%s: %w: %v", tile.Name, errDamaged, err)
 	}
 	return entries, otherIndex, nil
-}
-
-// firstEntries cuts a data tile after its first count entries (C2SP static-ct-api, "Log Entries"). A log can put
-// millions of tiny entries into a tile, and those that were not requested must take no memory. If an entry cannot be
-// read, nothing is cut: the library then judges the form, and stops at that entry.
-func firstEntries(tile []byte, count int) []byte {
-	rest := cryptobyte.String(tile)
-	for range count {
-		var entryType uint16
-		var vector cryptobyte.String
-		if !rest.Skip(8) || !rest.ReadUint16(&entryType) {
-			return tile
-		}
-		isPrecertificate := wagtenib.EntryType(entryType) == wagtenib.PrecertEntry
-		if isPrecertificate && !rest.Skip(sha256.Size) {
-			return tile
-		}
-		if !rest.ReadUint24LengthPrefixed(&vector) || !rest.ReadUint16LengthPrefixed(&vector) ||
-			isPrecertificate && !rest.ReadUint24LengthPrefixed(&vector) || !rest.ReadUint16LengthPrefixed(&vector) {
-			return tile
-		}
-	}
-	return tile[:len(tile)-len(rest)]
 }
 
 // read returns the contents of the hash tiles with these names.
@@ -197,7 +175,7 @@ type tileReader struct {
 }
 
 // Height returns the height of a tile (C2SP tlog-tiles).
-func (*tileReader) Height() int { return 8 }
+func (*tileReader) Height() int { return ct.TileHeight }
 
 // SaveTiles does nothing: ReadTiles caches the tiles.
 func (*tileReader) SaveTiles([]tlog.Tile, [][]byte) {}
@@ -205,8 +183,7 @@ func (*tileReader) SaveTiles([]tlog.Tile, [][]byte) {}
 // ReadTiles returns the contents of tiles, from the cache or from the log.
 func (r *tileReader) ReadTiles(wanted []tlog.Tile) (contents [][]byte, err error) {
 	for _, tile := range wanted {
-		// tlog's names include the height, and C2SP's names do not.
-		name := "tile/" + strings.TrimPrefix(tile.Path(), "tile/8/")
+		name := ct.TileName(tile)
 		content, ok := r.cache[name]
 		if !ok {
 			if content, err = r.client.HashTile(r.ctx, name); err != nil {

@@ -21,6 +21,7 @@ import (
 
 	"golang.org/x/mod/sumdb/note"
 
+	"wagtenib/internal/ct"
 	"wagtenib/internal/log/signer"
 )
 
@@ -163,7 +164,7 @@ func OfRFC6962(origin string, der []byte) note.Verifier {
 		if err != nil || !bytes.HasPrefix(text, []byte(origin+"\n")) || len(signature) <= 8 {
 			return false
 		}
-		head := signer.Head{Size: size, Timestamp: binary.BigEndian.Uint64(signature[:8]), Root: root}
+		head := ct.TreeHead{TreeSize: size, Timestamp: binary.BigEndian.Uint64(signature[:8]), Root: root}
 		return signer.CheckHead(der, head, signature[8:]) == nil
 	}}
 }

@@ -23,6 +23,7 @@ import (
 	"golang.org/x/mod/sumdb/tlog"
 
 	"wagtenib/internal/blob"
+	"wagtenib/internal/ct"
 	"wagtenib/internal/log/signer"
 	"wagtenib/internal/testkit"
 )
@@ -113,7 +114,7 @@ func headKey(t testing.TB, origin string) signing {
 		size, root, err := TreeOf(text)
 		must(t, err)
 		const timestamp = 1_700_000_000_000
-		signed, err := key.SignHead(context.Background(), signer.Head{Size: size, Timestamp: timestamp,
+		signed, err := key.SignHead(context.Background(), ct.TreeHead{TreeSize: size, Timestamp: timestamp,
 			Root: root}, nil)
 		must(t, err)
 		blob := binary.BigEndian.AppendUint64(binary.BigEndian.AppendUint32(nil, of.KeyHash()), timestamp)

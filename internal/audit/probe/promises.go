@@ -9,7 +9,7 @@ import (
 	"time"
 
 	"wagtenib/bindings/go/wagtenib"
-	"wagtenib/internal/audit"
+	"wagtenib/internal/ct"
 	"wagtenib/internal/logclient"
 	"wagtenib/internal/watch"
 )
@@ -17,7 +17,7 @@ import (
 // promise holds an SCT, the entry that it promises, and which of its checks are done.
 type promise struct {
 	submission Submission
-	sct        audit.SCT
+	sct        ct.SCT
 	index      uint64
 	until      time.Time // the end of the merge delay
 	leaf       []byte
@@ -34,7 +34,7 @@ func (p *promise) keep(leaf []byte) {
 }
 
 func (p *promise) evidence() map[string][]byte {
-	return map[string][]byte{"sct": p.sct.Raw, "certificate": p.submission.Chain[0], "leaf": p.leaf}
+	return map[string][]byte{"sct": p.sct.Bytes(), "certificate": p.submission.Chain[0], "leaf": p.leaf}
 }
 
 // isOver reports whether all checks are done.
@@ -90,7 +90,7 @@ func (r *run) repeat(ctx context.Context, p *promise) {
 	}
 	if again.Timestamp != p.sct.Timestamp || !bytes.Equal(again.Extensions, p.sct.Extensions) {
 		evidence := p.evidence()
-		evidence["sct-2"] = again.Raw
+		evidence["sct-2"] = again.Bytes()
 		r.recorder.fail(CheckSCTRepeat, evidence, "the second SCT of one chain is of %s with the extensions %x, "+
 			"and the first one is of %s with %x",
 			timeOf(again.Timestamp), again.Extensions, timeOf(p.sct.Timestamp), p.sct.Extensions)

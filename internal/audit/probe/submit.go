@@ -60,7 +60,7 @@ func (r *run) submitNext(ctx context.Context) {
 
 // submit submits a chain, and returns the SCT of the answer. If the log refuses the chain, it records a failure of the
 // check. The meter counts the answers of a busy or failed server.
-func (r *run) submit(ctx context.Context, submission Submission) (audit.SCT, bool) {
+func (r *run) submit(ctx context.Context, submission Submission) (ct.SCT, bool) {
 	body, err := json.Marshal(map[string][][]byte{"chain": submission.Chain})
 	if err != nil {
 		panic(err) // Bytes can always be encoded.
@@ -69,36 +69,36 @@ func (r *run) submit(ctx context.Context, submission Submission) (audit.SCT, boo
 	request, err := http.NewRequestWithContext(ctx, http.MethodPost, address, bytes.NewReader(body))
 	if err != nil {
 		r.recorder.fail(CheckSubmission, nil, "%v", err)
-		return audit.SCT{}, false
+		return ct.SCT{}, false
 	}
 	request.Header.Set("Content-Type", "application/json")
 	request.Header.Set("User-Agent", r.options.Client.UserAgent)
 	response, err := r.submits.Do(request)
 	if err != nil {
-		return audit.SCT{}, false
+		return ct.SCT{}, false
 	}
 	defer response.Body.Close()
 	content, err := io.ReadAll(io.LimitReader(response.Body, maxAnswer))
 	switch status := response.StatusCode; {
 	case err != nil || status == http.StatusTooManyRequests || status >= http.StatusInternalServerError:
-		return audit.SCT{}, false
+		return ct.SCT{}, false
 	case status != http.StatusOK:
 		r.recorder.fail(CheckSubmission, map[string][]byte{"chain": body},
 			"%s: status %d: %.200q (check that the log accepts the root, and that its interval contains the expiry date)",
 			submission.Call, status, content)
-		return audit.SCT{}, false
+		return ct.SCT{}, false
 	}
-	scts, err := audit.ReadSCTs(content)
+	scts, err := ct.ReadSCTs(content)
 	if err != nil {
 		r.recorder.fail(CheckSubmission, map[string][]byte{"answer": content}, "%s: %v", submission.Call, err)
-		return audit.SCT{}, false
+		return ct.SCT{}, false
 	}
 	return scts[0], true
 }
 
 // judgeSignature checks that the log signed an SCT for a submission. It stores the leaf that the SCT promises in p.
-func (r *run) judgeSignature(p *promise, sct *audit.SCT) bool {
-	evidence := map[string][]byte{"sct": sct.Raw, "certificate": p.submission.Chain[0]}
+func (r *run) judgeSignature(p *promise, sct *ct.SCT) bool {
+	evidence := map[string][]byte{"sct": sct.Bytes(), "certificate": p.submission.Chain[0]}
 	if sct.LogID != r.log.ID {
 		r.recorder.fail(CheckSCTSignature, evidence, "the SCT has the log ID %x, and this is the log %x", sct.LogID,
 			r.log.ID)

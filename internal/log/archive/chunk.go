@@ -8,6 +8,7 @@ import (
 	"fmt"
 
 	"wagtenib/bindings/go/wagtenib"
+	"wagtenib/internal/ct"
 	"wagtenib/internal/logclient"
 	"wagtenib/internal/tiles"
 )
@@ -106,7 +107,7 @@ func (c *chunk) write(ctx context.Context, f *folder, edge *tiles.Edge) error {
 	}
 	at, end := c.start, c.end()
 	for _, of := range c.tiles {
-		if err := of.write(ctx, f, tiles.Name(tiles.Data(at, end))); err != nil {
+		if err := of.write(ctx, f, ct.TileName(ct.DataTile(at, end))); err != nil {
 			return err
 		}
 		at += uint64(len(of.hashes))

@@ -166,9 +166,9 @@ func (m *maker) prove(ctx context.Context, size uint64, root wagtenib.Hash, of w
 
 // read reads the missing entries, and writes each part after it was proved.
 func (m *maker) read(ctx context.Context, wanted wagtenib.TreeHead) error {
-	start := m.entries - m.entries%tiles.Width
+	start := m.entries - m.entries%ct.TileWidth
 	put := func(name string, content []byte) error { return m.put(ctx, name, content) }
-	edge, err := tiles.EdgeAt(start/tiles.Width, func(of tlog.Tile) ([]wagtenib.Hash, error) {
+	edge, err := tiles.EdgeAt(start/ct.TileWidth, func(of tlog.Tile) ([]wagtenib.Hash, error) {
 		return m.partialTile(ctx, of)
 	}, put)
 	if err != nil {
@@ -197,8 +197,8 @@ func (m *maker) read(ctx context.Context, wanted wagtenib.TreeHead) error {
 func (m *maker) partialTile(ctx context.Context, of tlog.Tile) ([]wagtenib.Hash, error) {
 	hashes := make([]wagtenib.Hash, of.W)
 	for i := range hashes {
-		below := tiles.Full(of.L-1, uint64(of.N)*tiles.Width+uint64(i))
-		content, err := m.get(ctx, tiles.Name(below))
+		below := ct.FullTile(of.L-1, uint64(of.N)*ct.TileWidth+uint64(i))
+		content, err := m.get(ctx, ct.TileName(below))
 		if err != nil {
 			return nil, err
 		}
@@ -297,7 +297,7 @@ func (m *maker) dropObsolete(ctx context.Context, size uint64) error {
 		return fmt.Errorf("archive: %w", err)
 	}
 	for _, name := range strings.Fields(string(content)) {
-		if of, isTile := tiles.Parse(name); !isTile || tiles.WidthIn(of, size) == of.W {
+		if of, isTile := ct.ParseTile(name); !isTile || tiles.WidthIn(of, size) == of.W {
 			continue
 		}
 		m.writing(objectsName + "/" + name)
@@ -317,7 +317,7 @@ func (m *maker) restoreIndex(ctx context.Context) error {
 	if m.entries == 0 {
 		return nil
 	}
-	last := tiles.Data(m.entries-1, m.entries)
+	last := ct.DataTile(m.entries-1, m.entries)
 	hashes, err := m.leafHashes(ctx, last)
 	if err != nil {
 		return err
@@ -325,8 +325,8 @@ func (m *maker) restoreIndex(ctx context.Context) error {
 	if _, has, err := m.index.find(ctx, hashes[len(hashes)-1]); err != nil || has {
 		return err
 	}
-	for at := uint64(0); at < m.entries; at += tiles.Width {
-		hashes, err := m.leafHashes(ctx, tiles.Data(at, m.entries))
+	for at := uint64(0); at < m.entries; at += ct.TileWidth {
+		hashes, err := m.leafHashes(ctx, ct.DataTile(at, m.entries))
 		if err != nil {
 			return err
 		}
@@ -340,7 +340,7 @@ func (m *maker) restoreIndex(ctx context.Context) error {
 // leafHashes returns the hashes of the leaves of a data tile, from the lowest hash tile.
 func (m *maker) leafHashes(ctx context.Context, of tlog.Tile) ([]wagtenib.Hash, error) {
 	of.L = 0
-	content, err := m.get(ctx, tiles.Name(of))
+	content, err := m.get(ctx, ct.TileName(of))
 	if err != nil {
 		return nil, err
 	}

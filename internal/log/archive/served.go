@@ -13,7 +13,6 @@ import (
 	"wagtenib/internal/blob"
 	"wagtenib/internal/ct"
 	"wagtenib/internal/log"
-	"wagtenib/internal/log/signer"
 	"wagtenib/internal/tiles"
 )
 
@@ -22,7 +21,7 @@ import (
 type Served struct {
 	log      Log
 	head     log.Head
-	tree     signer.Head
+	tree     ct.TreeHead
 	objects  blob.Objects
 	index    *leafIndex
 	comparer *tiles.Comparer
@@ -56,7 +55,7 @@ func Open(ctx context.Context, path string) (s *Served, err error) {
 	if err != nil {
 		return nil, err
 	}
-	s = &Served{log: of, tree: signer.Head{Size: signed.TreeSize, Timestamp: signed.Timestamp, Root: signed.Root},
+	s = &Served{log: of, tree: ct.TreeHead{TreeSize: signed.TreeSize, Timestamp: signed.Timestamp, Root: signed.Root},
 		edge: map[string][]byte{}}
 	if s.head, err = headOf(signed, of); err != nil {
 		return nil, err
@@ -98,7 +97,7 @@ func headOf(signed head, of Log) (log.Head, error) {
 
 // keepEdge reads the partial tiles of the tree into memory.
 func (s *Served) keepEdge(ctx context.Context) error {
-	for _, name := range tiles.PartialOnly(s.tree.Size, 0) {
+	for _, name := range tiles.PartialOnly(s.tree.TreeSize, 0) {
 		content, err := s.read(ctx, name)
 		if err != nil {
 			return fmt.Errorf("%w: %w", ErrDamaged, err)
@@ -110,16 +109,16 @@ func (s *Served) keepEdge(ctx context.Context) error {
 
 // checkWhole returns ErrDamaged unless the hash tiles have the root of the head, and the index has the last entry.
 func (s *Served) checkWhole(ctx context.Context) error {
-	root, err := tiles.NewProver(s.Object, 1).Root(ctx, s.tree.Size, s.tree.Size)
+	root, err := tiles.NewProver(s.Object, 1).Root(ctx, s.tree.TreeSize, s.tree.TreeSize)
 	if err != nil {
 		return fmt.Errorf("%w: %w", ErrDamaged, err)
 	}
 	if root != s.tree.Root {
 		return fmt.Errorf("%w: the tiles and the head have different roots", ErrDamaged)
 	}
-	last := tiles.Data(s.tree.Size-1, s.tree.Size)
+	last := ct.DataTile(s.tree.TreeSize-1, s.tree.TreeSize)
 	last.L = 0
-	content, err := s.read(ctx, tiles.Name(last))
+	content, err := s.read(ctx, ct.TileName(last))
 	if err != nil {
 		return fmt.Errorf("%w: %w", ErrDamaged, err)
 	}
@@ -161,8 +160,8 @@ func (s *Served) Close() {
 }
 
 // Submit implements log.Log. An archive takes no submissions.
-func (s *Served) Submit(context.Context, log.Entry) (log.Place, error) {
-	return log.Place{}, log.ErrEnded
+func (s *Served) Submit(context.Context, ct.Entry) (ct.SCT, error) {
+	return ct.SCT{}, log.ErrEnded
 }
 
 // Checkpoint implements log.Log. It returns the last head of the log.
@@ -173,11 +172,11 @@ func (s *Served) HeadOf(context.Context, uint64) (log.Head, error) { return s.he
 
 // Object implements log.Log. It compares each tile with the tree of the head.
 func (s *Served) Object(ctx context.Context, name string, maxBytes int64) ([]byte, error) {
-	of, isTile := tiles.Parse(name)
+	of, isTile := ct.ParseTile(name)
 	if !isTile && !strings.HasPrefix(name, "issuer/") {
 		return nil, fmt.Errorf("%w: %.80q is not published", blob.ErrName, name)
 	}
-	if isTile && tiles.WidthIn(of, s.tree.Size) != of.W {
+	if isTile && tiles.WidthIn(of, s.tree.TreeSize) != of.W {
 		return nil, fmt.Errorf("archive: %s: %w", name, blob.ErrAbsent)
 	}
 	content, err := s.get(ctx, name, maxBytes)

@@ -12,6 +12,7 @@ import (
 	"reflect"
 	"testing"
 	"time"
+	"wagtenib/internal/ct"
 )
 
 var oidAltNames = asn1.ObjectIdentifier{2, 5, 29, 17}
@@ -92,7 +93,7 @@ func TestAcceptsMisissued(t *testing.T) {
 			t.Errorf("%s: crypto/x509 reads it", test.what)
 		}
 		entry, err := c.Certificate([][]byte{der})
-		if want := (&Entry{Type: X509Entry, Certificate: der, Issuers: roots.Certificates()}); err != nil ||
+		if want := (&ct.Entry{Type: ct.X509Entry, Certificate: der, Issuers: roots.Certificates()}); err != nil ||
 			!reflect.DeepEqual(entry, want) {
 			t.Errorf("%s: %v", test.what, err)
 		}

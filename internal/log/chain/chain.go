@@ -20,6 +20,7 @@ import (
 	"fmt"
 	"sync/atomic"
 	"time"
+	"wagtenib/internal/ct"
 )
 
 // The bounds of a chain.
@@ -34,32 +35,6 @@ const (
 	// square of this number.
 	MaxKeyBits = 8192
 )
-
-// EntryType is the type of an entry (RFC 6962, section 3.1, LogEntryType).
-type EntryType uint16
-
-// The types of entries.
-const (
-	X509Entry    EntryType = 0
-	PrecertEntry EntryType = 1
-)
-
-// Entry is an entry of the log.
-type Entry struct {
-	Type EntryType
-	// Certificate is the certificate of an X509Entry. It is nil for a PrecertEntry.
-	Certificate []byte
-	// IssuerKeyHash and TBSCertificate are set for a PrecertEntry. IssuerKeyHash is SHA-256 over the key of the final
-	// certificate's issuer (its SubjectPublicKeyInfo in DER). TBSCertificate is that of the final certificate, without
-	// the timestamps.
-	IssuerKeyHash  [32]byte
-	TBSCertificate []byte
-	// Precertificate is the submitted precertificate of a PrecertEntry.
-	Precertificate []byte
-	// Issuers are the certificates after the first one in DER, each the issuer of the one before it. The last one is a
-	// root of the log. There are none if the certificate is a root.
-	Issuers [][]byte
-}
 
 // Rules hold the conditions that the first certificate of a chain must meet. The zero value has no conditions.
 type Rules struct {
@@ -131,7 +106,7 @@ func (c *Checker) Reload(files RootFiles) (added, removed int, err error) {
 
 // Certificate checks a chain in DER that begins with a certificate (add-chain), and returns its entry. An error wraps a
 // Refusal.
-func (c *Checker) Certificate(chain [][]byte) (*Entry, error) {
+func (c *Checker) Certificate(chain [][]byte) (*ct.Entry, error) {
 	first, issuers, err := c.check(chain)
 	if err != nil {
 		return nil, err
@@ -139,12 +114,12 @@ func (c *Checker) Certificate(chain [][]byte) (*Entry, error) {
 	if hasPoison(first) {
 		return nil, fmt.Errorf("%w: it has the poison extension", IsPrecertificate)
 	}
-	return &Entry{Type: X509Entry, Certificate: first.raw, Issuers: inDER(issuers)}, nil
+	return &ct.Entry{Type: ct.X509Entry, Certificate: first.raw, Issuers: inDER(issuers)}, nil
 }
 
 // Precertificate checks a chain in DER that begins with a precertificate (add-pre-chain), and returns its entry. An
 // error wraps a Refusal, or is an error of the cutter.
-func (c *Checker) Precertificate(chain [][]byte) (*Entry, error) {
+func (c *Checker) Precertificate(chain [][]byte) (*ct.Entry, error) {
 	first, issuers, err := c.check(chain)
 	if err != nil {
 		return nil, err
@@ -168,8 +143,8 @@ func (c *Checker) Precertificate(chain [][]byte) (*Entry, error) {
 	if tbs, err = c.entryOf(tbs); err != nil {
 		return nil, err
 	}
-	return &Entry{
-		Type:           PrecertEntry,
+	return &ct.Entry{
+		Type:           ct.PrecertEntry,
 		IssuerKeyHash:  sha256.Sum256(issuer.RawSubjectPublicKeyInfo),
 		TBSCertificate: tbs,
 		Precertificate: first.raw,

@@ -15,6 +15,7 @@ import (
 	"reflect"
 	"testing"
 	"time"
+	"wagtenib/internal/ct"
 )
 
 func TestAcceptsCertificates(t *testing.T) {
@@ -50,7 +51,7 @@ func TestAcceptsCertificates(t *testing.T) {
 			t.Errorf("%s: %v", test.what, err)
 			continue
 		}
-		want := &Entry{Type: X509Entry, Certificate: a.chain(t, test.submitted[0])[0],
+		want := &ct.Entry{Type: ct.X509Entry, Certificate: a.chain(t, test.submitted[0])[0],
 			Issuers: a.chain(t, test.issuers...)}
 		if len(want.Issuers) == 0 {
 			want.Issuers = [][]byte{}

@@ -10,6 +10,7 @@ import (
 	"math/big"
 	"testing"
 	"time"
+	"wagtenib/internal/ct"
 )
 
 // seeds returns certificates: the real precertificates with their issuers, and some that crypto/x509 makes.
@@ -160,7 +161,7 @@ func FuzzChain(f *testing.F) {
 }
 
 // checkEntry checks that the entry of a precertificate contains it, and has the key hash of one of its issuers.
-func checkEntry(t *testing.T, entry *Entry, first []byte) {
+func checkEntry(t *testing.T, entry *ct.Entry, first []byte) {
 	found := false
 	for _, der := range entry.Issuers {
 		issuer, err := x509.ParseCertificate(der)

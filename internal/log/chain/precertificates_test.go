@@ -10,6 +10,7 @@ import (
 	"os"
 	"reflect"
 	"testing"
+	"wagtenib/internal/ct"
 )
 
 func inPEM(certificates ...[]byte) (text []byte) {
@@ -50,7 +51,7 @@ func TestEntriesEqualFinalCertificates(t *testing.T) {
 			t.Errorf("%s: the TBSCertificate\n%x\nis not that of openssl\n%x", test.submitted,
 				entry.TBSCertificate, want)
 		}
-		if entry.Type != PrecertEntry || entry.Certificate != nil ||
+		if entry.Type != ct.PrecertEntry || entry.Certificate != nil ||
 			!bytes.Equal(entry.Precertificate, a.chain(t, test.submitted[0])[0]) {
 			t.Errorf("%s: another entry", test.submitted)
 		}

@@ -13,8 +13,8 @@ import (
 	"testing"
 
 	"wagtenib/internal/blob"
+	"wagtenib/internal/ct"
 	"wagtenib/internal/log"
-	"wagtenib/internal/log/chain"
 )
 
 // TestAnswersAreBounded checks that, if responses have as many bytes as allowed, a call that reads objects is refused,
@@ -86,10 +86,10 @@ func TestAnswersWithEntriesCount(t *testing.T) {
 	f := newFixture(t, 0, func(o *Options) { o.Limits.AnswerBytes = 64 << 20 })
 	issuers := [][]byte{bytes.Repeat([]byte("a"), 1300), bytes.Repeat([]byte("b"), 1300),
 		bytes.Repeat([]byte("c"), 1300)}
-	var entries []log.Entry
+	var entries []ct.Entry
 	for i := 0; i < 256; i++ {
-		entries = append(entries, log.Entry{
-			Type: chain.X509Entry, Certificate: []byte(fmt.Sprint("certificate ", i)),
+		entries = append(entries, ct.Entry{
+			Type: ct.X509Entry, Certificate: []byte(fmt.Sprint("certificate ", i)),
 			Issuers: issuers,
 		})
 	}

@@ -15,9 +15,8 @@ import (
 	"golang.org/x/crypto/cryptobyte"
 
 	"wagtenib/internal/blob"
+	"wagtenib/internal/ct"
 	"wagtenib/internal/log"
-	"wagtenib/internal/log/chain"
-	"wagtenib/internal/tiles"
 )
 
 // getSTH answers with the newest published head (RFC 6962, section 4.3).
@@ -106,7 +105,7 @@ func (f *Front) entries(ctx context.Context, start, end uint64) ([]entryOf, erro
 	}
 	var entries []entryOf
 	bytes := 0
-	for at := start % fullWidth; at < uint64(len(leaves)) && len(entries) < MaxEntries && start+
+	for at := start % ct.TileWidth; at < uint64(len(leaves)) && len(entries) < MaxEntries && start+
 		uint64(len(entries)) <= end; at++ {
 		entry, err := f.entryOf(ctx, &leaves[at])
 		if err != nil {
@@ -124,8 +123,8 @@ func (f *Front) entries(ctx context.Context, start, end uint64) ([]entryOf, erro
 // dataTile reads the data tile of an entry, as wide as it is in a head with all entries up to end, or in the newest
 // head. A partial tile may be deleted between reading the head and the tile, after the full tile was stored. Then
 // dataTile reads both again.
-func (f *Front) dataTile(ctx context.Context, index, end uint64) ([]tiles.Leaf, error) {
-	if last := index - index%fullWidth + fullWidth - 1; end > last {
+func (f *Front) dataTile(ctx context.Context, index, end uint64) ([]ct.Leaf, error) {
+	if last := index - index%ct.TileWidth + ct.TileWidth - 1; end > last {
 		end = last
 	}
 	for again := false; ; again = true {
@@ -136,20 +135,18 @@ func (f *Front) dataTile(ctx context.Context, index, end uint64) ([]tiles.Leaf, 
 		if index >= head.TreeSize {
 			return nil, badParameter(fmt.Sprintf("the log has %d entries", head.TreeSize))
 		}
-		name := tileName{data: true, index: index / fullWidth, width: fullWidth}
-		if first := name.index * fullWidth; head.TreeSize-first < fullWidth {
-			name.width = head.TreeSize - first
-		}
-		content, err := f.read(ctx, name.String())
-		if errors.Is(err, blob.ErrAbsent) && name.width != fullWidth && !again {
+		of := ct.DataTile(index, head.TreeSize)
+		name := ct.TileName(of)
+		content, err := f.read(ctx, name)
+		if errors.Is(err, blob.ErrAbsent) && of.W != ct.TileWidth && !again {
 			continue
 		}
 		if err != nil {
 			return nil, missing(err)
 		}
-		leaves, err := tiles.ReadData(content)
-		if err != nil || uint64(len(leaves)) != name.width {
-			return nil, fmt.Errorf("%w: %s is not a tile of %d entries", log.ErrStore, name, name.width)
+		leaves, err := ct.ReadDataTile(content)
+		if err != nil || len(leaves) != of.W {
+			return nil, fmt.Errorf("%w: %s is not a tile of %d entries", log.ErrStore, name, of.W)
 		}
 		return leaves, nil
 	}
@@ -157,9 +154,9 @@ func (f *Front) dataTile(ctx context.Context, index, end uint64) ([]tiles.Leaf, 
 
 // entryOf returns the entry of a leaf as RFC 6962 defines it: a MerkleTreeLeaf (section 3.4) and the chain (section
 // 4.6). A precertificate has a PrecertChainEntry, and a certificate only its certificate_chain.
-func (f *Front) entryOf(ctx context.Context, leaf *tiles.Leaf) (entryOf, error) {
+func (f *Front) entryOf(ctx context.Context, leaf *ct.Leaf) (entryOf, error) {
 	var extra cryptobyte.Builder
-	if leaf.Type == chain.PrecertEntry {
+	if leaf.Type == ct.PrecertEntry {
 		extra.AddUint24LengthPrefixed(func(b *cryptobyte.Builder) { b.AddBytes(leaf.Precertificate) })
 	}
 	var fault error

@@ -6,6 +6,7 @@ import (
 	"net/http"
 	"net/netip"
 
+	"wagtenib/internal/ct"
 	"wagtenib/internal/log"
 )
 
@@ -25,7 +26,7 @@ const maxForwards = 3
 // it checks nothing.
 func (f *Front) submit(ctx context.Context, w http.ResponseWriter, r *http.Request, client netip.Addr, body []byte,
 	check chainCheck) error {
-	var entry *log.Entry
+	var entry *ct.Entry
 	for tries := 0; ; tries++ {
 		if f.options.Forward == nil || tries == maxForwards {
 			ctx = log.Forwarded(ctx)
@@ -52,7 +53,7 @@ func (f *Front) submit(ctx context.Context, w http.ResponseWriter, r *http.Reque
 			// The entry has a copy of the bytes that it needs.
 			body = nil
 		}
-		place, err := f.log.Submit(ctx, *entry)
+		sct, err := f.log.Submit(ctx, *entry)
 		if errors.Is(err, log.ErrElsewhere) && tries < maxForwards {
 			continue
 		}
@@ -60,7 +61,7 @@ func (f *Front) submit(ctx context.Context, w http.ResponseWriter, r *http.Reque
 			return err
 		}
 		w.Header().Set("Cache-Control", "no-store")
-		writeJSON(w, http.StatusOK, timestampOf(place))
+		writeJSON(w, http.StatusOK, sct)
 		return nil
 	}
 }

@@ -19,7 +19,7 @@ import (
 
 	"wagtenib/internal/blob"
 	"wagtenib/internal/command/eventlog"
-	"wagtenib/internal/log"
+	"wagtenib/internal/ct"
 	"wagtenib/internal/log/chain"
 	"wagtenib/internal/testkit"
 	"wagtenib/internal/testkit/memorylog"
@@ -116,9 +116,9 @@ func (f *fixture) issue(poison bool) []byte {
 func (f *fixture) fill(count int) (certificates [][]byte) {
 	f.t.Helper()
 	one := f.issue(false)
-	var entries []log.Entry
+	var entries []ct.Entry
 	for i := 0; i < count; i++ {
-		entry := log.Entry{Certificate: append([]byte{byte(i >> 8), byte(i)}, one...),
+		entry := ct.Entry{Certificate: append([]byte{byte(i >> 8), byte(i)}, one...),
 			Issuers: [][]byte{f.authority.Root.Raw}}
 		certificates, entries = append(certificates, entry.Certificate), append(entries, entry)
 	}

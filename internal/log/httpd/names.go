@@ -4,96 +4,30 @@ import (
 	"strconv"
 	"strings"
 
-	"wagtenib/internal/tiles"
+	"golang.org/x/mod/sumdb/tlog"
+
+	"wagtenib/internal/ct"
 )
 
-// tileName is the parsed name of a tile (C2SP tlog-tiles and static-ct-api): whether it is a data tile, otherwise its
-// level, its index, and its width. The width of a full tile is 256.
-type tileName struct {
-	data  bool
-	level uint64
-	index uint64
-	width uint64
-}
-
+// The bounds of a tile's name: a log of 2^40 leaves has one hash of level 5, and less than 2^32 tiles of a level.
 const (
-	// maxLevel is the maximum level: a log of 2^40 leaves has one hash of level 5.
 	maxLevel = 5
-	// maxGroups is the maximum number of groups of three digits of an index, which is below 2^32.
-	maxGroups = 4
-	fullWidth = tiles.Width
+	maxTiles = 1 << 32
 )
 
-// readTileName parses the text after "tile/". Each tile has exactly one name.
-func readTileName(text string) (name tileName, ok bool) {
-	level, rest, ok := strings.Cut(text, "/")
-	if !ok {
-		return name, false
-	}
-	if level == "data" {
-		name.data = true
-	} else if name.level, ok = number(level, maxLevel); !ok {
-		return name, false
-	}
-	name.width = fullWidth
-	if index, width, partial := strings.Cut(rest, ".p/"); partial {
-		if name.width, ok = number(width, fullWidth-1); !ok || name.width == 0 {
-			return name, false
-		}
-		rest = index
-	}
-	groups := strings.Split(rest, "/")
-	if len(groups) > maxGroups || len(groups) > 1 && groups[0] == "x000" {
-		return name, false
-	}
-	for i, group := range groups {
-		if i < len(groups)-1 {
-			if !strings.HasPrefix(group, "x") {
-				return name, false
-			}
-			group = group[1:]
-		}
-		if len(group) != 3 || !isDigits(group) {
-			return name, false
-		}
-		three, _ := strconv.ParseUint(group, 10, 64)
-		name.index = name.index*1000 + three
-	}
-	return name, name.index < 1<<32
+// readTileName reads the name of a tile of a log.
+func readTileName(name string) (tlog.Tile, bool) {
+	of, ok := ct.ParseTile(name)
+	return of, ok && of.L <= maxLevel && of.N < maxTiles
 }
 
-// String returns the tile's name.
-func (n tileName) String() string {
-	level := "data"
-	if !n.data {
-		level = strconv.FormatUint(n.level, 10)
+// isOf reports whether a content has as many hashes, or entries, as a tile.
+func isOf(of tlog.Tile, content []byte) bool {
+	if of.L >= 0 {
+		return len(content) == 32*of.W
 	}
-	groups := ""
-	for index, mark := n.index, ""; ; index, mark = index/1000, "x" {
-		three := strconv.FormatUint(index%1000, 10)
-		group := mark + strings.Repeat("0", 3-len(three)) + three
-		if groups != "" {
-			group += "/"
-		}
-		groups = group + groups
-		if index < 1000 {
-			break
-		}
-	}
-	name := "tile/" + level + "/" + groups
-	if n.width != fullWidth {
-		name += ".p/" + strconv.FormatUint(n.width, 10)
-	}
-	return name
-}
-
-// isOf reports whether a content has as many hashes, or entries, as the name says.
-func (n tileName) isOf(content []byte) bool {
-	if !n.data {
-		return uint64(len(content)) == 32*n.width
-	}
-	leaves, err := tiles.ReadData(content)
-	return err == nil && uint64(len(leaves)) == n.width
+	leaves, err := ct.ReadDataTile(content)
+	return err == nil && len(leaves) == of.W
 }
 
 // isFingerprint reports whether a text is 32 bytes in lower-case hexadecimal digits.

@@ -11,6 +11,7 @@ import (
 
 	"wagtenib/bindings/go/wagtenib"
 	"wagtenib/internal/blob"
+	"wagtenib/internal/ct"
 	"wagtenib/internal/log"
 	"wagtenib/internal/tiles"
 )
@@ -220,18 +221,16 @@ func (f *Front) path(
 
 // leafAt returns the hash of a leaf as its tile has it.
 func (f *Front) leafAt(ctx context.Context, head log.Head, index uint64) (leaf [32]byte, err error) {
-	name := tileName{index: index / fullWidth, width: fullWidth}
-	if first := name.index * fullWidth; head.TreeSize-first < fullWidth {
-		name.width = head.TreeSize - first
-	}
-	content, err := f.read(ctx, name.String())
+	of := ct.LeafTile(index, head.TreeSize)
+	name := ct.TileName(of)
+	content, err := f.read(ctx, name)
 	if err != nil {
 		return leaf, err
 	}
-	if uint64(len(content)) != 32*name.width {
+	if len(content) != 32*of.W {
 		return leaf, fmt.Errorf("%w: %s has %d bytes", log.ErrStore, name, len(content))
 	}
-	copy(leaf[:], content[32*(index%fullWidth):])
+	copy(leaf[:], content[32*(index%ct.TileWidth):])
 	return leaf, nil
 }
 

@@ -10,6 +10,7 @@ import (
 	"strings"
 
 	"wagtenib/internal/blob"
+	"wagtenib/internal/ct"
 	"wagtenib/internal/log"
 )
 
@@ -35,7 +36,7 @@ const (
 // store's fault, unless the object is missing or there is no time or memory.
 func (f *Front) read(ctx context.Context, name string) ([]byte, error) {
 	held, likely := heldIn(ctx), int64(likelyOther)
-	if strings.HasPrefix(name, "tile/data/") {
+	if strings.HasPrefix(name, ct.DataTilePrefix) {
 		likely = likelyEntries
 	}
 	if err := held.change(likely); err != nil {
@@ -112,40 +113,41 @@ func hasTag(lists []string, tag string) bool {
 // tile answers with a tile of hashes or of entries, after checking that it has the width of its name. A cache may keep
 // a full tile for ever. A partial tile never changes either, but it is deleted after the full tile was stored.
 func (f *Front) tile(w http.ResponseWriter, r *http.Request) error {
-	name, ok := readTileName(strings.TrimPrefix(r.URL.Path, "/tile/"))
+	of, ok := readTileName(strings.TrimPrefix(r.URL.Path, "/"))
 	if !ok {
 		return refusal{status: http.StatusNotFound, name: "no-such-path", detail: "this is not the name of a tile"}
 	}
 	ctx, cancel := f.reading(r)
 	defer cancel()
-	isPacked := name.data && !asksForParts(r) && acceptsGzip(r)
+	name, isData := r.URL.Path[1:], of.L < 0
+	isPacked := isData && !asksForParts(r) && acceptsGzip(r)
 	var packed *blob.Packed
 	if isPacked {
 		ctx, packed = blob.WithPacked(ctx)
 	}
-	content, err := f.read(ctx, name.String())
+	content, err := f.read(ctx, name)
 	if err != nil {
 		return err
 	}
-	if !name.isOf(content) {
-		return fmt.Errorf("%w: %s is not a tile of %d", log.ErrStore, name, name.width)
+	if !isOf(of, content) {
+		return fmt.Errorf("%w: %s is not a tile of %d", log.ErrStore, name, of.W)
 	}
 	keep := forEver
-	if name.width != fullWidth {
+	if of.W != ct.TileWidth {
 		keep = forAWhile
 	}
 	w.Header().Set("Cache-Control", keep)
-	if name.data {
+	if isData {
 		w.Header().Set("Vary", "Accept-Encoding")
 		w.Header().Set("Accept-Ranges", "bytes")
 	}
-	if isPacked && packed.Name == name.String() {
+	if isPacked && packed.Name == name {
 		// The tile is sent as it is stored.
 		w.Header().Set("Content-Encoding", inGzip)
 		write(w, http.StatusOK, "application/octet-stream", packed.Gzip)
 		return nil
 	}
-	if name.data && !asksForParts(r) {
+	if isData && !asksForParts(r) {
 		f.writePacked(w, r, "application/octet-stream", content)
 		return nil
 	}

@@ -12,8 +12,9 @@ import (
 	"time"
 
 	"golang.org/x/crypto/cryptobyte"
+	"golang.org/x/mod/sumdb/tlog"
 
-	"wagtenib/internal/log/chain"
+	"wagtenib/internal/ct"
 	"wagtenib/internal/testkit"
 )
 
@@ -98,17 +99,17 @@ func TestDamagedObjectsAreNotServed(t *testing.T) {
 }
 
 func TestNames(t *testing.T) {
-	for text, want := range map[string]tileName{
-		"0/000":                  {level: 0, width: 256},
-		"5/000.p/1":              {level: 5, width: 1},
-		"0/x001/x234/067":        {index: 1234067, width: 256},
-		"data/x123/000.p/255":    {data: true, index: 123000, width: 255},
-		"0/x004/x294/x967/295":   {index: 1<<32 - 1, width: 256},
-		"data/x001/x000/000.p/9": {data: true, index: 1000000, width: 9},
+	for text, want := range map[string]tlog.Tile{
+		"0/000":                  {H: 8, L: 0, W: 256},
+		"5/000.p/1":              {H: 8, L: 5, W: 1},
+		"0/x001/x234/067":        {H: 8, N: 1234067, W: 256},
+		"data/x123/000.p/255":    {H: 8, L: -1, N: 123000, W: 255},
+		"0/x004/x294/x967/295":   {H: 8, N: 1<<32 - 1, W: 256},
+		"data/x001/x000/000.p/9": {H: 8, L: -1, N: 1000000, W: 9},
 	} {
-		name, ok := readTileName(text)
-		if !ok || name != want || name.String() != "tile/"+text {
-			t.Errorf("%s: %v %v %s", text, name, ok, name)
+		name, ok := readTileName("tile/" + text)
+		if !ok || name != want || ct.TileName(name) != "tile/"+text {
+			t.Errorf("%s: %v %v", text, name, ok)
 		}
 	}
 	for _, text := range []string{
@@ -121,8 +122,8 @@ func TestNames(t *testing.T) {
 		"0/000.p/1.p/1", "0/000.P/1", "0/000 ", " 0/000", "0/00\u0660", "0/000\x00", "0/x001.p/1/000", "../checkpoint",
 		"0/..", "0/x../000",
 	} {
-		if name, ok := readTileName(text); ok {
-			t.Errorf("%q is read as %s", text, name)
+		if name, ok := readTileName("tile/" + text); ok {
+			t.Errorf("%q is read as %+v", text, name)
 		}
 	}
 	for _, text := range []string{"", "ab", strings.Repeat("A", 64), strings.Repeat("a", 63), strings.Repeat("a", 65),
@@ -228,7 +229,7 @@ func TestEntryOfPrecertificate(t *testing.T) {
 		!leaf.ReadUint24LengthPrefixed(&tbs) || !leaf.ReadUint16LengthPrefixed(&extensions) || !leaf.Empty() {
 		t.Fatalf("the leaf: %x", entry.LeafInput)
 	}
-	if version != 0 || kind != 0 || chain.EntryType(number) != chain.PrecertEntry ||
+	if version != 0 || kind != 0 || ct.EntryType(number) != ct.PrecertEntry ||
 		!bytes.Equal(keyHash, wanted.IssuerKeyHash[:]) || !bytes.Equal(tbs, wanted.TBSCertificate) {
 		t.Errorf("the leaf has another content: %x", entry.LeafInput)
 	}

@@ -17,6 +17,7 @@ import (
 	"testing"
 	"time"
 
+	"wagtenib/internal/ct"
 	"wagtenib/internal/testkit"
 )
 
@@ -185,7 +186,7 @@ func TestSlowClients(t *testing.T) {
 		o.Limits.Submission, o.Limits.Answer = 100*time.Millisecond, time.Second
 	})
 	address, _ := f.listening(nil)
-	sizes := make([]int, fullWidth)
+	sizes := make([]int, ct.TileWidth)
 	for i := range sizes {
 		sizes[i] = 128 << 10
 	}

@@ -58,7 +58,10 @@ func TestSubmissionsAreAnsweredWithTimestamps(t *testing.T) {
 		if err := json.Unmarshal(w.Body.Bytes(), &keys); err != nil || len(keys) != 5 || keys["sct_version"] != 0.0 {
 			t.Errorf("%s: %v, %v", test.path, keys, err)
 		}
-		var reply signedTimestamp
+		var reply struct {
+			ID, Extensions, Signature []byte
+			Timestamp                 uint64
+		}
 		if err := json.Unmarshal(w.Body.Bytes(), &reply); err != nil {
 			t.Fatal(err)
 		}

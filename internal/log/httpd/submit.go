@@ -9,18 +9,9 @@ import (
 	"net/netip"
 	"slices"
 
-	"wagtenib/internal/log"
+	"wagtenib/internal/ct"
 	"wagtenib/internal/log/chain"
 )
-
-// signedTimestamp is the answer to a submission (RFC 6962, section 4.1). Bytes are in base64.
-type signedTimestamp struct {
-	Version    int    `json:"sct_version"`
-	ID         []byte `json:"id"`
-	Timestamp  uint64 `json:"timestamp"`
-	Extensions []byte `json:"extensions"`
-	Signature  []byte `json:"signature"`
-}
 
 func (f *Front) addChain(w http.ResponseWriter, r *http.Request) error {
 	return f.add(w, r, f.checker.Certificate)
@@ -31,7 +22,7 @@ func (f *Front) addPreChain(w http.ResponseWriter, r *http.Request) error {
 }
 
 // chainCheck checks a chain, and makes an entry from it.
-type chainCheck func(chain [][]byte) (*chain.Entry, error)
+type chainCheck func(chain [][]byte) (*ct.Entry, error)
 
 func (f *Front) add(w http.ResponseWriter, r *http.Request, check chainCheck) error {
 	if f.ending.Load() {
@@ -52,10 +43,6 @@ func (f *Front) add(w http.ResponseWriter, r *http.Request, check chainCheck) er
 	ctx, cancel := context.WithTimeout(r.Context(), f.limits.Submission)
 	defer cancel()
 	return f.submit(ctx, w, r, client, body, check)
-}
-
-func timestampOf(place log.Place) signedTimestamp {
-	return signedTimestamp{0, place.LogID[:], place.Timestamp, place.Extensions, place.Signature}
 }
 
 // maxPiece is the maximum number of bytes that are allocated for a body before they were received.
@@ -104,7 +91,7 @@ func (f *Front) body(r *http.Request, client netip.Addr) (body []byte, taken int
 }
 
 // checked checks a submission and makes an entry from it. It waits while Limits.Checks others are being checked.
-func (f *Front) checked(ctx context.Context, body []byte, check chainCheck) (*chain.Entry, error) {
+func (f *Front) checked(ctx context.Context, body []byte, check chainCheck) (*ct.Entry, error) {
 	select {
 	case f.uses.checks <- struct{}{}:
 	case <-ctx.Done():

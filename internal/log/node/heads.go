@@ -11,6 +11,7 @@ import (
 	"golang.org/x/mod/sumdb/note"
 
 	"wagtenib/internal/blob"
+	"wagtenib/internal/ct"
 	"wagtenib/internal/log/node/step"
 	"wagtenib/internal/log/signer"
 	"wagtenib/internal/witness"
@@ -18,12 +19,12 @@ import (
 
 // Head is a signed tree head, with its note (C2SP tlog-checkpoint).
 type Head struct {
-	signer.Head
+	ct.TreeHead
 	Note []byte
 }
 
 func (h Head) published() blob.Published {
-	return blob.Published{Size: h.Size, Timestamp: h.Timestamp}
+	return blob.Published{Size: h.TreeSize, Timestamp: h.Timestamp}
 }
 
 func (h Head) before(other Head) bool { return h.published().Before(other.published()) }
@@ -45,7 +46,7 @@ func (l *Loop) isPublished(ctx context.Context, k *state) (bool, error) {
 	if err != nil {
 		return false, fmt.Errorf("node: the lock: %w", err)
 	}
-	if published.Size < k.Size {
+	if published.Size < k.TreeSize {
 		return false, nil
 	}
 	head, err := l.headOf(ctx, k)
@@ -77,7 +78,7 @@ func (l *Loop) isPublished(ctx context.Context, k *state) (bool, error) {
 
 // headOf reads the head of a state. A head that is not the state's is an error.
 func (l *Loop) headOf(ctx context.Context, k *state) (Head, error) {
-	head, err := l.readHead(ctx, headName(k.Size, k.Timestamp))
+	head, err := l.readHead(ctx, headName(k.TreeSize, k.Timestamp))
 	if err != nil {
 		return Head{}, err
 	}
@@ -86,9 +87,9 @@ func (l *Loop) headOf(ctx context.Context, k *state) (Head, error) {
 
 // matches returns an error unless a head is a state's.
 func matches(head Head, k *state) error {
-	name := headName(k.Size, k.Timestamp)
-	if head.Size != k.Size || head.Timestamp != k.Timestamp {
-		return fmt.Errorf("%w: %w: %s has the head of %d entries at %d ms", ErrDamaged, errOtherHead, name, head.Size,
+	name := headName(k.TreeSize, k.Timestamp)
+	if head.TreeSize != k.TreeSize || head.Timestamp != k.Timestamp {
+		return fmt.Errorf("%w: %w: %s has the head of %d entries at %d ms", ErrDamaged, errOtherHead, name, head.TreeSize,
 			head.Timestamp)
 	}
 	if head.Root != k.Root {
@@ -139,7 +140,7 @@ func (l *Loop) restore(ctx context.Context, k *state) (Head, error) {
 	if !errors.Is(err, blob.ErrAbsent) && !errors.Is(err, errOtherHead) {
 		return head, err
 	}
-	head, err = l.signedHead(ctx, k, resumed.Head, resumed.Objects)
+	head, err = l.signedHead(ctx, k, resumed.Checkpoint, resumed.Objects)
 	if errors.Is(err, signer.ErrRefused) {
 		err = l.whyRefused(ctx, k, err)
 	}
@@ -159,9 +160,9 @@ func (l *Loop) restore(ctx context.Context, k *state) (Head, error) {
 // is used: the signatures of one head differ. The signer refuses a head that is older than its last one. Then the other
 // node's head is in the store, or a later one.
 func (l *Loop) putHead(
-	ctx context.Context, k *state, of step.Head, objects []step.Object, beside func(context.Context) error,
+	ctx context.Context, k *state, checkpoint string, objects []step.Object, beside func(context.Context) error,
 ) (Head, error) {
-	made, err := l.signedHead(ctx, k, of, objects)
+	made, err := l.signedHead(ctx, k, checkpoint, objects)
 	if errors.Is(err, signer.ErrRefused) {
 		if stored, absent := l.headOf(ctx, k); absent == nil {
 			return stored, nil
@@ -175,7 +176,7 @@ func (l *Loop) putHead(
 		return Head{}, err
 	}
 	put := func(ctx context.Context) error {
-		return l.config.Stores.Objects.Put(ctx, headName(k.Size, k.Timestamp), made.Note)
+		return l.config.Stores.Objects.Put(ctx, headName(k.TreeSize, k.Timestamp), made.Note)
 	}
 	err = l.config.Machine.Parallel(ctx, put, beside)
 	if errors.Is(err, blob.ErrOther) {
@@ -203,7 +204,7 @@ func (l *Loop) whyRefused(ctx context.Context, k *state, refused error) error {
 // putRestored puts a state's head over anything else under its name, but not over one that another node restored
 // meanwhile. The signatures of one head differ, so its object may have several contents, and no right one is deleted.
 func (l *Loop) putRestored(ctx context.Context, k *state, head Head) (Head, error) {
-	name := headName(k.Size, k.Timestamp)
+	name := headName(k.TreeSize, k.Timestamp)
 	err := l.config.Stores.Objects.Put(ctx, name, head.Note)
 	if errors.Is(err, blob.ErrOther) {
 		stored, wrong := l.headOf(ctx, k)
@@ -225,7 +226,7 @@ const maxAsked = 5
 
 // signedHead has a state's head signed, over a proof from the signer's last head. That is the one that this node had it
 // sign before, unless the signer refuses: only then it is asked, since another node may have had a later one signed.
-func (l *Loop) signedHead(ctx context.Context, k *state, of step.Head, objects []step.Object) (Head, error) {
+func (l *Loop) signedHead(ctx context.Context, k *state, checkpoint string, objects []step.Object) (Head, error) {
 	lastHead, isRemembered, signed := l.last.signed, l.last.signed != nil, []byte(nil)
 	// If the signer does not answer, it may have approved the head.
 	l.last.signed = nil
@@ -237,27 +238,27 @@ func (l *Loop) signedHead(ctx context.Context, k *state, of step.Head, objects [
 			}
 		}
 		var proof [][32]byte
-		if lastHead != nil && lastHead.Size < k.Size {
-			if proof, err = l.consistency(ctx, lastHead.Size, k.head(), l.reading(objects)); err != nil {
+		if lastHead != nil && lastHead.TreeSize < k.TreeSize {
+			if proof, err = l.consistency(ctx, lastHead.TreeSize, k.TreeHead, l.reading(objects)); err != nil {
 				return Head{}, err
 			}
 		}
-		if signed, err = l.config.Signer.SignHead(ctx, k.head(), proof); err == nil {
+		if signed, err = l.config.Signer.SignHead(ctx, k.TreeHead, proof); err == nil {
 			break
 		}
 		// A refusal over a head that was not asked for says nothing.
 		isOlder := isRemembered && errors.Is(err, signer.ErrRefused)
 		if try+1 == maxAsked || !isOlder && !l.moved(ctx, lastHead, err) {
-			return Head{}, fmt.Errorf("node: the signer: a head of %d entries at %d ms: %w", k.Size, k.Timestamp, err)
+			return Head{}, fmt.Errorf("node: the signer: a head of %d entries at %d ms: %w", k.TreeSize, k.Timestamp, err)
 		}
 		lastHead, isRemembered = nil, false
 	}
-	if head := k.head(); l.config.Signer.IsGuarded() {
+	if head := k.TreeHead; l.config.Signer.IsGuarded() {
 		l.last.signed = &head
 	}
 	blob := binary.BigEndian.AppendUint32(nil, l.verifier.KeyHash())
 	blob = append(binary.BigEndian.AppendUint64(blob, k.Timestamp), signed...)
-	made, err := l.parseNote([]byte(of.Checkpoint + "\n" + l.signatureLine() +
+	made, err := l.parseNote([]byte(checkpoint + "\n" + l.signatureLine() +
 		base64.StdEncoding.EncodeToString(blob) + "\n"))
 	if err != nil || matches(made, k) != nil {
 		return Head{}, fmt.Errorf("node: the step's note is not one of %s: %w", l.config.Origin, errNote)
@@ -266,7 +267,7 @@ func (l *Loop) signedHead(ctx context.Context, k *state, of step.Head, objects [
 }
 
 // moved reports whether the signer refused since its last head is another one by now.
-func (n *Node) moved(ctx context.Context, last *signer.Head, err error) bool {
+func (n *Node) moved(ctx context.Context, last *ct.TreeHead, err error) bool {
 	if errors.Is(err, signer.ErrMoved) {
 		return true
 	}
@@ -340,5 +341,5 @@ func (n *Node) parseNote(content []byte) (Head, error) {
 	if err != nil || len(blob) < 12 {
 		return Head{}, errNote
 	}
-	return Head{signer.Head{Size: size, Timestamp: binary.BigEndian.Uint64(blob[4:12]), Root: root}, content}, nil
+	return Head{ct.TreeHead{TreeSize: size, Timestamp: binary.BigEndian.Uint64(blob[4:12]), Root: root}, content}, nil
 }

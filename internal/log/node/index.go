@@ -8,6 +8,7 @@ import (
 	"slices"
 
 	"wagtenib/internal/blob"
+	"wagtenib/internal/ct"
 	"wagtenib/internal/tiles"
 )
 
@@ -53,10 +54,10 @@ func (l *Loop) indexWorks(ctx context.Context, k *state) error {
 		return nil
 	}
 	id, leaf := identity(newest.Type, newest.IssuerKeyHash, newest.Certificate), blob.Identity(newest.Hash())
-	if err := l.knows(ctx, id, leaf, k.Size-1); err != nil {
+	if err := l.knows(ctx, id, leaf, k.TreeSize-1); err != nil {
 		return err
 	}
-	place := blob.Place{Index: k.Size - 1, Timestamp: newest.Timestamp}
+	place := blob.Place{Index: k.TreeSize - 1, Timestamp: newest.Timestamp}
 	if err := l.config.Stores.Index.Add(ctx, []blob.Row{{Identity: id, Leaf: leaf, Place: place}}); err != nil {
 		return fmt.Errorf("node: the index: %w", err)
 	}
@@ -65,11 +66,11 @@ func (l *Loop) indexWorks(ctx context.Context, k *state) error {
 
 // newestLeaf returns a state's newest entry, or nil if there is none, or if it is missing or damaged: then the step
 // says so, and a damaged edge is made again. Any other error may pass, so it must not count as a missing entry.
-func (l *Loop) newestLeaf(ctx context.Context, k *state) (*tiles.Leaf, error) {
-	if k.Size == 0 {
+func (l *Loop) newestLeaf(ctx context.Context, k *state) (*ct.Leaf, error) {
+	if k.TreeSize == 0 {
 		return nil, nil
 	}
-	leaf, err := tiles.LeafAt(ctx, k.Size-1, k.head(), l.reading(nil))
+	leaf, err := tiles.LeafAt(ctx, k.TreeSize-1, k.TreeHead, l.reading(nil))
 	if errors.Is(err, ErrDamaged) || errors.Is(err, blob.ErrAbsent) {
 		return nil, nil
 	}
@@ -114,10 +115,10 @@ func (p *pass) wrongOf(ctx context.Context, rows []blob.Row) (wrong []blob.Row, 
 
 // isPlaceOf reports whether the state has an entry at its place. An entry that is damaged proves nothing.
 func (p *pass) isPlaceOf(ctx context.Context, of place) (bool, error) {
-	if of.Index >= p.from.Size {
+	if of.Index >= p.from.TreeSize {
 		return false, nil
 	}
-	leaf, err := tiles.LeafAt(ctx, of.Index, p.from.head(), p.reading(p.made.objects))
+	leaf, err := tiles.LeafAt(ctx, of.Index, p.from.TreeHead, p.reading(p.made.objects))
 	if errors.Is(err, ErrDamaged) {
 		return false, nil
 	}

@@ -38,7 +38,7 @@ func (r *recent) add(from, to *state, rows []blob.Row) {
 	if r.text != from.text {
 		r.steps = nil
 	}
-	one := ownStep{size: from.Size, identities: map[blob.Identity]bool{}}
+	one := ownStep{size: from.TreeSize, identities: map[blob.Identity]bool{}}
 	for _, entry := range rows {
 		one.identities[entry.Identity] = true
 	}
@@ -53,7 +53,7 @@ func (r *recent) add(from, to *state, rows []blob.Row) {
 // Without that, the index must be asked. Another node's step may have come between, or the index may have a place that
 // must be replaced.
 func (r *recent) knows(k *state, batch []*Ticket) bool {
-	from := k.Size
+	from := k.TreeSize
 	if r.text == k.text {
 		from = r.steps[0].size
 	}
@@ -111,7 +111,7 @@ func (l *Loop) notInIndex(ctx context.Context, k *state, batch []*Ticket) (added
 	}
 	for _, t := range batch {
 		place, ok := found[t.identity]
-		if ok && place.Index < k.Size && (t.wrong == nil || *t.wrong != place) {
+		if ok && place.Index < k.TreeSize && (t.wrong == nil || *t.wrong != place) {
 			l.pool.resolve(t, Answer{Known: true})
 			continue
 		}

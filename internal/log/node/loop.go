@@ -7,6 +7,7 @@ import (
 	"time"
 
 	"wagtenib/internal/blob"
+	"wagtenib/internal/ct"
 	"wagtenib/internal/log/node/decider"
 	"wagtenib/internal/log/node/step"
 	"wagtenib/internal/log/signer"
@@ -34,7 +35,7 @@ type last struct {
 	published string
 	stepping  *decider.Command
 	// signed is the head that the signer signed last for this node, or nil if that is not known.
-	signed *signer.Head
+	signed *ct.TreeHead
 	// checkpoint is a head that the object checkpoint had, or nil.
 	checkpoint *Head
 	// unneeded are the names of staged batches that this node's steps left. The decider has not said yet whether they
@@ -265,7 +266,7 @@ func (l *Loop) learn(ctx context.Context) (*state, error) {
 	text, err := l.config.Stores.Lock.Read(ctx)
 	if errors.Is(err, blob.ErrAbsent) {
 		return nil, fmt.Errorf("%w: it is gone, and had %d entries at %d ms (stop all nodes, and see \"Backup\" in "+
-			"OPERATING.md)", ErrRolledBack, before.Size, before.Timestamp)
+			"OPERATING.md)", ErrRolledBack, before.TreeSize, before.Timestamp)
 	}
 	if err != nil {
 		l.seen.isVouched = false
@@ -322,7 +323,7 @@ func (l *Loop) read(text string) (*state, error) {
 	if errors.Is(err, decider.ErrRefused) {
 		return nil, fmt.Errorf("%w: the lock's text is not one of a log: %.40q", ErrDamaged, text)
 	}
-	if err == nil && (k.look.Do != decider.Look || k.look.Seen.Text != text || k.look.Seen.Size != k.Size ||
+	if err == nil && (k.look.Do != decider.Look || k.look.Seen.Text != text || k.look.Seen.Size != k.TreeSize ||
 		k.look.Seen.Timestamp != k.Timestamp) {
 		err = fmt.Errorf("%w: %s after a text that was read", errCommand, k.look.Do)
 	}

@@ -7,11 +7,11 @@ import (
 	"strings"
 	"time"
 
+	"wagtenib/bindings/go/wagtenib"
 	"wagtenib/internal/blob"
-	"wagtenib/internal/log/chain"
+	"wagtenib/internal/ct"
 	"wagtenib/internal/log/node/decider"
 	"wagtenib/internal/log/node/step"
-	"wagtenib/internal/log/signer"
 	"wagtenib/internal/tiles"
 )
 
@@ -53,14 +53,9 @@ type state struct {
 	readAt time.Duration
 }
 
-// head returns the head of a state.
-func (k *state) head() signer.Head {
-	return signer.Head{Size: k.Size, Timestamp: k.Timestamp, Root: k.Root}
-}
-
 // published returns how far the log is published once the state is.
 func (k *state) published() blob.Published {
-	return blob.Published{Size: k.Size, Timestamp: k.Timestamp}
+	return blob.Published{Size: k.TreeSize, Timestamp: k.Timestamp}
 }
 
 // parseText reads a text of the lock.
@@ -86,17 +81,17 @@ func HeadName(of blob.Published) string { return headName(of.Size, of.Timestamp)
 
 // HeadIn returns the head of the state that a text of the lock names. The error is ErrDamaged if it is not one of a
 // log.
-func HeadIn(text string) (signer.Head, error) {
+func HeadIn(text string) (ct.TreeHead, error) {
 	k, err := parseText(text)
 	if err != nil {
-		return signer.Head{}, err
+		return ct.TreeHead{}, err
 	}
-	return k.head(), nil
+	return k.TreeHead, nil
 }
 
 // Identity returns the identity of a leaf's entry: SHA-256 over its type, and the certificate, or the issuer's key hash
 // and the TBSCertificate.
-func Identity(leaf *tiles.Leaf) blob.Identity {
+func Identity(leaf *ct.Leaf) blob.Identity {
 	return identity(leaf.Type, leaf.IssuerKeyHash, leaf.Certificate)
 }
 
@@ -116,8 +111,8 @@ func (c *Config) textAfter(before uint64, line string, to step.State, salt uint6
 }
 
 // follows reports whether a head may come after another one of the same history.
-func follows(size, timestamp uint64, before signer.Head) bool {
-	return size >= before.Size && timestamp > before.Timestamp
+func follows(size, timestamp uint64, before ct.TreeHead) bool {
+	return size >= before.TreeSize && timestamp > before.Timestamp
 }
 
 // reference names an object in the decider's commands: its name, and the digest of its content.
@@ -127,14 +122,14 @@ func reference(object step.Object) string {
 
 // identityOf returns SHA-256 over the parts of a submission that are in its leaf: the type, and the certificate, or the
 // issuer's key hash and the TBSCertificate.
-func identityOf(s step.Submission) blob.Identity {
-	if len(s.LeafCertificate) > 0 {
-		return identity(chain.X509Entry, s.LeafCertificate)
+func identityOf(s wagtenib.Submission) blob.Identity {
+	if len(s.Certificate) > 0 {
+		return identity(ct.X509Entry, s.Certificate)
 	}
-	return identity(chain.PrecertEntry, s.IssuerKeyHash, s.TBSCertificate)
+	return identity(ct.PrecertEntry, s.IssuerKeyHash[:], s.TBSCertificate)
 }
 
-func identity(of chain.EntryType, what ...[]byte) (id blob.Identity) {
+func identity(of ct.EntryType, what ...[]byte) (id blob.Identity) {
 	hash := sha256.New()
 	hash.Write([]byte{byte(of >> 8), byte(of)})
 	for _, part := range what {
@@ -148,7 +143,7 @@ func identity(of chain.EntryType, what ...[]byte) (id blob.Identity) {
 // steps as well.
 func rowsIn(objects []step.Object) (rows []blob.Row, err error) {
 	for _, object := range objects {
-		if !strings.HasPrefix(object.Name, tiles.DataPrefix) {
+		if !strings.HasPrefix(object.Name, ct.DataTilePrefix) {
 			continue
 		}
 		leaves, err := tiles.Leaves(object.Name, object.Content)

@@ -85,8 +85,8 @@ func (n *Node) headAt(ctx context.Context, published blob.Published) (Head, erro
 	if err != nil {
 		return Head{}, err
 	}
-	if headName(head.Size, head.Timestamp) != name {
-		return Head{}, fmt.Errorf("%w: %s has the head of %d entries at %d ms", ErrDamaged, name, head.Size,
+	if headName(head.TreeSize, head.Timestamp) != name {
+		return Head{}, fmt.Errorf("%w: %s has the head of %d entries at %d ms", ErrDamaged, name, head.TreeSize,
 			head.Timestamp)
 	}
 	return head, nil

@@ -10,7 +10,9 @@ import (
 
 	"golang.org/x/mod/sumdb/note"
 
+	"wagtenib/bindings/go/wagtenib"
 	"wagtenib/internal/blob"
+	"wagtenib/internal/ct"
 	"wagtenib/internal/log/node/decider"
 	"wagtenib/internal/log/node/step"
 	"wagtenib/internal/log/signer"
@@ -77,8 +79,8 @@ type Index interface {
 // stores are old together.
 type Memory interface {
 	// Load returns what Save was given last, and nil if nothing was saved.
-	Load(ctx context.Context) (*signer.Head, error)
-	Save(ctx context.Context, head signer.Head) error
+	Load(ctx context.Context) (*ct.TreeHead, error)
+	Save(ctx context.Context, head ct.TreeHead) error
 }
 
 // Clock is the machine's time, and all waiting is done by it.
@@ -107,8 +109,8 @@ type Signer interface {
 	Key() []byte
 	// IsGuarded reports whether there is a guard. Without one, Last knows no head.
 	IsGuarded() bool
-	Last(ctx context.Context) (*signer.Head, error)
-	SignHead(ctx context.Context, head signer.Head, consistency [][32]byte) ([]byte, error)
+	Last(ctx context.Context) (*ct.TreeHead, error)
+	SignHead(ctx context.Context, head ct.TreeHead, consistency [][32]byte) ([]byte, error)
 	SignStep(ctx context.Context, step signer.Step) ([][]byte, error)
 	SignTimestamps(ctx context.Context, receipts []signer.Receipt) ([][]byte, error)
 }
@@ -123,9 +125,9 @@ type Decider interface {
 type Steps interface {
 	Begin(timestamp uint64) (string, error)
 	Needs(line string) ([]string, error)
-	Step(line string, edge [][]byte, batch []step.Submission, now, most uint64) (*step.Stepped, error)
+	Step(line string, edge [][]byte, batch []wagtenib.Submission, now, most uint64) (*step.Stepped, error)
 	Resume(line string, bundle []byte) (*step.Resumed, error)
-	Claim(line string, index, timestamp uint64, path [][]byte, submission step.Submission) (*step.Receipt, error)
+	Claim(line string, index, timestamp uint64, path [][32]byte, submission wagtenib.Submission) (*wagtenib.Receipt, error)
 }
 
 // Stores are those that all nodes of a log share.
@@ -254,6 +256,7 @@ type Snapshot struct {
 // Node is what requests may use of a node. All that its loop decides by is in Loop.
 type Node struct {
 	config   Config
+	logID    [32]byte
 	verifier note.Verifier
 	pool     *pool
 	snapshot atomic.Pointer[Snapshot]
@@ -281,11 +284,11 @@ func (n *Node) Lasting() error { return n.health.lasting() }
 func (n *Node) Waiting() int { return n.pool.count() }
 
 // Decided returns the newest state of the lock that this node knows.
-func (n *Node) Decided() signer.Head {
+func (n *Node) Decided() ct.TreeHead {
 	if k := n.newest.Load(); k != nil {
-		return k.head()
+		return k.TreeHead
 	}
-	return signer.Head{}
+	return ct.TreeHead{}
 }
 
 // followFor is for how long after a state another node is taken for the one that makes the steps.
@@ -316,13 +319,18 @@ func (n *Node) RefuseAll(err error) int { return n.pool.refuse(err) }
 // show makes a head the one that readers see. It is no earlier one, since no state is accepted after a later one.
 func (n *Node) show(head Head, line string) { n.snapshot.Store(&Snapshot{Head: head, Line: line}) }
 
+// sct returns the timestamp of an entry with an index.
+func (n *Node) sct(index, timestamp uint64, signature []byte) ct.SCT {
+	return ct.SCT{LogID: n.logID, Timestamp: timestamp, Extensions: ct.IndexExtension(index), Signature: signature}
+}
+
 // newNode returns a node that does nothing yet.
 func newNode(config Config) *Node {
 	config.Stores = limit(config)
 	if config.Machine.Observer == nil {
 		config.Machine.Observer = unobserved{}
 	}
-	return &Node{config: config, verifier: verifierOf(config), pool: newPool(config.Limits)}
+	return &Node{config: config, logID: wagtenib.LogID(config.Signer.Key()), verifier: verifierOf(config), pool: newPool(config.Limits)}
 }
 
 // verifierOf returns what verifies the log's own signature of a note (C2SP static-ct-api, signatures of type 5).

@@ -8,10 +8,11 @@ import (
 
 	"golang.org/x/mod/sumdb/tlog"
 
+	"wagtenib/bindings/go/wagtenib"
 	"wagtenib/internal/blob"
+	"wagtenib/internal/ct"
 	"wagtenib/internal/log/node/decider"
 	"wagtenib/internal/log/node/step"
-	"wagtenib/internal/tiles"
 )
 
 // pass is one way through the decider's commands, from a text that the lock had. It ends with its round.
@@ -37,9 +38,10 @@ type made struct {
 	text, staged string
 	content      []byte
 	objects      []step.Object
-	head         step.Head
-	edge         map[string][]byte
-	receipts     []step.Receipt
+	// checkpoint is the text of the head's note, without a signature.
+	checkpoint string
+	edge       map[string][]byte
+	receipts   []wagtenib.Receipt
 	// signatures are those of the timestamps of the receipts, or nil.
 	signatures [][]byte
 	places
@@ -173,7 +175,7 @@ func (p *pass) look(ctx context.Context) (*decider.Outcome, error) {
 		return nil, err
 	}
 	p.config.Machine.Observer.Count(ResumedStep)
-	p.made = made{objects: resumed.Objects, head: resumed.Head, places: places{rows: rows}}
+	p.made = made{objects: resumed.Objects, checkpoint: resumed.Checkpoint, places: places{rows: rows}}
 	return decider.BatchRead(references(resumed.Objects)), nil
 }
 
@@ -206,7 +208,7 @@ func (p *pass) step(ctx context.Context) error {
 	if err != nil {
 		return fmt.Errorf("node: %w", err)
 	}
-	next := p.from.Size
+	next := p.from.TreeSize
 	p.made.places = places{}
 	for i, t := range p.batch {
 		// The same entry may be in a batch twice. The second one has the receipt of the first.
@@ -215,7 +217,7 @@ func (p *pass) step(ctx context.Context) error {
 			continue
 		}
 		next++
-		row := blob.Row{Identity: t.identity, Leaf: blob.Identity(tlog.RecordHash(r.Sign)),
+		row := blob.Row{Identity: t.identity, Leaf: blob.Identity(tlog.RecordHash(r.Signed)),
 			Place: blob.Place{Index: r.LeafIndex, Timestamp: r.Timestamp}}
 		p.made.rows = append(p.made.rows, row)
 		if t.misplaced {
@@ -223,8 +225,8 @@ func (p *pass) step(ctx context.Context) error {
 		}
 	}
 	m := &p.made
-	m.isNew, m.content, m.objects, m.head, m.receipts = true, stepped.Bundle, stepped.Objects, stepped.Head,
-		stepped.Receipts
+	m.isNew, m.content, m.objects, m.receipts = true, stepped.Bundle, stepped.Objects, stepped.Receipts
+	m.checkpoint = stepped.Checkpoint
 	m.text, m.staged = p.config.textAfter(p.from.Timestamp, stepped.Line, stepped.State, salt)
 	outcome := decider.StepMade(stepped.Line, p.config.where(), salt, references(stepped.Objects))
 	if err := p.goOn(outcome); err != nil {
@@ -253,7 +255,7 @@ func (p *pass) stepOver(ctx context.Context) (*step.Stepped, error) {
 	if err := p.config.Machine.Parallel(ctx, calls...); err != nil {
 		return nil, err
 	}
-	batch := make([]step.Submission, 0, len(p.batch))
+	batch := make([]wagtenib.Submission, 0, len(p.batch))
 	for _, t := range p.batch {
 		batch = append(batch, t.submission)
 	}
@@ -366,7 +368,7 @@ func (p *pass) publish(ctx context.Context) (*decider.Outcome, error) {
 	if err := p.checkState(); err != nil {
 		return nil, err
 	}
-	head, err := p.putHead(ctx, p.from, p.made.head, p.made.objects, p.sign)
+	head, err := p.putHead(ctx, p.from, p.made.checkpoint, p.made.objects, p.sign)
 	if err != nil {
 		return nil, err
 	}
@@ -383,7 +385,7 @@ func (p *pass) sign(ctx context.Context) error {
 	if len(p.batch) == 0 {
 		return nil
 	}
-	signatures, err := p.signTimestamps(ctx, p.made.receipts, p.from.head(), p.reading(p.made.objects))
+	signatures, err := p.signTimestamps(ctx, p.made.receipts, p.from.TreeHead, p.reading(p.made.objects))
 	if err == nil {
 		p.made.signatures = signatures
 	}
@@ -397,7 +399,7 @@ func (p *pass) answer(ctx context.Context) (*decider.Outcome, error) {
 		return nil, err
 	}
 	if len(p.batch) > 0 && p.made.signatures == nil {
-		signatures, err := p.signTimestamps(ctx, p.made.receipts, p.from.head(), p.reading(p.made.objects))
+		signatures, err := p.signTimestamps(ctx, p.made.receipts, p.from.TreeHead, p.reading(p.made.objects))
 		if err != nil {
 			return nil, err
 		}
@@ -405,7 +407,7 @@ func (p *pass) answer(ctx context.Context) (*decider.Outcome, error) {
 	}
 	for i, t := range p.batch {
 		r := p.made.receipts[i]
-		p.pool.resolve(t, Answer{Place: Place{r.LeafIndex, r.Timestamp, p.made.signatures[i]}})
+		p.pool.resolve(t, Answer{SCT: p.sct(r.LeafIndex, r.Timestamp, p.made.signatures[i])})
 	}
 	p.last.answered, p.seen.isMade = len(p.batch), p.made.isNew
 	return decider.Done(), nil
@@ -419,7 +421,7 @@ func (p *pass) keepEdge() {
 		if !strings.Contains(object.Name, ".p/") {
 			continue
 		}
-		level := object.Name[:strings.IndexByte(object.Name[len(tiles.Prefix):], '/')+len(tiles.Prefix)+1]
+		level := object.Name[:strings.IndexByte(object.Name[len(ct.TilePrefix):], '/')+len(ct.TilePrefix)+1]
 		for name := range p.edge {
 			if strings.HasPrefix(name, level) {
 				delete(p.edge, name)

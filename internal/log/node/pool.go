@@ -5,27 +5,22 @@ import (
 	"fmt"
 	"sync"
 
+	"wagtenib/bindings/go/wagtenib"
 	"wagtenib/internal/blob"
-	"wagtenib/internal/log/node/step"
+	"wagtenib/internal/ct"
 )
 
 // Place is where a submission's entry is, with the signature that promises it: what an SCT is made of (RFC 6962,
-// section 3.2).
-type Place struct {
-	Index, Timestamp uint64
-	Signature        []byte
-}
-
 // Answer is what a submission is answered with. If Known is true, the log had the entry already, and Lookup finds it.
 type Answer struct {
-	Place Place
+	SCT   ct.SCT
 	Known bool
 	Err   error
 }
 
 // Ticket is a submission that waits for a step.
 type Ticket struct {
-	submission step.Submission
+	submission wagtenib.Submission
 	identity   blob.Identity
 	// wrong is the place that the index had when the submission was looked up, if another entry is there. misplaced
 	// says that the index has a place that must be replaced.
@@ -61,7 +56,7 @@ func newPool(limits Limits) *pool { return &pool{limits: limits, wake: make(chan
 // length returns how many bytes a ticket counts as.
 func (t *Ticket) length() int {
 	s := &t.submission
-	return len(s.LeafCertificate) + len(s.PreCertificate) + len(s.TBSCertificate) + 32*len(s.Chain)
+	return len(s.Certificate) + len(s.PreCertificate) + len(s.TBSCertificate) + 32*len(s.Chain)
 }
 
 // end has the pool take no more.

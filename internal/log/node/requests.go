@@ -5,7 +5,9 @@ import (
 	"errors"
 	"fmt"
 
+	"wagtenib/bindings/go/wagtenib"
 	"wagtenib/internal/blob"
+	"wagtenib/internal/ct"
 	"wagtenib/internal/log/node/step"
 	"wagtenib/internal/tiles"
 )
@@ -14,7 +16,7 @@ import (
 // Its methods are for one goroutine, which is not the loop's.
 type Request struct {
 	node       *Node
-	submission step.Submission
+	submission wagtenib.Submission
 	identity   blob.Identity
 	wrong      *blob.Place
 	isMovable  bool
@@ -22,7 +24,7 @@ type Request struct {
 }
 
 // Request returns the request of a submission.
-func (n *Node) Request(submission step.Submission) *Request {
+func (n *Node) Request(submission wagtenib.Submission) *Request {
 	return &Request{node: n, submission: submission, identity: identityOf(submission)}
 }
 
@@ -52,7 +54,7 @@ func (r *Request) Movable() { r.isMovable = true }
 // Lookup returns where the log has the entry already, with a new signature over its first timestamp, or nil. A place
 // that the index has is believed only if the proved claim accepts the entry's audit path under the head that readers
 // see.
-func (r *Request) Lookup(ctx context.Context) (*Place, error) {
+func (r *Request) Lookup(ctx context.Context) (*ct.SCT, error) {
 	c, err := r.Find(ctx)
 	if err != nil || c == nil {
 		return nil, err
@@ -71,7 +73,7 @@ func (r *Request) Find(ctx context.Context) (*Candidate, error) {
 	n := r.node
 	now := n.Snapshot()
 	r.lookup = lookup{}
-	if now == nil || now.Head.Size == 0 {
+	if now == nil || now.Head.TreeSize == 0 {
 		return nil, nil
 	}
 	places, err := n.config.Stores.Index.Find(ctx, []blob.Identity{r.identity})
@@ -79,8 +81,8 @@ func (r *Request) Find(ctx context.Context) (*Candidate, error) {
 		return nil, fmt.Errorf("node: the index: %w", err)
 	}
 	place, ok := places[r.identity]
-	r.lookup = lookup{isAbsent: !ok, size: now.Head.Size}
-	if !ok || place.Index >= now.Head.Size {
+	r.lookup = lookup{isAbsent: !ok, size: now.Head.TreeSize}
+	if !ok || place.Index >= now.Head.TreeSize {
 		// The place of an entry that is not under the head yet becomes known by the next round.
 		return nil, nil
 	}
@@ -89,7 +91,7 @@ func (r *Request) Find(ctx context.Context) (*Candidate, error) {
 
 // Claim returns the entry at a candidate's place, with a new signature over its first timestamp, or nil if another
 // entry is there. It may read two data tiles.
-func (r *Request) Claim(ctx context.Context, c *Candidate) (*Place, error) {
+func (r *Request) Claim(ctx context.Context, c *Candidate) (*ct.SCT, error) {
 	n, now, place := r.node, c.at, c.place
 	receipt, err := n.claimed(ctx, now, place, r)
 	if err != nil {
@@ -99,12 +101,13 @@ func (r *Request) Claim(ctx context.Context, c *Candidate) (*Place, error) {
 		r.wrong = &place
 		return nil, nil
 	}
-	signatures, err := n.signTimestamps(ctx, []step.Receipt{*receipt}, now.Head.Head, n.stored)
+	signatures, err := n.signTimestamps(ctx, []wagtenib.Receipt{*receipt}, now.Head.TreeHead, n.stored)
 	if err != nil {
 		return nil, err
 	}
 	n.config.Machine.Observer.Count(Duplicate)
-	return &Place{place.Index, place.Timestamp, signatures[0]}, nil
+	sct := n.sct(place.Index, place.Timestamp, signatures[0])
+	return &sct, nil
 }
 
 // DamagedTile is ErrDamaged of a data tile with a number, or of the hash tiles above it.
@@ -117,10 +120,10 @@ func (d DamagedTile) Error() string { return d.Why.Error() }
 func (d DamagedTile) Unwrap() error { return d.Why }
 
 // claimed returns the receipt of a request's entry at a place, or nil if another entry is there.
-func (n *Node) claimed(ctx context.Context, at *Snapshot, place blob.Place, r *Request) (*step.Receipt, error) {
-	leaf, err := tiles.LeafAt(ctx, place.Index, at.Head.Head, n.stored)
+func (n *Node) claimed(ctx context.Context, at *Snapshot, place blob.Place, r *Request) (*wagtenib.Receipt, error) {
+	leaf, err := tiles.LeafAt(ctx, place.Index, at.Head.TreeHead, n.stored)
 	if errors.Is(err, ErrDamaged) {
-		return nil, DamagedTile{place.Index / tiles.Width, err}
+		return nil, DamagedTile{place.Index / ct.TileWidth, err}
 	}
 	if err != nil {
 		return nil, err
@@ -128,15 +131,11 @@ func (n *Node) claimed(ctx context.Context, at *Snapshot, place blob.Place, r *R
 	if identity(leaf.Type, leaf.IssuerKeyHash, leaf.Certificate) != r.identity || leaf.Timestamp != place.Timestamp {
 		return nil, nil
 	}
-	proofs, err := paths(ctx, []uint64{place.Index}, at.Head.Head, n.stored)
+	proofs, err := paths(ctx, []uint64{place.Index}, at.Head.TreeHead, n.stored)
 	if err != nil {
 		return nil, err
 	}
-	hashesUp := make([][]byte, len(proofs[0]))
-	for i := range hashesUp {
-		hashesUp[i] = proofs[0][i][:]
-	}
-	receipt, err := n.config.Proved.Steps.Claim(at.Line, place.Index, place.Timestamp, hashesUp, r.submission)
+	receipt, err := n.config.Proved.Steps.Claim(at.Line, place.Index, place.Timestamp, proofs[0], r.submission)
 	if errors.Is(err, step.NoClaim) {
 		return nil, nil
 	}

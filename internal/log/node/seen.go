@@ -8,8 +8,8 @@ import (
 
 	"wagtenib/bindings/go/wagtenib"
 	"wagtenib/internal/blob"
+	"wagtenib/internal/ct"
 	"wagtenib/internal/log/node/step"
-	"wagtenib/internal/log/signer"
 )
 
 // A node continues from no state that is older than what it accepted before, or older than what the store has: a lock
@@ -60,7 +60,7 @@ func (l *Loop) accept(ctx context.Context, k *state, objects []step.Object) erro
 
 // keep has the machine's memory keep a state as the newest one.
 func (l *Loop) keep(ctx context.Context, k *state) error {
-	if err := l.config.Machine.Memory.Save(ctx, k.head()); err != nil {
+	if err := l.config.Machine.Memory.Save(ctx, k.TreeHead); err != nil {
 		return fmt.Errorf("node: the memory: %w", err)
 	}
 	l.seen.accepted = *k
@@ -81,8 +81,8 @@ func (l *Loop) listHeads(ctx context.Context, after string) ([]string, error) {
 
 // newestAccepted returns the name of the newest head that this node accepted, or nothing.
 func (l *Loop) newestAccepted() string {
-	if accepted := l.seen.accepted.head(); accepted.Timestamp > 0 {
-		return headName(accepted.Size, accepted.Timestamp)
+	if accepted := l.seen.accepted.TreeHead; accepted.Timestamp > 0 {
+		return headName(accepted.TreeSize, accepted.Timestamp)
 	}
 	return ""
 }
@@ -106,7 +106,7 @@ func (l *Loop) compare(ctx context.Context, k *state, objects []step.Object, hea
 	if err != nil {
 		return err
 	}
-	if err := l.extends(ctx, k, accepted.head(), objects); err != nil || between == "" {
+	if err := l.extends(ctx, k, accepted.TreeHead, objects); err != nil || between == "" {
 		return err
 	}
 	head, err := l.readHead(ctx, between)
@@ -117,14 +117,14 @@ func (l *Loop) compare(ctx context.Context, k *state, objects []step.Object, hea
 	if err != nil {
 		return err
 	}
-	return l.extends(ctx, k, head.Head, objects)
+	return l.extends(ctx, k, head.TreeHead, objects)
 }
 
 // headsUpTo compares the names of the store's heads from the newest accepted one on. In one history they are in the
 // order of their timestamps and end with the state's, unless other nodes went on meanwhile. If the state is the very
 // next, there is none between. The last one before the state's is returned.
 func (l *Loop) headsUpTo(ctx context.Context, k *state, isNext bool, heads lister) (last string, err error) {
-	after, before, own := l.newestAccepted(), l.seen.accepted.head(), headName(k.Size, k.Timestamp)
+	after, before, own := l.newestAccepted(), l.seen.accepted.TreeHead, headName(k.TreeSize, k.Timestamp)
 	for {
 		names, err := heads(ctx, after)
 		if err != nil {
@@ -142,10 +142,10 @@ func (l *Loop) headsUpTo(ctx context.Context, k *state, isNext bool, heads liste
 				return "", err
 			}
 			if isNext || !follows(size, timestamp, before) ||
-				!follows(k.Size, k.Timestamp, signer.Head{Size: size, Timestamp: timestamp}) {
+				!follows(k.TreeSize, k.Timestamp, ct.TreeHead{TreeSize: size, Timestamp: timestamp}) {
 				return "", foreign(k, name)
 			}
-			last, before = name, signer.Head{Size: size, Timestamp: timestamp}
+			last, before = name, ct.TreeHead{TreeSize: size, Timestamp: timestamp}
 		}
 		if len(names) < blob.MaxListed {
 			return last, nil
@@ -156,25 +156,25 @@ func (l *Loop) headsUpTo(ctx context.Context, k *state, isNext bool, heads liste
 
 // foreign is the refusal of a state beside which the store has a head of another history.
 func foreign(k *state, name string) error {
-	return fmt.Errorf("%w: it has %d entries at %d ms, and the store has %s", ErrRolledBack, k.Size, k.Timestamp, name)
+	return fmt.Errorf("%w: it has %d entries at %d ms, and the store has %s", ErrRolledBack, k.TreeSize, k.Timestamp, name)
 }
 
 // continues returns ErrRolledBack if the state of a text that was read is neither the newest one that this node knows nor
 // a later one.
 func (l *Loop) continues(k *state) error {
 	before := l.seen.newest
-	if before == nil || k.head() == before.head() || follows(k.Size, k.Timestamp, before.head()) {
+	if before == nil || k.TreeHead == before.TreeHead || follows(k.TreeSize, k.Timestamp, before.TreeHead) {
 		return nil
 	}
-	return fmt.Errorf("%w: it had %d entries at %d ms, and has %d at %d ms", ErrRolledBack, before.Size,
-		before.Timestamp, k.Size, k.Timestamp)
+	return fmt.Errorf("%w: it had %d entries at %d ms, and has %d at %d ms", ErrRolledBack, before.TreeSize,
+		before.Timestamp, k.TreeSize, k.Timestamp)
 }
 
 // keepLater keeps the state of a text that was read, if it is later than the newest one that this node knows: a node
 // must never take an older text than one that it read. A text that is not a log's is refused when it is read again.
 func (l *Loop) keepLater(text string) {
 	before := l.seen.newest
-	if k, err := l.read(text); err == nil && (before == nil || follows(k.Size, k.Timestamp, before.head())) {
+	if k, err := l.read(text); err == nil && (before == nil || follows(k.TreeSize, k.Timestamp, before.TreeHead)) {
 		l.seen.newest = k
 	}
 }
@@ -203,34 +203,29 @@ func (l *Loop) whyLater(ctx context.Context, k *state, name string) error {
 
 // extends returns ErrRolledBack unless the proved decision accepts a state's head after another head, by a consistency
 // proof (docs/NODE.md, "A lock that falls").
-func (l *Loop) extends(ctx context.Context, k *state, head signer.Head, objects []step.Object) error {
-	if head == (signer.Head{}) {
+func (l *Loop) extends(ctx context.Context, k *state, head ct.TreeHead, objects []step.Object) error {
+	if head == (ct.TreeHead{}) {
 		// Nothing was accepted before.
 		return nil
 	}
 	var proof [][32]byte
-	if head.Size < k.Size {
+	if head.TreeSize < k.TreeSize {
 		var err error
-		if proof, err = l.consistency(ctx, head.Size, k.head(), l.reading(objects)); err != nil {
+		if proof, err = l.consistency(ctx, head.TreeSize, k.TreeHead, l.reading(objects)); err != nil {
 			return err
 		}
 	}
-	if err := wagtenib.NodeAccept(treeHead(head), treeHead(k.head()), proof); err != nil {
+	if err := wagtenib.NodeAccept(head, k.TreeHead, proof); err != nil {
 		return fmt.Errorf("%w: its %d entries at %d ms do not continue the %d at %d ms that the log had: %v",
-			ErrRolledBack, k.Size, k.Timestamp, head.Size, head.Timestamp, err)
+			ErrRolledBack, k.TreeSize, k.Timestamp, head.TreeSize, head.Timestamp, err)
 	}
 	return nil
-}
-
-// treeHead returns a head as the library has it.
-func treeHead(head signer.Head) wagtenib.TreeHead {
-	return wagtenib.TreeHead{TreeSize: head.Size, Timestamp: head.Timestamp, Root: head.Root}
 }
 
 // looksBack checks that neither the store nor the lock knows a later head than the state of the lock's text. This node
 // could not read the lock for a while, so it does not know what was decided meanwhile.
 func (l *Loop) looksBack(ctx context.Context, k *state) error {
-	later, err := l.config.Stores.Objects.List(ctx, headsPrefix, headName(k.Size, k.Timestamp), 1)
+	later, err := l.config.Stores.Objects.List(ctx, headsPrefix, headName(k.TreeSize, k.Timestamp), 1)
 	if err != nil {
 		return fmt.Errorf("node: the heads: %w", err)
 	}
@@ -247,6 +242,6 @@ func (l *Loop) looksBack(ctx context.Context, k *state) error {
 	if err := l.checkCurrent(ctx, k); err != nil {
 		return err
 	}
-	return fmt.Errorf("%w: it has %d entries at %d ms, and %d at %d ms are published", ErrRolledBack, k.Size,
+	return fmt.Errorf("%w: it has %d entries at %d ms, and %d at %d ms are published", ErrRolledBack, k.TreeSize,
 		k.Timestamp, published.Size, published.Timestamp)
 }

@@ -6,9 +6,9 @@ import (
 	"fmt"
 
 	"wagtenib/internal/blob"
+	"wagtenib/internal/ct"
 	"wagtenib/internal/log/node/decider"
 	"wagtenib/internal/log/signer"
-	"wagtenib/internal/tiles"
 )
 
 // Start looks at the lock, the stores, the signer and the machine's memory, and returns a node if the node may continue
@@ -26,8 +26,7 @@ func Start(ctx context.Context, config Config) (*Node, *Loop, error) {
 		return nil, nil, fmt.Errorf("node: the memory: %w", err)
 	}
 	if remembered != nil {
-		l.seen.accepted.Size, l.seen.accepted.Timestamp, l.seen.accepted.Root = remembered.Size, remembered.Timestamp,
-			remembered.Root
+		l.seen.accepted.TreeHead = *remembered
 	}
 	for range startOver {
 		started, err := l.tryStart(ctx, remembered)
@@ -44,15 +43,14 @@ func Start(ctx context.Context, config Config) (*Node, *Loop, error) {
 // found is what a start finds of a log: in the decider's form, and as it was read.
 type found struct {
 	decider.Found
-	// k is the state of the lock's text, and last the signer's last head. Either is nil if there is none.
+	// k is the state of the lock's text, or nil if there is none.
 	k         *state
 	published blob.Published
-	last      *signer.Head
 }
 
 // tryStart looks once at everything. It reports false if another node went on meanwhile, or if the lock was created just
 // now.
-func (l *Loop) tryStart(ctx context.Context, remembered *signer.Head) (bool, error) {
+func (l *Loop) tryStart(ctx context.Context, remembered *ct.TreeHead) (bool, error) {
 	f, err := l.find(ctx, remembered)
 	if err != nil {
 		return false, err
@@ -80,17 +78,9 @@ func (l *Loop) tryStart(ctx context.Context, remembered *signer.Head) (bool, err
 	return true, l.showNewest(ctx, f)
 }
 
-// rooted returns a head as the decider reads it.
-func rooted(head *signer.Head) *decider.Rooted {
-	if head == nil {
-		return nil
-	}
-	return &decider.Rooted{Point: decider.Point{Size: head.Size, Timestamp: head.Timestamp}, Root: head.Root}
-}
-
 // find reads the lock, and after that everything that may be ahead of it.
-func (l *Loop) find(ctx context.Context, remembered *signer.Head) (f found, err error) {
-	f.Creates, f.Guarded, f.Seen = l.config.Create, l.config.Signer.IsGuarded(), rooted(remembered)
+func (l *Loop) find(ctx context.Context, remembered *ct.TreeHead) (f found, err error) {
+	f.Creates, f.Guarded, f.Seen = l.config.Create, l.config.Signer.IsGuarded(), remembered
 	var exists bool
 	if f.Lock, exists, err = l.lockText(ctx); err != nil {
 		return f, err
@@ -112,21 +102,15 @@ func (l *Loop) find(ctx context.Context, remembered *signer.Head) (f found, err 
 		return f, fmt.Errorf("node: the lock: %w", err)
 	}
 	if f.published != (blob.Published{}) {
-		f.Published = rootless(f.published.Size, f.published.Timestamp)
+		f.Published = &ct.TreeHead{TreeSize: f.published.Size, Timestamp: f.published.Timestamp}
 	}
-	if f.last, err = l.config.Signer.Last(ctx); err != nil {
+	if f.Signed, err = l.config.Signer.Last(ctx); err != nil {
 		return f, fmt.Errorf("node: the signer: %w", err)
 	}
-	f.Guard = rooted(f.last)
 	if f.Listed, err = l.newestListed(ctx, f); err != nil {
 		return f, err
 	}
 	return f, l.addRoots(ctx, f)
-}
-
-// rootless returns a head whose root is not known yet.
-func rootless(size, timestamp uint64) *decider.Rooted {
-	return &decider.Rooted{Point: decider.Point{Size: size, Timestamp: timestamp}}
 }
 
 // addRoots adds the root of the stored head to the published and to the listed head that have the size and the
@@ -135,13 +119,13 @@ func (l *Loop) addRoots(ctx context.Context, f found) error {
 	if f.k == nil {
 		return nil
 	}
-	own, root, isRead := decider.Point{Size: f.k.Size, Timestamp: f.k.Timestamp}, f.k.Root, false
-	for _, of := range []*decider.Rooted{f.Published, f.Listed} {
-		if of == nil || of.Point != own {
+	root, isRead := f.k.Root, false
+	for _, of := range []*ct.TreeHead{f.Published, f.Listed} {
+		if of == nil || of.TreeSize != f.k.TreeSize || of.Timestamp != f.k.Timestamp {
 			continue
 		}
 		if !isRead {
-			head, err := l.readHead(ctx, headName(own.Size, own.Timestamp))
+			head, err := l.readHead(ctx, headName(f.k.TreeSize, f.k.Timestamp))
 			switch {
 			case err == nil:
 				root = head.Root
@@ -171,7 +155,7 @@ func (l *Loop) lockText(ctx context.Context) (text string, exists bool, err erro
 
 // hasLog reports whether the store has any object of a log.
 func (l *Loop) hasLog(ctx context.Context) (bool, error) {
-	for _, prefix := range []string{headsPrefix, tiles.Prefix, stagingPrefix} {
+	for _, prefix := range []string{headsPrefix, ct.TilePrefix, stagingPrefix} {
 		names, err := l.config.Stores.Objects.List(ctx, prefix, "", 1)
 		if err != nil {
 			return false, fmt.Errorf("node: the objects: %w", err)
@@ -184,20 +168,20 @@ func (l *Loop) hasLog(ctx context.Context) (bool, error) {
 }
 
 // newestListed returns the newest head in the store that is after the lock's or after the signer's last one, or nil.
-func (l *Loop) newestListed(ctx context.Context, f found) (*decider.Rooted, error) {
+func (l *Loop) newestListed(ctx context.Context, f found) (*ct.TreeHead, error) {
 	after := ""
 	switch {
-	case f.k != nil && f.last != nil:
-		after = min(headName(f.k.Size, f.k.Timestamp), headName(f.last.Size, f.last.Timestamp))
+	case f.k != nil && f.Signed != nil:
+		after = min(headName(f.k.TreeSize, f.k.Timestamp), headName(f.Signed.TreeSize, f.Signed.Timestamp))
 	case f.k != nil && !f.Guarded:
-		after = headName(f.k.Size, f.k.Timestamp)
+		after = headName(f.k.TreeSize, f.k.Timestamp)
 	}
 	newest, err := l.newestHead(ctx, after)
 	if err != nil || newest == "" {
 		return nil, err
 	}
 	size, timestamp, err := headNamed(newest)
-	return rootless(size, timestamp), err
+	return &ct.TreeHead{TreeSize: size, Timestamp: timestamp}, err
 }
 
 // newestHead returns the name of the newest head in the store after a name, or nothing.
@@ -229,10 +213,10 @@ func (l *Loop) movedSince(ctx context.Context, f found) (bool, error) {
 	if err != nil {
 		return false, fmt.Errorf("node: the signer: %w", err)
 	}
-	if last == nil || f.last == nil {
-		return (last == nil) != (f.last == nil), nil
+	if last == nil || f.Signed == nil {
+		return (last == nil) != (f.Signed == nil), nil
 	}
-	return *last != *f.last, nil
+	return *last != *f.Signed, nil
 }
 
 // refused returns why the node does not continue.
@@ -241,22 +225,22 @@ func refused(refusal decider.Refusal, f found) error {
 		return fmt.Errorf("%w: %s: there is no lock, and this is no new log (see \"Backup\" in OPERATING.md)",
 			ErrRolledBack, refusal)
 	}
-	of := fmt.Sprintf("the lock has %d entries at %d ms", f.k.Size, f.k.Timestamp)
+	of := fmt.Sprintf("the lock has %d entries at %d ms", f.k.TreeSize, f.k.Timestamp)
 	switch refusal {
 	case decider.TwoRoots:
 		return fmt.Errorf("%w: %s, and the signer approved another root of these", ErrDamaged, of)
 	case decider.GuardBehind:
 		return fmt.Errorf("%w: it is older than the log, whose store has a head of %d entries at %d ms (see "+
-			"\"Backup\" in OPERATING.md)", signer.ErrState, f.Listed.Size, f.Listed.Timestamp)
+			"\"Backup\" in OPERATING.md)", signer.ErrState, f.Listed.TreeSize, f.Listed.Timestamp)
 	case decider.BehindGuard:
-		return fmt.Errorf("%w: %s, and the signer approved %d at %d ms", ErrRolledBack, of, f.last.Size,
-			f.last.Timestamp)
+		return fmt.Errorf("%w: %s, and the signer approved %d at %d ms", ErrRolledBack, of, f.Signed.TreeSize,
+			f.Signed.Timestamp)
 	case decider.BehindSeen:
 		return fmt.Errorf("%w: %s, and this machine accepted %d at %d ms, or another root", ErrRolledBack, of,
-			f.Seen.Size, f.Seen.Timestamp)
+			f.Seen.TreeSize, f.Seen.Timestamp)
 	case decider.BehindListed:
 		return fmt.Errorf("%w: %s, and the store has a head of %d at %d ms, or another root", ErrRolledBack, of,
-			f.Listed.Size, f.Listed.Timestamp)
+			f.Listed.TreeSize, f.Listed.Timestamp)
 	case decider.BehindPublished:
 		return fmt.Errorf("%w: %s, and %d at %d ms are published, or another root", ErrRolledBack, of, f.published.Size,
 			f.published.Timestamp)
@@ -349,7 +333,7 @@ func (l *Loop) knowsNewest(ctx context.Context, k *state) error {
 		return err
 	}
 	id := identity(newest.Type, newest.IssuerKeyHash, newest.Certificate)
-	return l.knows(ctx, id, blob.Identity(newest.Hash()), k.Size-1)
+	return l.knows(ctx, id, blob.Identity(newest.Hash()), k.TreeSize-1)
 }
 
 // knows returns ErrIndex unless the index has an entry of the log by its identity, and its leaf by its hash.

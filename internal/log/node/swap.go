@@ -120,5 +120,5 @@ func (h *listing) after(ctx context.Context, name string) ([]string, error) {
 // before returns the list of the heads after the state's own, by a list that was compared with it: at that time there
 // was none.
 func (h *listing) before(k *state) *listing {
-	return &listing{Loop: h.Loop, from: headName(k.Size, k.Timestamp), began: h.began, isMade: true}
+	return &listing{Loop: h.Loop, from: headName(k.TreeSize, k.Timestamp), began: h.began, isMade: true}
 }

@@ -185,7 +185,7 @@ func (l *Loop) gather(ctx context.Context, a *asking) ([]byte, error) {
 	case a.ahead != nil:
 		return nil, l.whyAhead(ctx, a)
 	}
-	return nil, fmt.Errorf("%w: of %d entries at %d ms: %d of %d did, and %d are needed: %w", ErrWitnesses, a.k.Size,
+	return nil, fmt.Errorf("%w: of %d entries at %d ms: %d of %d did, and %d are needed: %w", ErrWitnesses, a.k.TreeSize,
 		a.k.Timestamp, a.given, len(all), a.min, a.other)
 }
 
@@ -194,7 +194,7 @@ func (l *Loop) whyAhead(ctx context.Context, a *asking) error {
 	if err := l.checkCurrent(ctx, a.k); err != nil {
 		return err
 	}
-	return fmt.Errorf("%w: it has %d entries at %d ms: %v", ErrRolledBack, a.k.Size, a.k.Timestamp, a.ahead)
+	return fmt.Errorf("%w: it has %d entries at %d ms: %v", ErrRolledBack, a.k.TreeSize, a.k.Timestamp, a.ahead)
 }
 
 // cosignature has one witness cosign a head. It is asked from the size that it is known to have cosigned last, and then
@@ -205,9 +205,9 @@ func (l *Loop) cosignature(ctx context.Context, which int, a *asking) (line stri
 	one, old := l.config.Witnesses.All[which], l.witnessed[which]
 	name := one.Verifier().Name()
 	for range maxAsked {
-		r := witness.Request{Old: min(old, a.k.Size), Note: a.note}
-		if r.Old < a.k.Size {
-			if r.Proof, err = l.consistency(ctx, r.Old, a.k.head(), l.reading(a.objects)); err != nil {
+		r := witness.Request{Old: min(old, a.k.TreeSize), Note: a.note}
+		if r.Old < a.k.TreeSize {
+			if r.Proof, err = l.consistency(ctx, r.Old, a.k.TreeHead, l.reading(a.objects)); err != nil {
 				return "", err
 			}
 		}
@@ -218,17 +218,17 @@ func (l *Loop) cosignature(ctx context.Context, which int, a *asking) (line stri
 		switch status {
 		case http.StatusOK:
 			if line, err = cosignedLine(one.Verifier(), a.note, answer); err == nil {
-				l.witnessed[which] = a.k.Size
+				l.witnessed[which] = a.k.TreeSize
 			}
 			return line, err
 		case http.StatusConflict:
-			if old, err = lastSize(answer, r.Old, a.k.Size); err != nil {
+			if old, err = lastSize(answer, r.Old, a.k.TreeSize); err != nil {
 				return "", fmt.Errorf("node: the witness %s: %w", name, err)
 			}
 			l.witnessed[which] = old
 		case http.StatusUnprocessableEntity:
 			return "", fmt.Errorf("%w: %s refuses the proof from %d entries to %d: %.80q", ErrWitnessAhead, name, r.Old,
-				a.k.Size, answer)
+				a.k.TreeSize, answer)
 		default:
 			return "", fmt.Errorf("node: the witness %s answers %d: %.80q", name, status, answer)
 		}

@@ -10,6 +10,7 @@ import (
 	"time"
 
 	"wagtenib/internal/blob"
+	"wagtenib/internal/ct"
 	"wagtenib/internal/log/service"
 	"wagtenib/internal/log/signer"
 )
@@ -318,7 +319,7 @@ type counting struct {
 	lasts, steps, timestamps atomic.Int64
 }
 
-func (c *counting) Last(ctx context.Context) (*signer.Head, error) {
+func (c *counting) Last(ctx context.Context) (*ct.TreeHead, error) {
 	c.lasts.Add(1)
 	return c.Signer.Last(ctx)
 }

@@ -172,11 +172,11 @@ func (l *Log) Metrics() log.Metrics {
 	}
 	l.counts.fill(&f)
 	if head := l.node.Known(); head != nil {
-		f.Entries = head.Size
+		f.Entries = head.TreeSize
 		f.HeadAge = time.Duration(l.config.Machine.Clock.Now().UnixMilli()-int64(head.Timestamp)) * time.Millisecond
 	}
-	if decided := l.node.Decided(); decided.Size > f.Entries {
-		f.Unpublished = decided.Size - f.Entries
+	if decided := l.node.Decided(); decided.TreeSize > f.Entries {
+		f.Unpublished = decided.TreeSize - f.Entries
 	}
 	if err := l.node.Fault(); err != nil {
 		f.Fault = withKind(err).Error()

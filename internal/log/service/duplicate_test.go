@@ -21,12 +21,12 @@ func TestDuplicateAtNodeWhoseSignerIsBehind(t *testing.T) {
 		expected, err := first.Submit(log.Forwarded(limited(t)), entryOf(2*n+1))
 		must(t, err)
 		eventually(t, "the second node knows the head of the first", func() bool {
-			return second.Metrics().Entries > expected.LeafIndex
+			return second.Metrics().Entries > indexOf(expected)
 		})
 		place, err := second.Submit(log.Forwarded(limited(t)), entryOf(2*n+1))
 		must(t, err)
-		if place.LeafIndex != expected.LeafIndex || place.Timestamp != expected.Timestamp {
-			t.Errorf("entry %d is at %d, and its duplicate is answered with %d", 2*n+1, expected.LeafIndex, place.LeafIndex)
+		if indexOf(place) != indexOf(expected) || place.Timestamp != expected.Timestamp {
+			t.Errorf("entry %d is at %d, and its duplicate is answered with %d", 2*n+1, indexOf(expected), indexOf(place))
 		}
 	}
 }

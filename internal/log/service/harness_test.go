@@ -20,8 +20,8 @@ import (
 
 	"wagtenib/internal/audit/judge"
 	"wagtenib/internal/blob"
+	"wagtenib/internal/ct"
 	"wagtenib/internal/log"
-	"wagtenib/internal/log/chain"
 	"wagtenib/internal/log/service"
 	"wagtenib/internal/log/signer"
 	"wagtenib/internal/testkit"
@@ -135,14 +135,14 @@ func eventually(t testing.TB, what string, condition func() bool) {
 }
 
 // entryOf returns the entry with a number. Every third one is a precertificate.
-func entryOf(i int) log.Entry {
+func entryOf(i int) ct.Entry {
 	text := []byte(strings.Repeat(fmt.Sprintf("%d;", i), 1+i%40))
 	issuers := [][]byte{[]byte(fmt.Sprint("issuer ", i%5)), []byte("root")}
 	if i%3 == 0 {
-		return log.Entry{Type: chain.PrecertEntry, IssuerKeyHash: sha256.Sum256(issuers[0]), TBSCertificate: text,
+		return ct.Entry{Type: ct.PrecertEntry, IssuerKeyHash: sha256.Sum256(issuers[0]), TBSCertificate: text,
 			Precertificate: append([]byte("pre"), text...), Issuers: issuers}
 	}
-	return log.Entry{Type: chain.X509Entry, Certificate: text, Issuers: issuers}
+	return ct.Entry{Type: ct.X509Entry, Certificate: text, Issuers: issuers}
 }
 
 // answers has the answers that clients got.
@@ -151,12 +151,18 @@ type answers struct {
 	all []judge.Answer
 }
 
-func (a *answers) add(entry log.Entry, place log.Place) {
+// indexOf returns the index that an SCT names.
+func indexOf(sct ct.SCT) uint64 {
+	index, _ := sct.Index()
+	return index
+}
+
+func (a *answers) add(entry ct.Entry, place ct.SCT) {
 	a.mu.Lock()
 	defer a.mu.Unlock()
 	one := judge.Answer{Certificate: entry.Certificate, Timestamp: place.Timestamp, Extensions: place.Extensions,
 		Signature: place.Signature, LogID: place.LogID[:]}
-	if entry.Type == chain.PrecertEntry {
+	if entry.Type == ct.PrecertEntry {
 		one.IssuerKeyHash, one.TBSCertificate = entry.IssuerKeyHash[:], entry.TBSCertificate
 	}
 	a.all = append(a.all, one)

@@ -10,7 +10,7 @@ import (
 	"testing"
 
 	"wagtenib/internal/blob"
-	"wagtenib/internal/log"
+	"wagtenib/internal/ct"
 	"wagtenib/internal/log/node"
 	"wagtenib/internal/log/service"
 )
@@ -71,7 +71,7 @@ func TestRebuildIndex(t *testing.T) {
 	for _, n := range []int{0, 300, 599} {
 		place, err := l.Submit(limited(t), entryOf(n))
 		must(t, err)
-		if index, err := l.IndexOf(limited(t), leafHash(entryOf(n), place)); err != nil || index != place.LeafIndex {
+		if index, err := l.IndexOf(limited(t), leafHash(entryOf(n), place)); err != nil || index != indexOf(place) {
 			t.Errorf("%d: %v, %d", n, err, index)
 		}
 	}
@@ -98,7 +98,7 @@ func TestLogCompletesIndex(t *testing.T) {
 	p, got := newPlace(t), &answers{}
 	l := started(t, p.config())
 	got.submit(t, l, 0, 600)
-	places := map[int]log.Place{}
+	places := map[int]ct.SCT{}
 	for _, n := range []int{0, 100, 255, 256, 511, 599} {
 		place, err := l.Submit(limited(t), entryOf(n))
 		must(t, err)
@@ -115,7 +115,7 @@ func TestLogCompletesIndex(t *testing.T) {
 	l = started(t, p.config())
 	eventually(t, "each leaf is found", func() bool {
 		for n, place := range places {
-			if index, err := l.IndexOf(limited(t), leafHash(entryOf(n), place)); err != nil || index != place.LeafIndex {
+			if index, err := l.IndexOf(limited(t), leafHash(entryOf(n), place)); err != nil || index != indexOf(place) {
 				return false
 			}
 		}

@@ -13,8 +13,8 @@ import (
 	"time"
 
 	"wagtenib/internal/blob"
+	"wagtenib/internal/ct"
 	"wagtenib/internal/log"
-	"wagtenib/internal/log/chain"
 	"wagtenib/internal/log/node"
 	"wagtenib/internal/log/service"
 	"wagtenib/internal/log/signer"
@@ -42,7 +42,7 @@ func TestOneNode(t *testing.T) {
 		f.Fault != "" || f.Steps == 0 || f.Batches.Submissions != 300 || f.WrittenBytes == 0 {
 		t.Errorf("%+v %+v", head, f)
 	}
-	must(t, signer.CheckHead(p.key.Key(), signer.Head{Size: head.TreeSize, Timestamp: head.Timestamp,
+	must(t, signer.CheckHead(p.key.Key(), ct.TreeHead{TreeSize: head.TreeSize, Timestamp: head.Timestamp,
 		Root: head.RootHash}, head.Signature))
 	for _, phase := range f.Phases {
 		if phase.Count == 0 && phase.Name != "delete" {
@@ -67,8 +67,8 @@ func TestIndexOf(t *testing.T) {
 		must(t, err)
 		found, err := l.IndexOf(limited(t), leafHash(entryOf(n), place))
 		must(t, err)
-		if found != place.LeafIndex {
-			t.Errorf("leaf %d is found at %d", place.LeafIndex, found)
+		if found != indexOf(place) {
+			t.Errorf("leaf %d is found at %d", indexOf(place), found)
 		}
 	}
 	_, err := l.IndexOf(limited(t), sha256.Sum256([]byte("no leaf")))
@@ -76,11 +76,11 @@ func TestIndexOf(t *testing.T) {
 }
 
 // leafHash returns the hash of an entry's MerkleTreeLeaf (RFC 6962, sections 2.1 and 3.4).
-func leafHash(of log.Entry, at log.Place) [32]byte {
+func leafHash(of ct.Entry, at ct.SCT) [32]byte {
 	leaf := append([]byte{0, 0, 0}, binary.BigEndian.AppendUint64(nil, at.Timestamp)...)
 	leaf = append(leaf, byte(of.Type>>8), byte(of.Type))
 	content := of.Certificate
-	if of.Type == chain.PrecertEntry {
+	if of.Type == ct.PrecertEntry {
 		leaf, content = append(leaf, of.IssuerKeyHash[:]...), of.TBSCertificate
 	}
 	leaf = append(leaf, byte(len(content)>>16), byte(len(content)>>8), byte(len(content)))

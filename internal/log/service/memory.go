@@ -7,8 +7,8 @@ import (
 	"fmt"
 
 	"wagtenib/internal/blob"
+	"wagtenib/internal/ct"
 	"wagtenib/internal/log/node"
-	"wagtenib/internal/log/signer"
 )
 
 // memory keeps the newest head that this machine accepted in a file of this machine.
@@ -19,14 +19,12 @@ type memory struct {
 
 // latestHead is the content of that file in JSON: a tree head with the field names of get-sth (RFC 6962, section 4.3).
 type latestHead struct {
-	LogID     []byte `json:"log_id"`
-	RootHash  []byte `json:"sha256_root_hash"`
-	Timestamp uint64 `json:"timestamp"`
-	TreeSize  uint64 `json:"tree_size"`
+	LogID []byte `json:"log_id"`
+	*ct.HeadJSON
 }
 
 // Load returns the head in the file. It returns nil if there is no file.
-func (m memory) Load(context.Context) (*signer.Head, error) {
+func (m memory) Load(context.Context) (*ct.TreeHead, error) {
 	if m.path == "" {
 		return nil, nil
 	}
@@ -38,22 +36,24 @@ func (m memory) Load(context.Context) (*signer.Head, error) {
 		return nil, fmt.Errorf("serve: the latest head: %w", err)
 	}
 	var read latestHead
-	if err := json.Unmarshal(content, &read); err != nil || len(read.RootHash) != 32 || len(read.LogID) != 32 {
+	err = json.Unmarshal(content, &read)
+	head, malformed := read.Head()
+	if err != nil || malformed != nil || head == nil || len(read.LogID) != 32 {
 		return nil, fmt.Errorf("%w: %s has no tree head: %.80q", node.ErrDamaged, m.path, content)
 	}
 	if [32]byte(read.LogID) != m.logID {
 		return nil, fmt.Errorf("%w: %s has a head of a log with another key (name another file with --latest-head)",
 			node.ErrConfig, m.path)
 	}
-	return &signer.Head{Size: read.TreeSize, Timestamp: read.Timestamp, Root: [32]byte(read.RootHash)}, nil
+	return head, nil
 }
 
 // Save replaces the file. It returns after the file was synced to the disk.
-func (m memory) Save(_ context.Context, head signer.Head) error {
+func (m memory) Save(_ context.Context, head ct.TreeHead) error {
 	if m.path == "" {
 		return nil
 	}
-	content, err := json.Marshal(latestHead{m.logID[:], head.Root[:], head.Timestamp, head.Size})
+	content, err := json.Marshal(latestHead{m.logID[:], ct.NewHeadJSON(&head)})
 	if err != nil {
 		return fmt.Errorf("serve: the latest head: %w", err)
 	}

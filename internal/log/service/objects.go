@@ -9,9 +9,9 @@ import (
 	"golang.org/x/mod/sumdb/tlog"
 
 	"wagtenib/internal/blob"
+	"wagtenib/internal/ct"
 	"wagtenib/internal/log"
 	"wagtenib/internal/log/node"
-	"wagtenib/internal/log/signer"
 	"wagtenib/internal/tiles"
 )
 
@@ -19,7 +19,7 @@ import (
 // to the head's root. If a tile of the newest head's tree is missing or differs from that tree, that is a fault of the
 // store, and the tile counts as damaged. A partial tile is compared only while the node's fault is node.ErrDamaged.
 func (l *Log) Object(ctx context.Context, name string, maxBytes int64) ([]byte, error) {
-	if !strings.HasPrefix(name, tiles.Prefix) && !strings.HasPrefix(name, issuersPrefix) {
+	if !strings.HasPrefix(name, ct.TilePrefix) && !strings.HasPrefix(name, issuersPrefix) {
 		return nil, fmt.Errorf("%w: %.80q is not published", blob.ErrName, name)
 	}
 	content, err := l.stored(ctx, name, maxBytes)
@@ -27,17 +27,17 @@ func (l *Log) Object(ctx context.Context, name string, maxBytes int64) ([]byte, 
 	if err != nil && !isMissing {
 		return nil, err
 	}
-	of, isTile := tiles.Parse(name)
-	if !isTile || !isMissing && of.W < tiles.Width && !errors.Is(l.node.Fault(), node.ErrDamaged) {
+	of, isTile := ct.ParseTile(name)
+	if !isTile || !isMissing && of.W < ct.TileWidth && !errors.Is(l.node.Fault(), node.ErrDamaged) {
 		return content, err
 	}
 	head, err := l.headWith(ctx, of)
 	switch {
 	case err != nil:
 		return nil, err
-	case tiles.WidthIn(of, head.Size) == of.W:
+	case tiles.WidthIn(of, head.TreeSize) == of.W:
 		return l.compared(ctx, name, head, content, isMissing)
-	case isMissing || of.W == tiles.Width:
+	case isMissing || of.W == ct.TileWidth:
 		return nil, fmt.Errorf("stores: %s: %w", name, blob.ErrAbsent)
 	}
 	// The tree has a wider tile than this one, or none.
@@ -60,14 +60,14 @@ func (l *Log) stored(ctx context.Context, name string, maxBytes int64) ([]byte, 
 // compared returns the content of a tile after comparing it with a head's tree. If it differs, or if the tile is
 // missing, that is a fault of the store, and compared notes a damaged full tile for the janitor.
 func (l *Log) compared(
-	ctx context.Context, name string, head signer.Head, content []byte, isMissing bool,
+	ctx context.Context, name string, head ct.TreeHead, content []byte, isMissing bool,
 ) ([]byte, error) {
-	of, _ := tiles.Parse(name)
+	of, _ := ct.ParseTile(name)
 	err := fmt.Errorf("%w: %s is missing (put it back from a backup)", tiles.ErrDamaged, name)
 	if !isMissing {
 		err = l.comparer.Compare(ctx, head, of, content)
 	}
-	if errors.Is(err, tiles.ErrDamaged) && of.W == tiles.Width {
+	if errors.Is(err, tiles.ErrDamaged) && of.W == ct.TileWidth {
 		l.janitor.Note(tiles.FirstOf(of), err)
 	}
 	if err != nil {
@@ -78,12 +78,12 @@ func (l *Log) compared(
 
 // headWith returns the newest published head that this node knows. If that does not have the whole tile, headWith reads
 // the newest one.
-func (l *Log) headWith(ctx context.Context, of tlog.Tile) (signer.Head, error) {
-	if now := l.node.Known(); now != nil && tiles.WidthIn(of, now.Size) >= of.W {
-		return now.Head, nil
+func (l *Log) headWith(ctx context.Context, of tlog.Tile) (ct.TreeHead, error) {
+	if now := l.node.Known(); now != nil && tiles.WidthIn(of, now.TreeSize) >= of.W {
+		return now.TreeHead, nil
 	}
 	head, err := l.Checkpoint(ctx)
-	return signer.Head{Size: head.TreeSize, Timestamp: head.Timestamp, Root: head.RootHash}, err
+	return ct.TreeHead{TreeSize: head.TreeSize, Timestamp: head.Timestamp, Root: head.RootHash}, err
 }
 
 // read reads an object of the log from the store, within patience.

@@ -9,12 +9,12 @@ import (
 	"time"
 
 	"wagtenib/internal/blob"
+	"wagtenib/internal/ct"
 	"wagtenib/internal/log/chain"
 	"wagtenib/internal/log/httpd"
 	"wagtenib/internal/log/node"
 	"wagtenib/internal/log/node/step"
 	"wagtenib/internal/testkit"
-	"wagtenib/internal/tiles"
 )
 
 // These are the defaults of ctserve's settings that the pages state.
@@ -42,19 +42,19 @@ func TestPageSaysBounds(t *testing.T) {
 		"Waiting clients get an error after five seconds": patience == 5*time.Second,
 		"If too few witnesses answer (5 s each)":          cosignWithin == 5*time.Second,
 		"one data tile a second is enough for 1.5 x 10^8 entries, and " +
-			"16 (the maximum) for 2.5 x 10^9": scrub == time.Second && week/time.Second*tiles.Width/1e7 == 15 &&
-			week/time.Second*tiles.Width*again/1e8 == 24,
+			"16 (the maximum) for 2.5 x 10^9": scrub == time.Second && week/time.Second*ct.TileWidth/1e7 == 15 &&
+			week/time.Second*ct.TileWidth*again/1e8 == 24,
 	})
 	// overhead is the number of bytes of a leaf in a data tile besides those that count for MaxEntry, and largest the
 	// size of a tile of the largest entries.
 	const overhead = 10 + 32 + 2*3 + 2 + 8 + 2 + 32*chain.MaxCertificates
-	largest, answers := int64(tiles.Width*(MaxEntry+overhead)), httpd.DefaultLimits().AnswerBytes
+	largest, answers := int64(ct.TileWidth*(MaxEntry+overhead)), httpd.DefaultLimits().AnswerBytes
 	ofOne := max(answers/8, blob.MaxObject+1<<20)
 	// Half of the written bytes are partial tiles. They may stay for twice the time for which they must stay.
 	partials := float64(maxWritten) / 2 * 2 * keepTiles.Seconds()
 	testkit.Says(t, testkit.Page(t, "../../../docs/SERVICE.md"), map[string]bool{
 		"An entry has at most 128 KiB because a step holds 255 of them, in the partial data tile, beside 12 MiB of " +
-			"new ones": MaxEntry == 128<<10 && tiles.Width-1 == 255 && MaxBatchBytes == 12<<20,
+			"new ones": MaxEntry == 128<<10 && ct.TileWidth-1 == 255 && MaxBatchBytes == 12<<20,
 		"So a data tile has at most 34 MB. Answers hold at most 15 of " +
 			"these at once, and two for one address": math.Round(float64(largest)/1e6) == 34 && largest < blob.MaxObject &&
 			answers/largest == 15 && ofOne/largest == 2,

@@ -16,6 +16,7 @@ import (
 	"time"
 
 	"wagtenib/internal/blob"
+	"wagtenib/internal/ct"
 	"wagtenib/internal/log/node"
 	"wagtenib/internal/log/service"
 	"wagtenib/internal/log/signer"
@@ -35,7 +36,7 @@ func signedAgain(key *signer.Key, content []byte, size, timestamp uint64) ([]byt
 	if err != nil {
 		return nil, err
 	}
-	signed, err := key.SignHead(context.Background(), signer.Head{Size: size, Timestamp: timestamp,
+	signed, err := key.SignHead(context.Background(), ct.TreeHead{TreeSize: size, Timestamp: timestamp,
 		Root: [32]byte(root)}, nil)
 	if err != nil {
 		return nil, err
@@ -279,7 +280,7 @@ func TestRefusesStartIfOneWitnessIsAhead(t *testing.T) {
 	p.witnessed(&config)
 	p.witnessed(&config)
 	config.Quorums = witness.Quorums{Publish: 2, Start: 2}
-	seen := signer.Head{Size: 10, Timestamp: uint64(time.Now().UnixMilli()), Root: sha256.Sum256([]byte("ten"))}
+	seen := ct.TreeHead{TreeSize: 10, Timestamp: uint64(time.Now().UnixMilli()), Root: sha256.Sum256([]byte("ten"))}
 	signed, err := p.key.SignHead(limited(t), seen, nil)
 	must(t, err)
 	verifier := witness.OfRFC6962(config.Origin, p.key.Key())

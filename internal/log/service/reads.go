@@ -108,7 +108,7 @@ func (l *Log) newest(ctx context.Context) (log.Head, error) {
 
 // HeadOf implements log.Log. A request below a head that this node knows does not wait for the lock.
 func (l *Log) HeadOf(ctx context.Context, entries uint64) (log.Head, error) {
-	if now := l.node.Known(); now != nil && now.Size >= entries {
+	if now := l.node.Known(); now != nil && now.TreeSize >= entries {
 		return l.headOf(*now)
 	}
 	return l.Checkpoint(ctx)
@@ -120,7 +120,7 @@ func (l *Log) headOf(head node.Head) (log.Head, error) {
 	if err != nil {
 		return log.Head{}, fault{log.ErrStore, err}
 	}
-	return log.Head{Note: head.Note, TreeSize: head.Size, Timestamp: head.Timestamp, RootHash: head.Root,
+	return log.Head{Note: head.Note, TreeSize: head.TreeSize, Timestamp: head.Timestamp, RootHash: head.Root,
 		Signature: signature}, nil
 }
 

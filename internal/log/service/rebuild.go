@@ -10,8 +10,8 @@ import (
 
 	"wagtenib/bindings/go/wagtenib"
 	"wagtenib/internal/blob"
+	"wagtenib/internal/ct"
 	"wagtenib/internal/log/node"
-	"wagtenib/internal/log/signer"
 	"wagtenib/internal/tiles"
 )
 
@@ -34,12 +34,12 @@ func RebuildIndex(ctx context.Context, of Stores, report func(left uint64)) erro
 	if err := restoreID(ctx, of); err != nil {
 		return err
 	}
-	return rebuild(ctx, of, head, head.Size, report)
+	return rebuild(ctx, of, head, head.TreeSize, report)
 }
 
 // publishedHead returns the newest published head. That is the head of the newest state, or if that is not published
 // yet, the head in the store that the lock names. A node that starts adds the entries after it.
-func publishedHead(ctx context.Context, of Stores) (head signer.Head, err error) {
+func publishedHead(ctx context.Context, of Stores) (head ct.TreeHead, err error) {
 	text, err := of.Lock.Read(ctx)
 	if err != nil {
 		return head, fmt.Errorf("serve: the lock: %w", err)
@@ -52,7 +52,7 @@ func publishedHead(ctx context.Context, of Stores) (head signer.Head, err error)
 	if err != nil {
 		return head, fmt.Errorf("serve: the lock: %w", err)
 	}
-	if !published.Before(blob.Published{Size: newest.Size, Timestamp: newest.Timestamp}) {
+	if !published.Before(blob.Published{Size: newest.TreeSize, Timestamp: newest.Timestamp}) {
 		return newest, nil
 	}
 	if published.Size == 0 {
@@ -69,17 +69,17 @@ func publishedHead(ctx context.Context, of Stores) (head signer.Head, err error)
 	if err != nil || checkpoint.TreeSize != published.Size {
 		return head, fmt.Errorf("%w: %s", node.ErrDamaged, name)
 	}
-	return signer.Head{Size: published.Size, Timestamp: published.Timestamp, Root: checkpoint.Root}, nil
+	return ct.TreeHead{TreeSize: published.Size, Timestamp: published.Timestamp, Root: checkpoint.Root}, nil
 }
 
 // rebuild sets the places of the entries with an index below a number, the newest tile first.
-func rebuild(ctx context.Context, of Stores, head signer.Head, below uint64, report func(left uint64)) error {
+func rebuild(ctx context.Context, of Stores, head ct.TreeHead, below uint64, report func(left uint64)) error {
 	read := tiles.Stored(func(ctx context.Context, name string) ([]byte, error) {
 		return of.Objects.Get(ctx, name, blob.MaxObject)
 	})
-	for number := (below + tiles.Width - 1) / tiles.Width; number > 0; number-- {
-		left := (number - 1) * tiles.Width
-		leaves, err := tiles.LeavesOf(ctx, tiles.Data(left, head.Size), head, read)
+	for number := (below + ct.TileWidth - 1) / ct.TileWidth; number > 0; number-- {
+		left := (number - 1) * ct.TileWidth
+		leaves, err := tiles.LeavesOf(ctx, ct.DataTile(left, head.TreeSize), head, read)
 		if err != nil {
 			return err
 		}
@@ -130,8 +130,8 @@ func (l *Log) completeIndexOnce(ctx context.Context) error {
 		return err
 	}
 	now := l.node.Snapshot()
-	if now == nil || now.Head.Size < left {
+	if now == nil || now.Head.TreeSize < left {
 		return errors.New("no head is published yet")
 	}
-	return rebuild(ctx, l.config.Stores, now.Head.Head, left, func(uint64) {})
+	return rebuild(ctx, l.config.Stores, now.Head.TreeHead, left, func(uint64) {})
 }

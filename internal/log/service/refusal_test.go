@@ -9,6 +9,7 @@ import (
 	"testing"
 
 	"wagtenib/internal/blob"
+	"wagtenib/internal/ct"
 	"wagtenib/internal/log/signer"
 )
 
@@ -35,7 +36,7 @@ type laterSigner struct {
 	refuses atomic.Bool
 }
 
-func (s *laterSigner) SignHead(ctx context.Context, head signer.Head, proof [][32]byte) ([]byte, error) {
+func (s *laterSigner) SignHead(ctx context.Context, head ct.TreeHead, proof [][32]byte) ([]byte, error) {
 	if s.refuses.Load() {
 		s.lock.isAway.Store(true)
 		return nil, fmt.Errorf("%w: size-falls", signer.ErrRefused)

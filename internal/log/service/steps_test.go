@@ -13,13 +13,13 @@ import (
 	"time"
 
 	"wagtenib/internal/blob"
-	"wagtenib/internal/log"
+	"wagtenib/internal/ct"
 	"wagtenib/internal/log/node"
 	"wagtenib/internal/log/service"
 )
 
 // identityOf returns the identity of a certificate's entry: SHA-256 over the entry type and the certificate.
-func identityOf(entry log.Entry) blob.Identity {
+func identityOf(entry ct.Entry) blob.Identity {
 	return sha256.Sum256(append([]byte{0, 0}, entry.Certificate...))
 }
 

@@ -9,6 +9,7 @@ import (
 	"runtime"
 	"sync/atomic"
 	"time"
+	"wagtenib/internal/ct"
 )
 
 // maxVerified is how many timestamps a node verifies in a second, for each processor. Verifying one takes about 0.1 ms,
@@ -135,10 +136,10 @@ func (c *Client) Key() []byte { return append([]byte{}, c.key...) }
 func (c *Client) IsGuarded() bool { return c.guarded }
 
 // Last returns the head that the guard approved last, as Signer says.
-func (c *Client) Last(ctx context.Context) (*Head, error) {
-	var last *Head
+func (c *Client) Last(ctx context.Context) (*ct.TreeHead, error) {
+	var last *ct.TreeHead
 	err := c.exchange(ctx, request{Last: true}, func(rep reply) (err error) {
-		if last, err = rep.Last.head(); err != nil {
+		if last, err = rep.Last.Head(); err != nil {
 			return fmt.Errorf("%w: %v", ErrReply, err)
 		}
 		return nil
@@ -150,11 +151,11 @@ func (c *Client) Last(ctx context.Context) (*Head, error) {
 }
 
 // SignHead returns the signature of a head, as Signer says.
-func (c *Client) SignHead(ctx context.Context, head Head, consistency [][32]byte) ([]byte, error) {
+func (c *Client) SignHead(ctx context.Context, head ct.TreeHead, consistency [][32]byte) ([]byte, error) {
 	var signature []byte
-	req := request{Head: headLineOf(&head), Consistency: hashBytes(consistency)}
+	req := request{Head: ct.NewHeadJSON(&head), Consistency: hashBytes(consistency)}
 	err := c.exchange(ctx, req, func(rep reply) error {
-		if err := c.verify(ctx, rep.Signatures, [][]byte{head.message()}, []int{0}); err != nil {
+		if err := c.verify(ctx, rep.Signatures, [][]byte{messageOf(head)}, []int{0}); err != nil {
 			return err
 		}
 		signature = rep.Signatures[0]

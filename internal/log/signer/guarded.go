@@ -8,6 +8,7 @@ import (
 	"time"
 
 	"wagtenib/internal/blob"
+	"wagtenib/internal/ct"
 )
 
 const (
@@ -107,7 +108,7 @@ func (g *Guarded) currentState(ctx context.Context) (State, error) {
 // maxAhead returns how far a head's timestamp may be after the last one's, in milliseconds. A head that is not ahead of
 // this machine's clock may be as far as its timestamp says, since the log may have been stopped. A head that is ahead
 // of it may have been made by a wrong clock, so it may be an hour after the last one.
-func maxAhead(head Head) uint64 {
+func maxAhead(head ct.TreeHead) uint64 {
 	if now := time.Now().Add(maxSkew).UnixMilli(); now < 0 || head.Timestamp > uint64(now) {
 		return maxAheadOfClock
 	}
@@ -139,7 +140,7 @@ func (g *Guarded) Key() []byte { return g.key.Key() }
 func (g *Guarded) IsGuarded() bool { return true }
 
 // Last returns the head in the lock now.
-func (g *Guarded) Last(ctx context.Context) (*Head, error) {
+func (g *Guarded) Last(ctx context.Context) (*ct.TreeHead, error) {
 	if err := g.takeTurn(ctx); err != nil {
 		return nil, err
 	}
@@ -150,7 +151,7 @@ func (g *Guarded) Last(ctx context.Context) (*Head, error) {
 
 // stateBefore returns the state from which the guard judges a head. If the log's first head has leaves, stateBefore
 // first stores the state after the head of the empty tree, which nobody signs.
-func (g *Guarded) stateBefore(ctx context.Context, head Head) (State, error) {
+func (g *Guarded) stateBefore(ctx context.Context, head ct.TreeHead) (State, error) {
 	state, err := g.currentState(ctx)
 	if err != nil || !state.MustBegin(head) {
 		return state, err
@@ -168,7 +169,7 @@ func (g *Guarded) stateBefore(ctx context.Context, head Head) (State, error) {
 
 // SignHead returns the signature of a head, as Signer says. The lock has the new state before the head is signed.
 // If the process ends in between, the head is approved but not signed.
-func (g *Guarded) SignHead(ctx context.Context, head Head, consistency [][32]byte) ([]byte, error) {
+func (g *Guarded) SignHead(ctx context.Context, head ct.TreeHead, consistency [][32]byte) ([]byte, error) {
 	if err := g.takeTurn(ctx); err != nil {
 		return nil, err
 	}

@@ -3,6 +3,7 @@ package signer
 import (
 	"testing"
 	"time"
+	"wagtenib/internal/ct"
 )
 
 // TestHeads asks for heads that follow each other, and between them for forks, older heads and heads with false proofs.
@@ -66,14 +67,14 @@ func TestTimestampTooFar(t *testing.T) {
 			must(t, err)
 			before := 0
 			if last != nil {
-				before = int(last.Size)
+				before = int(last.TreeSize)
 			}
 			head := right.head(t, one.size, one.timestamp)
 			signed, err := s.SignHead(ctx, head, right.proof(t, before, one.size))
 			must(t, err)
 			must(t, CheckHead(key.Key(), head, signed))
 		}
-		for _, head := range []Head{right.head(t, 20, now+2*hour+1), right.head(t, 9, now+2*hour+1),
+		for _, head := range []ct.TreeHead{right.head(t, 20, now+2*hour+1), right.head(t, 9, now+2*hour+1),
 			right.head(t, 8, 1<<63), fork.head(t, 9, now+3*hour)} {
 			_, err := s.SignHead(ctx, head, right.proof(t, 9, 20))
 			wantRefusal(t, "timestamp-too-far", err)
@@ -118,7 +119,7 @@ func TestTimestamps(t *testing.T) {
 			"a leaf that comes later":         {right.receipt(t, 295, 300), "not-there"},
 			"a leaf at another index":         {moved, "not-there"},
 			"a leaf without a path":           {Receipt{all[7].Leaf, 7, nil}, "not-there"},
-			"a head's bytes":                  {Receipt{head.message(), 7, all[7].Path}, "no-leaf"},
+			"a head's bytes":                  {Receipt{messageOf(head), 7, all[7].Path}, "no-leaf"},
 			"the path in another head's tree": {right.receipt(t, 100, 300), "not-there"},
 		} {
 			signatures, err := s.SignTimestamps(ctx, append(append([]Receipt{}, all[:5]...), wrong.receipt, all[20]))

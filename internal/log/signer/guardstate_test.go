@@ -12,6 +12,7 @@ import (
 	"time"
 
 	"wagtenib/internal/blob"
+	"wagtenib/internal/ct"
 	"wagtenib/internal/testkit"
 	"wagtenib/internal/testkit/unknownoutcome"
 )
@@ -71,8 +72,8 @@ func TestRefusesRolledBackState(t *testing.T) {
 	must(t, err)
 	newest, err := os.ReadFile(text)
 	must(t, err)
-	for _, state := range []string{string(old), none, textOf(&Head{5, 50, [32]byte{1}}),
-		textOf(&Head{4, 60, [32]byte{}}), strings.Replace(string(newest), ":", ": ", 1)} {
+	for _, state := range []string{string(old), none, textOf(&ct.TreeHead{TreeSize: 5, Timestamp: 50, Root: [32]byte{1}}),
+		textOf(&ct.TreeHead{TreeSize: 4, Timestamp: 60, Root: [32]byte{}}), strings.Replace(string(newest), ":", ": ", 1)} {
 		must(t, blob.KeepFile(text, []byte(state)))
 		if _, err := g.Last(ctx); !errors.Is(err, ErrState) {
 			t.Errorf("%s: %v", state, err)
@@ -171,7 +172,7 @@ func TestFailedSwap(t *testing.T) {
 		// A leaf of the head that was not stored.
 		_, err = g.SignTimestamps(ctx, []Receipt{right.receipt(t, 7, 8)})
 		wantRefusal(t, "not-there", err)
-		if last, err := g.Last(ctx); err != nil || last.Size != 4 {
+		if last, err := g.Last(ctx); err != nil || last.TreeSize != 4 {
 			t.Errorf("%+v, %v", last, err)
 		}
 	}
@@ -216,7 +217,7 @@ func TestSignsNothingForMisreadLock(t *testing.T) {
 		must(t, err)
 		from := 0
 		if last != nil {
-			from = int(last.Size)
+			from = int(last.TreeSize)
 		}
 		for _, l := range []*list{right, fork} {
 			signed, err := g.SignHead(ctx, l.head(t, 20, 104), l.proof(t, from, 20))
@@ -291,7 +292,7 @@ func TestUnreadStates(t *testing.T) {
 			}
 		}
 		state.set(nil)
-		if last, err := s.Last(ctx); err != nil || last.Size != uint64(size) {
+		if last, err := s.Last(ctx); err != nil || last.TreeSize != uint64(size) {
 			t.Errorf("%+v, %v", last, err)
 		}
 	}

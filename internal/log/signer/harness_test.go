@@ -16,6 +16,7 @@ import (
 	"golang.org/x/mod/sumdb/tlog"
 
 	"wagtenib/internal/blob"
+	"wagtenib/internal/ct"
 	"wagtenib/internal/testkit"
 )
 
@@ -34,12 +35,12 @@ func wantRefusal(t testing.TB, name string, err error) {
 const none = `{"guard":1,"last":null}`
 
 // textOf returns the text of a guard's state, as existing locks contain it.
-func textOf(last *Head) string {
+func textOf(last *ct.TreeHead) string {
 	if last == nil {
 		return none
 	}
 	return fmt.Sprintf(`{"guard":1,"last":{"sha256_root_hash":"%s","timestamp":%d,"tree_size":%d}}`,
-		base64.StdEncoding.EncodeToString(last.Root[:]), last.Timestamp, last.Size)
+		base64.StdEncoding.EncodeToString(last.Root[:]), last.Timestamp, last.TreeSize)
 }
 
 // lockText returns the text in the lock of a guard's state.
@@ -116,7 +117,7 @@ func listOf(t testing.TB, size, same int) *list {
 	return l
 }
 
-func (l *list) head(t testing.TB, size int, timestamp uint64) Head {
+func (l *list) head(t testing.TB, size int, timestamp uint64) ct.TreeHead {
 	root, err := tlog.TreeHash(int64(size), l)
 	must(t, err)
 	if size == 0 {
@@ -124,7 +125,7 @@ func (l *list) head(t testing.TB, size int, timestamp uint64) Head {
 		root, err = tlog.ParseHash("47DEQpj8HBSa+/TImW+5JCeuQeRkm5NMpJWZG3hSuFU=")
 		must(t, err)
 	}
-	return Head{uint64(size), timestamp, root}
+	return ct.TreeHead{TreeSize: uint64(size), Timestamp: timestamp, Root: root}
 }
 
 func (l *list) proof(t testing.TB, from, to int) (proof [][32]byte) {

@@ -18,6 +18,7 @@ import (
 	"golang.org/x/sync/errgroup"
 
 	"wagtenib/internal/command/privatefile"
+	"wagtenib/internal/ct"
 )
 
 // maxKeyFile is the maximum size of a key's file in bytes.
@@ -130,14 +131,14 @@ func (k *Key) Key() []byte { return append([]byte{}, k.public...) }
 func (k *Key) IsGuarded() bool { return false }
 
 // Last returns nil: a key keeps no head.
-func (k *Key) Last(context.Context) (*Head, error) { return nil, nil }
+func (k *Key) Last(context.Context) (*ct.TreeHead, error) { return nil, nil }
 
 // SignHead returns the signature of a head, as Signer says. It ignores the proof.
-func (k *Key) SignHead(ctx context.Context, head Head, _ [][32]byte) ([]byte, error) {
+func (k *Key) SignHead(ctx context.Context, head ct.TreeHead, _ [][32]byte) ([]byte, error) {
 	if err := ctx.Err(); err != nil {
 		return nil, fmt.Errorf("signer: %w", err)
 	}
-	return k.sign(head.message())
+	return k.sign(messageOf(head))
 }
 
 // SignStep returns the signatures of a step's timestamps, as Signer says. It checks neither leaves nor subtrees.

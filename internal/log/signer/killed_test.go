@@ -13,6 +13,7 @@ import (
 	"testing"
 
 	"wagtenib/internal/blob"
+	"wagtenib/internal/ct"
 )
 
 // childTask is the environment variable with the task of a child process, in JSON.
@@ -74,7 +75,7 @@ func runChild(task string) error {
 		}
 		size, from, timestamp := 1, 0, uint64(1)
 		if last != nil {
-			from, timestamp = int(last.Size), last.Timestamp+uint64(random.Intn(2))
+			from, timestamp = int(last.TreeSize), last.Timestamp+uint64(random.Intn(2))
 			size = from + random.Intn(4)
 		}
 		if size > 64 {
@@ -84,7 +85,7 @@ func runChild(task string) error {
 		head := l.head(t, size, timestamp)
 		signed, err := g.SignHead(ctx, head, l.proof(t, from, size))
 		if err == nil {
-			line, _ := json.Marshal(map[string]any{"head": headLineOf(&head), "signed": signed})
+			line, _ := json.Marshal(map[string]any{"head": ct.NewHeadJSON(&head), "signed": signed})
 			fmt.Printf("%s\n", line)
 		} else if !errors.Is(err, ErrRefused) {
 			return err
@@ -107,7 +108,7 @@ func TestSignsOneListDespiteKills(t *testing.T) {
 			must(t, os.WriteFile(filepath.Join(folder, "key.pem"), key.pem(t), 0o600))
 			lists := []*list{listOf(t, 64, 64), listOf(t, 64, 0), listOf(t, 64, 20)}
 			type signedHead struct {
-				Head   *headLine
+				Head   *ct.HeadJSON
 				Signed []byte
 			}
 			var all []signedHead
@@ -138,10 +139,10 @@ func TestSignsOneListDespiteKills(t *testing.T) {
 			for i, l := range lists {
 				fits[i] = true
 				for _, one := range all {
-					head, err := one.Head.head()
+					head, err := one.Head.Head()
 					must(t, err)
 					must(t, CheckHead(key.Key(), *head, one.Signed))
-					fits[i] = fits[i] && l.head(t, int(head.Size), head.Timestamp) == *head
+					fits[i] = fits[i] && l.head(t, int(head.TreeSize), head.Timestamp) == *head
 				}
 			}
 			if !fits[0] && !fits[1] && !fits[2] {

@@ -9,6 +9,7 @@ import (
 	"time"
 
 	"wagtenib/internal/blob"
+	"wagtenib/internal/ct"
 )
 
 // countingLock is a lock that counts its calls. The function before is called before each call, which fails with its
@@ -106,7 +107,7 @@ func TestFaultyState(t *testing.T) {
 			size += 2
 		}
 		last, err := g.Last(ctx)
-		if must(t, err); last == nil || last.Size != uint64(size) {
+		if must(t, err); last == nil || last.TreeSize != uint64(size) {
 			t.Errorf("%s: the last head is %+v afterwards", test.what, last)
 		}
 	}
@@ -184,7 +185,7 @@ func TestKeyWithAnEndedContext(t *testing.T) {
 	gone, cancel := context.WithCancel(context.Background())
 	cancel()
 	key := newKey(t)
-	if signed, err := key.SignHead(gone, Head{Size: 1, Timestamp: 1}, nil); !errors.Is(err, context.Canceled) ||
+	if signed, err := key.SignHead(gone, ct.TreeHead{TreeSize: 1, Timestamp: 1}, nil); !errors.Is(err, context.Canceled) ||
 		signed != nil {
 		t.Errorf("a head: %v", err)
 	}
@@ -200,12 +201,12 @@ func TestMaxAhead(t *testing.T) {
 	t.Parallel()
 	now := uint64(time.Now().UnixMilli())
 	for _, timestamp := range []uint64{0, 1, now - 86_400_000, now, now + 30_000} {
-		if max := maxAhead(Head{Timestamp: timestamp}); max != timestamp {
+		if max := maxAhead(ct.TreeHead{Timestamp: timestamp}); max != timestamp {
 			t.Errorf("at %d, a head of %d may be %d ahead", now, timestamp, max)
 		}
 	}
 	for _, timestamp := range []uint64{now + 120_000 + 60_000, now + 3_600_000, 1 << 62, 1 << 63, 1<<64 - 1} {
-		if max := maxAhead(Head{Timestamp: timestamp}); max != 3_600_000 {
+		if max := maxAhead(ct.TreeHead{Timestamp: timestamp}); max != 3_600_000 {
 			t.Errorf("at %d a head of %d may be %d ahead", now, timestamp, max)
 		}
 	}

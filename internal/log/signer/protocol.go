@@ -8,6 +8,7 @@ import (
 	"fmt"
 	"io"
 	"time"
+	"wagtenib/internal/ct"
 )
 
 // A signer in a process of its own answers lines. Each request and each reply is one line with one JSON object.
@@ -22,10 +23,10 @@ const (
 // request asks for one thing: the key, the last head, the signature of a head, or the signatures of a step's timestamps
 // or of any timestamps.
 type request struct {
-	Open        bool      `json:"open,omitempty"`
-	Last        bool      `json:"last,omitempty"`
-	Head        *headLine `json:"head,omitempty"`
-	Consistency [][]byte  `json:"consistency,omitempty"`
+	Open        bool         `json:"open,omitempty"`
+	Last        bool         `json:"last,omitempty"`
+	Head        *ct.HeadJSON `json:"head,omitempty"`
+	Consistency [][]byte     `json:"consistency,omitempty"`
 	// Step is written by appendStep.
 	Step     *stepLine     `json:"step,omitempty"`
 	Receipts []receiptLine `json:"receipts,omitempty"`
@@ -45,12 +46,12 @@ type receiptLine struct {
 
 // reply holds the answer to a request, or the reason why there is none.
 type reply struct {
-	Key        []byte    `json:"key,omitempty"`
-	Guarded    bool      `json:"guarded,omitempty"`
-	Last       *headLine `json:"last,omitempty"`
-	Signatures [][]byte  `json:"signatures,omitempty"`
-	Refused    string    `json:"refused,omitempty"`
-	Fault      string    `json:"fault,omitempty"`
+	Key        []byte       `json:"key,omitempty"`
+	Guarded    bool         `json:"guarded,omitempty"`
+	Last       *ct.HeadJSON `json:"last,omitempty"`
+	Signatures [][]byte     `json:"signatures,omitempty"`
+	Refused    string       `json:"refused,omitempty"`
+	Fault      string       `json:"fault,omitempty"`
 	// Failed is the text of any other error. Moved is whether it is ErrMoved, and BadState whether it is ErrState.
 	Failed   string `json:"failed,omitempty"`
 	Moved    bool   `json:"moved,omitempty"`
@@ -91,9 +92,9 @@ func answer(ctx context.Context, s Signer, line []byte) (reply, error) {
 		return reply{Key: s.Key(), Guarded: s.IsGuarded()}, nil
 	case req.Last:
 		last, err := s.Last(ctx)
-		return reply{Last: headLineOf(last)}, err
+		return reply{Last: ct.NewHeadJSON(last)}, err
 	case req.Head != nil:
-		head, err := req.Head.head()
+		head, err := req.Head.Head()
 		if err != nil {
 			return reply{}, fmt.Errorf("%w: %v", ErrReply, err)
 		}

@@ -17,6 +17,7 @@ import (
 	"testing/iotest"
 	"time"
 
+	"wagtenib/internal/ct"
 	"wagtenib/internal/testkit"
 )
 
@@ -173,7 +174,7 @@ func TestRefusalThroughASocket(t *testing.T) {
 	c, err := NewClient(ctx, func(ctx context.Context) (*Peer, error) { return Dial(ctx, path) }, testkit.Longest)
 	must(t, err)
 	defer c.Close()
-	_, err = c.SignHead(ctx, Head{Size: 1, Timestamp: 1}, nil)
+	_, err = c.SignHead(ctx, ct.TreeHead{TreeSize: 1, Timestamp: 1}, nil)
 	var received Refusal
 	if !errors.As(err, &received) || received != why || err.Error() != "signer: refused: inconsistent (too-few)" {
 		t.Errorf("%v", err)

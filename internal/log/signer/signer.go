@@ -8,9 +8,10 @@ import (
 	"crypto/elliptic"
 	"crypto/sha256"
 	"crypto/x509"
-	"encoding/binary"
 	"errors"
 	"fmt"
+	"wagtenib/bindings/go/wagtenib"
+	"wagtenib/internal/ct"
 )
 
 // Signer signs heads and timestamps. Its methods may be called concurrently.
@@ -22,36 +23,27 @@ type Signer interface {
 	IsGuarded() bool
 	// Last returns the head that the guard approved last. It returns nil before the first head, and if there is no
 	// guard.
-	Last(ctx context.Context) (*Head, error)
+	Last(ctx context.Context) (*ct.TreeHead, error)
 	// SignHead returns the DigitallySigned of a head (RFC 6962, section 3.5): two bytes of algorithms, two bytes of
 	// length, and the signature. The proof leads from the last head to this one (section 2.1.2). The last head may be
 	// signed again. A head that the guard does not approve is a Refusal.
-	SignHead(ctx context.Context, head Head, consistency [][32]byte) ([]byte, error)
+	SignHead(ctx context.Context, head ct.TreeHead, consistency [][32]byte) ([]byte, error)
 	// SignStep returns the DigitallySigned of each timestamp of a step (section 3.2), or an error.
 	SignStep(ctx context.Context, step Step) ([][]byte, error)
 	// SignTimestamps returns the DigitallySigned of each of some timestamps, or an error.
 	SignTimestamps(ctx context.Context, receipts []Receipt) ([][]byte, error)
 }
 
-// Head is a tree head. Its timestamp is in milliseconds since 1970.
-type Head struct {
-	Size, Timestamp uint64
-	Root            [32]byte
-}
-
-// message returns the bytes that are signed: version 1 is 0, tree_hash is 1 (RFC 6962, section 3.5).
-func (h Head) message() []byte {
-	message := make([]byte, 0, 50)
-	for _, number := range []uint64{h.Timestamp, h.Size} {
-		var eight [8]byte
-		binary.BigEndian.PutUint64(eight[:], number)
-		message = append(message, eight[:]...)
-	}
-	return append(append([]byte{0, 1}, message...), h.Root[:]...)
+// messageOf returns the bytes that are signed for a head (RFC 6962, section 3.5).
+func messageOf(head ct.TreeHead) []byte {
+	message := wagtenib.TreeHeadSignature(head)
+	return message[:]
 }
 
 // CheckHead returns an error unless a DigitallySigned is the key's signature of a head.
-func CheckHead(key []byte, head Head, signed []byte) error { return Check(key, head.message(), signed) }
+func CheckHead(key []byte, head ct.TreeHead, signed []byte) error {
+	return Check(key, messageOf(head), signed)
+}
 
 // Receipt is a timestamp to sign. Its bytes are those of its leaf (RFC 6962, sections 3.2 and 3.4). The path leads from
 // the leaf's index to the root of the last head.

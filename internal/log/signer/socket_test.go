@@ -15,6 +15,7 @@ import (
 	"testing"
 	"time"
 
+	"wagtenib/internal/ct"
 	"wagtenib/internal/testkit"
 )
 
@@ -51,7 +52,7 @@ func TestRefusesAnotherKey(t *testing.T) {
 	}
 	var eight [8]byte
 	binary.BigEndian.PutUint64(eight[:], 5)
-	if message := (Head{Timestamp: 5}).message(); len(message) != 50 || string(message[2:10]) != string(eight[:]) {
+	if message := messageOf(ct.TreeHead{Timestamp: 5}); len(message) != 50 || string(message[2:10]) != string(eight[:]) {
 		t.Errorf("%x", message)
 	}
 }
@@ -106,7 +107,7 @@ type timedSigner struct {
 	left chan time.Duration
 }
 
-func (s timedSigner) Last(ctx context.Context) (*Head, error) {
+func (s timedSigner) Last(ctx context.Context) (*ct.TreeHead, error) {
 	until, isBounded := ctx.Deadline()
 	if !isBounded {
 		until = time.Now().Add(24 * time.Hour)
@@ -250,7 +251,7 @@ func TestHalfRequests(t *testing.T) {
 func TestWrongRequests(t *testing.T) {
 	t.Parallel()
 	g, right := guardedIn(t, newKey(t), t.TempDir()), listOf(t, 2, 2)
-	head := headLineOf(&Head{2, 5, right.head(t, 2, 5).Root})
+	head := ct.NewHeadJSON(&ct.TreeHead{TreeSize: 2, Timestamp: 5, Root: right.head(t, 2, 5).Root})
 	short := *head
 	short.Root = short.Root[1:]
 	text := func(req request) string {
@@ -291,7 +292,9 @@ type failingSigner struct {
 	why error
 }
 
-func (s failingSigner) SignHead(context.Context, Head, [][32]byte) ([]byte, error) { return nil, s.why }
+func (s failingSigner) SignHead(context.Context, ct.TreeHead, [][32]byte) ([]byte, error) {
+	return nil, s.why
+}
 
 // TestErrorsThroughASocket: an error of a signer in another process keeps its kind: ErrMoved, ErrState, a refusal with
 // its name, and ErrGone for every other one.
@@ -305,7 +308,7 @@ func TestErrorsThroughASocket(t *testing.T) {
 		{errors.New("x"), ErrGone, ErrRefused},
 	} {
 		c := socketClient(ctx, t, failingSigner{key, test.why})
-		if _, err := c.SignHead(ctx, Head{Size: 1, Timestamp: 1}, nil); !errors.Is(err, test.kind) ||
+		if _, err := c.SignHead(ctx, ct.TreeHead{TreeSize: 1, Timestamp: 1}, nil); !errors.Is(err, test.kind) ||
 			errors.Is(err, test.not) {
 			t.Errorf("%v is received as %v", test.why, err)
 		}

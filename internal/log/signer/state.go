@@ -7,59 +7,36 @@ import (
 	"fmt"
 
 	"wagtenib/bindings/go/wagtenib"
+	"wagtenib/internal/ct"
 )
 
 // NoHead is the text of a guard's state before the first head. Only the creation of a log may write it.
 const NoHead = `{"guard":1,"last":null}`
 
-// headLine is a head in JSON, with its keys in byte order.
-type headLine struct {
-	Root      []byte `json:"sha256_root_hash"`
-	Timestamp uint64 `json:"timestamp"`
-	Size      uint64 `json:"tree_size"`
-}
-
-func headLineOf(head *Head) *headLine {
-	if head == nil {
-		return nil
-	}
-	return &headLine{head.Root[:], head.Timestamp, head.Size}
-}
-
-func (l *headLine) head() (*Head, error) {
-	if l == nil {
-		return nil, nil
-	}
-	if len(l.Root) != 32 {
-		return nil, fmt.Errorf("a root of %d bytes", len(l.Root))
-	}
-	return &Head{l.Size, l.Timestamp, *(*[32]byte)(l.Root)}, nil
-}
-
 // stateLine is the text of a guard's state, with its keys in byte order.
 type stateLine struct {
-	Guard int       `json:"guard"`
-	Last  *headLine `json:"last"`
+	Guard int          `json:"guard"`
+	Last  *ct.HeadJSON `json:"last"`
 }
 
 // State is a guard's state: the head that the guard approved last. A lock keeps it as a text (docs/GUARD.md).
 type State struct {
 	text string
 	// last is nil before the first head.
-	last *Head
+	last *ct.TreeHead
 	// signed is the TreeHeadSignature of last (RFC 6962, section 3.5), or empty before the first head.
 	signed []byte
 }
 
 // stateOf returns the state whose last head is this one.
-func stateOf(last *Head) (State, error) {
-	text, err := json.Marshal(stateLine{1, headLineOf(last)})
+func stateOf(last *ct.TreeHead) (State, error) {
+	text, err := json.Marshal(stateLine{1, ct.NewHeadJSON(last)})
 	if err != nil {
 		return State{}, fmt.Errorf("signer: %w", err)
 	}
 	state := State{text: string(text), last: last}
 	if last != nil {
-		state.signed = last.message()
+		state.signed = messageOf(*last)
 	}
 	return state, nil
 }
@@ -71,7 +48,7 @@ func ReadState(text string) (State, error) {
 	if err := json.Unmarshal([]byte(text), &line); err != nil {
 		return State{}, fmt.Errorf("%w: %v: %.200q", ErrState, err, text)
 	}
-	last, err := line.Last.head()
+	last, err := line.Last.Head()
 	if err != nil {
 		return State{}, fmt.Errorf("%w: %v: %.200q", ErrState, err, text)
 	}
@@ -86,7 +63,7 @@ func ReadState(text string) (State, error) {
 func (s State) Text() string { return s.text }
 
 // Last returns the last head, or nil before the first one.
-func (s State) Last() *Head { return s.last }
+func (s State) Last() *ct.TreeHead { return s.last }
 
 // Signed returns the bytes that are signed for the last head. A signer must sign them only after the lock has the
 // state.
@@ -109,8 +86,8 @@ func (s State) CheckSince(seen State) error {
 
 // Begin returns the state after the head of the empty tree, whose timestamp is a millisecond before that of the log's
 // first head with leaves. It returns ErrState if the state has a head already, since no lock may lose its head.
-func (s State) Begin(first Head) (State, error) {
-	empty := wagtenib.TreeHead{Root: sha256.Sum256(nil)}
+func (s State) Begin(first ct.TreeHead) (State, error) {
+	empty := ct.TreeHead{Root: sha256.Sum256(nil)}
 	if first.Timestamp > 0 {
 		empty.Timestamp = first.Timestamp - 1
 	}
@@ -118,14 +95,14 @@ func (s State) Begin(first Head) (State, error) {
 }
 
 // MustBegin reports whether the log must begin with the head of the empty tree before this head can be approved.
-func (s State) MustBegin(head Head) bool { return s.last == nil && head.Size > 0 }
+func (s State) MustBegin(head ct.TreeHead) bool { return s.last == nil && head.TreeSize > 0 }
 
 // afterFirst returns the state after the first head, which must be that of the empty tree.
-func (s State) afterFirst(head wagtenib.TreeHead) (State, error) {
+func (s State) afterFirst(head ct.TreeHead) (State, error) {
 	if s.last != nil {
 		return State{}, fmt.Errorf("%w: the log has a head already", ErrState)
 	}
-	signed, err := wagtenib.GuardFirstHead(head, wagtenib.TreeHead{})
+	signed, err := wagtenib.GuardFirstHead(head, ct.TreeHead{})
 	if err != nil {
 		return State{}, headRefusal(err)
 	}
@@ -135,12 +112,11 @@ func (s State) afterFirst(head wagtenib.TreeHead) (State, error) {
 // After returns the state after a head, whose signed bytes may then be signed. The proof leads from the last head to
 // it. The head's timestamp may be at most maxAhead milliseconds after the last one's. A head that the guard does not
 // approve is a Refusal.
-func (s State) After(head Head, consistency [][32]byte, maxAhead uint64) (State, error) {
-	next := wagtenib.TreeHead{TreeSize: head.Size, Timestamp: head.Timestamp, Root: head.Root}
+func (s State) After(head ct.TreeHead, consistency [][32]byte, maxAhead uint64) (State, error) {
 	if s.last == nil {
-		return s.afterFirst(next)
+		return s.afterFirst(head)
 	}
-	signed, err := wagtenib.GuardHead(s.signed, next, consistency, maxAhead)
+	signed, err := wagtenib.GuardHead(s.signed, head, consistency, maxAhead)
 	if err != nil {
 		return State{}, headRefusal(err)
 	}
@@ -154,7 +130,7 @@ func approved(signed wagtenib.SignedBytes) (State, error) {
 	if err != nil {
 		return State{}, fmt.Errorf("signer: the guard: %w", err)
 	}
-	state, err := stateOf(&Head{head.TreeSize, head.Timestamp, head.Root})
+	state, err := stateOf(&head)
 	state.signed = signed[:]
 	return state, err
 }

@@ -13,19 +13,21 @@ import (
 
 	"wagtenib/bindings/go/wagtenib"
 	"wagtenib/internal/blob"
+	"wagtenib/internal/ct"
 )
 
 // TestReadsOnlyItsTexts: the text of each state is read back, and no text that differs from it in a byte is read.
 func TestReadsOnlyItsTexts(t *testing.T) {
 	t.Parallel()
-	heads := []*Head{nil, {}, {1, 1, [32]byte{62, 63}}, {1<<64 - 1, 1<<64 - 1, [32]byte{31: 255}},
-		{1 << 53, 1<<53 + 1, [32]byte{9, 8, 7}}}
+	heads := []*ct.TreeHead{nil, {}, {TreeSize: 1, Timestamp: 1, Root: [32]byte{62, 63}},
+		{TreeSize: 1<<64 - 1, Timestamp: 1<<64 - 1, Root: [32]byte{31: 255}},
+		{TreeSize: 1 << 53, Timestamp: 1<<53 + 1, Root: [32]byte{9, 8, 7}}}
 	for _, head := range heads {
 		text := textOf(head)
 		state, err := ReadState(text)
 		must(t, err)
 		if last := state.Last(); state.Text() != text || (last == nil) != (head == nil) || last != nil &&
-			(*last != *head || !bytes.Equal(state.Signed(), head.message())) {
+			(*last != *head || !bytes.Equal(state.Signed(), messageOf(*head))) {
 			t.Errorf("%s is read as %+v", text, state)
 		}
 		if head == nil && len(state.Signed()) != 0 {
@@ -58,23 +60,23 @@ func TestReadsOnlyItsTexts(t *testing.T) {
 // TestRefusesRolledBackReading compares readings of a state with earlier ones.
 func TestRefusesRolledBackReading(t *testing.T) {
 	t.Parallel()
-	state := func(head *Head) State {
+	state := func(head *ct.TreeHead) State {
 		state, err := ReadState(textOf(head))
 		must(t, err)
 		return state
 	}
 	for i, test := range []struct {
-		seen, now *Head
+		seen, now *ct.TreeHead
 		isBack    bool
 	}{
-		{nil, nil, false}, {nil, &Head{5, 50, [32]byte{1}}, false}, {&Head{5, 50, [32]byte{1}}, nil, true},
-		{&Head{0, 0, [32]byte{}}, nil, true},
-		{&Head{5, 50, [32]byte{1}}, &Head{5, 50, [32]byte{1}}, false},
-		{&Head{5, 50, [32]byte{1}}, &Head{5, 50, [32]byte{2}}, true},
-		{&Head{5, 50, [32]byte{1}}, &Head{5, 51, [32]byte{1}}, false},
-		{&Head{5, 50, [32]byte{1}}, &Head{6, 51, [32]byte{2}}, false},
-		{&Head{5, 50, [32]byte{1}}, &Head{6, 50, [32]byte{2}}, true},
-		{&Head{5, 50, [32]byte{1}}, &Head{4, 60, [32]byte{2}}, true},
+		{nil, nil, false}, {nil, &ct.TreeHead{TreeSize: 5, Timestamp: 50, Root: [32]byte{1}}, false}, {&ct.TreeHead{TreeSize: 5, Timestamp: 50, Root: [32]byte{1}}, nil, true},
+		{&ct.TreeHead{TreeSize: 0, Timestamp: 0, Root: [32]byte{}}, nil, true},
+		{&ct.TreeHead{TreeSize: 5, Timestamp: 50, Root: [32]byte{1}}, &ct.TreeHead{TreeSize: 5, Timestamp: 50, Root: [32]byte{1}}, false},
+		{&ct.TreeHead{TreeSize: 5, Timestamp: 50, Root: [32]byte{1}}, &ct.TreeHead{TreeSize: 5, Timestamp: 50, Root: [32]byte{2}}, true},
+		{&ct.TreeHead{TreeSize: 5, Timestamp: 50, Root: [32]byte{1}}, &ct.TreeHead{TreeSize: 5, Timestamp: 51, Root: [32]byte{1}}, false},
+		{&ct.TreeHead{TreeSize: 5, Timestamp: 50, Root: [32]byte{1}}, &ct.TreeHead{TreeSize: 6, Timestamp: 51, Root: [32]byte{2}}, false},
+		{&ct.TreeHead{TreeSize: 5, Timestamp: 50, Root: [32]byte{1}}, &ct.TreeHead{TreeSize: 6, Timestamp: 50, Root: [32]byte{2}}, true},
+		{&ct.TreeHead{TreeSize: 5, Timestamp: 50, Root: [32]byte{1}}, &ct.TreeHead{TreeSize: 4, Timestamp: 60, Root: [32]byte{2}}, true},
 	} {
 		if err := state(test.now).CheckSince(state(test.seen)); (err != nil) != test.isBack || err != nil &&
 			!errors.Is(err, ErrState) {
@@ -148,7 +150,7 @@ func TestKilledAfterTheEmptyHead(t *testing.T) {
 	}
 	state, err := ReadState(strings.TrimSuffix(string(readText(t, folder)), "\n"))
 	must(t, err)
-	if last := state.Last(); last == nil || last.Size != 0 {
+	if last := state.Last(); last == nil || last.TreeSize != 0 {
 		t.Errorf("the lock has %s", state.Text())
 	}
 	if output, err := run(""); err != nil || len(output) == 0 {
@@ -210,7 +212,7 @@ func TestRefusalChangesNothing(t *testing.T) {
 	must(t, err)
 	before := lockText(t, g)
 	for fault, test := range map[string]struct {
-		head  Head
+		head  ct.TreeHead
 		proof [][32]byte
 	}{
 		"root-mismatch":  {fork.head(t, 9, 101), l.proof(t, 5, 9)},

@@ -4,6 +4,7 @@ import (
 	"context"
 	"errors"
 	"testing"
+	"wagtenib/internal/ct"
 )
 
 // changingSigner is a signer whose signatures are changed.
@@ -12,7 +13,7 @@ type changingSigner struct {
 	change func(signed [][]byte) [][]byte
 }
 
-func (w changingSigner) SignHead(ctx context.Context, head Head, consistency [][32]byte) ([]byte, error) {
+func (w changingSigner) SignHead(ctx context.Context, head ct.TreeHead, consistency [][32]byte) ([]byte, error) {
 	signed, err := w.Signer.SignHead(ctx, head, consistency)
 	if err != nil {
 		return nil, err

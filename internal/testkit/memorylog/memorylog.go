@@ -12,8 +12,8 @@ import (
 	"time"
 
 	"wagtenib/internal/blob"
+	"wagtenib/internal/ct"
 	"wagtenib/internal/log"
-	"wagtenib/internal/log/chain"
 	"wagtenib/internal/testkit"
 )
 
@@ -47,8 +47,8 @@ type Troubles struct {
 }
 
 type waiting struct {
-	entry log.Entry
-	place chan log.Place
+	entry ct.Entry
+	place chan ct.SCT
 }
 
 // New makes a log without entries, which publishes at each interval. If the interval is 0, it publishes only when
@@ -77,8 +77,8 @@ func (l *Log) run() {
 }
 
 // Submit implements log.Log.
-func (l *Log) Submit(ctx context.Context, entry log.Entry) (log.Place, error) {
-	w := waiting{entry, make(chan log.Place, 1)}
+func (l *Log) Submit(ctx context.Context, entry ct.Entry) (ct.SCT, error) {
+	w := waiting{entry, make(chan ct.SCT, 1)}
 	l.mutex.Lock()
 	var err error
 	switch {
@@ -93,22 +93,22 @@ func (l *Log) Submit(ctx context.Context, entry log.Entry) (log.Place, error) {
 	}
 	l.mutex.Unlock()
 	if err != nil {
-		return log.Place{}, err
+		return ct.SCT{}, err
 	}
 	select {
 	case place := <-w.place:
 		return place, nil
 	case <-ctx.Done():
-		return log.Place{}, ctx.Err()
+		return ct.SCT{}, ctx.Err()
 	}
 }
 
 // Add publishes entries without waiting for their places.
-func (l *Log) Add(entries []log.Entry) {
+func (l *Log) Add(entries []ct.Entry) {
 	l.mutex.Lock()
 	defer l.mutex.Unlock()
 	for _, entry := range entries {
-		l.waiting = append(l.waiting, waiting{entry, make(chan log.Place, 1)})
+		l.waiting = append(l.waiting, waiting{entry, make(chan ct.SCT, 1)})
 	}
 	l.publish()
 }
@@ -127,7 +127,7 @@ func (l *Log) publish() {
 	now := uint64(time.Now().UnixMilli())
 	batch := l.waiting
 	l.waiting = nil
-	var places []log.Place
+	var places []ct.SCT
 	for _, w := range batch {
 		places = append(places, l.take(EntryOf(w.entry, now)))
 	}
@@ -147,9 +147,9 @@ func (l *Log) publish() {
 }
 
 // EntryOf returns an entry as testkit has it.
-func EntryOf(entry log.Entry, timestamp uint64) testkit.Entry {
+func EntryOf(entry ct.Entry, timestamp uint64) testkit.Entry {
 	of := testkit.Entry{Timestamp: timestamp, Certificate: entry.Certificate, Chain: entry.Issuers}
-	if entry.Type == chain.PrecertEntry {
+	if entry.Type == ct.PrecertEntry {
 		of.Certificate, of.IssuerKeyHash = entry.TBSCertificate, entry.IssuerKeyHash[:]
 		of.Precertificate = entry.Precertificate
 	}
@@ -157,13 +157,13 @@ func EntryOf(entry log.Entry, timestamp uint64) testkit.Entry {
 }
 
 // take adds an entry to the tree.
-func (l *Log) take(entry testkit.Entry) log.Place {
+func (l *Log) take(entry testkit.Entry) ct.SCT {
 	index := l.of.Size()
 	l.of.Add(entry)
 	// An SCT has its version, the log's ID, the timestamp and the extensions with their length before the signature.
 	const before = 1 + sha256.Size + 8 + 2
 	sct, extensions := l.of.SCT(entry, index), testkit.Extensions(index)
-	return log.Place{LeafIndex: index, Timestamp: entry.Timestamp, Extensions: extensions,
+	return ct.SCT{Timestamp: entry.Timestamp, Extensions: extensions,
 		LogID: sha256.Sum256(l.of.PublicKey()), Signature: sct[before+len(extensions):]}
 }
 

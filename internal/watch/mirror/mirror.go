@@ -94,7 +94,7 @@ func (m *Mirror) Stage(tile logclient.DataTile) error {
 }
 
 func (m *Mirror) stagedPath(index uint64, width int) string {
-	name, _ := logclient.DataTileName(index, index*logclient.TileWidth+uint64(width))
+	name := ct.TileName(ct.DataTile(index*ct.TileWidth, index*ct.TileWidth+uint64(width)))
 	return filepath.Join(m.folder, stagedFolder, filepath.FromSlash(name))
 }
 
@@ -134,18 +134,18 @@ func (m *Mirror) Accept(ctx context.Context, head watch.Head) error {
 type tile struct {
 	name   string
 	bytes  []byte
-	leaves []datatile.Leaf
+	leaves []ct.Leaf
 }
 
 // stageMissing reads the data tiles of the tree of a size that are neither stored nor staged, and stages them.
 func (m *Mirror) stageMissing(ctx context.Context, size uint64) error {
 	isStaged := func(index uint64) bool {
-		_, width := logclient.DataTileName(index, size)
-		_, err := os.Stat(m.stagedPath(index, width))
+		of := ct.DataTile(index*ct.TileWidth, size)
+		_, err := os.Stat(m.stagedPath(index, of.W))
 		return err == nil
 	}
-	tiles := (size + logclient.TileWidth - 1) / logclient.TileWidth
-	for first := m.kept.TreeSize / logclient.TileWidth; first < tiles; first++ {
+	tiles := (size + ct.TileWidth - 1) / ct.TileWidth
+	for first := m.kept.TreeSize / ct.TileWidth; first < tiles; first++ {
 		if isStaged(first) {
 			continue
 		}
@@ -154,7 +154,7 @@ func (m *Mirror) stageMissing(ctx context.Context, size uint64) error {
 		for end < tiles && !isStaged(end) {
 			end++
 		}
-		err := m.client.DataTiles(ctx, first*logclient.TileWidth, min(size, end*logclient.TileWidth),
+		err := m.client.DataTiles(ctx, first*ct.TileWidth, min(size, end*ct.TileWidth),
 			func(read logclient.DataTile, _ bool) error { return m.Stage(read) })
 		if err != nil {
 			return fmt.Errorf("mirror: %w", err)
@@ -166,20 +166,21 @@ func (m *Mirror) stageMissing(ctx context.Context, size uint64) error {
 
 // readTile returns a staged data tile of the tree of a size.
 func (m *Mirror) readTile(index, size uint64) (tile, error) {
-	name, width := logclient.DataTileName(index, size)
+	of := ct.DataTile(index*ct.TileWidth, size)
+	name, width := ct.TileName(of), of.W
 	content, err := os.ReadFile(m.stagedPath(index, width))
 	if err != nil {
 		return tile{}, fmt.Errorf("mirror: %s: %w", name, err)
 	}
-	leaves, err := datatile.ReadData(content)
-	if err != nil || len(leaves) < width {
-		return tile{}, fmt.Errorf("%w: %s has %d entries: %v", ErrOther, name, len(leaves), err)
+	first, ok := ct.FirstEntries(content, width)
+	if !ok {
+		return tile{}, fmt.Errorf("%w: %s does not begin with %d entries", ErrOther, name, width)
 	}
-	length := 0
-	for i := range leaves[:width] {
-		length += leaves[i].Length()
+	leaves, err := ct.ReadDataTile(first)
+	if err != nil {
+		return tile{}, fmt.Errorf("%w: %s: %v", ErrOther, name, err)
 	}
-	return tile{name, content[:length], leaves[:width]}, nil
+	return tile{name, first, leaves}, nil
 }
 
 // check compares the root of the stored tree with the new data tiles with the root of the head. If they differ, it
@@ -214,7 +215,7 @@ func (m *Mirror) root(ctx context.Context, size uint64) (root wagtenib.Hash, err
 	if err != nil {
 		return root, err
 	}
-	for index := m.kept.TreeSize / logclient.TileWidth; index*logclient.TileWidth < size; index++ {
+	for index := m.kept.TreeSize / ct.TileWidth; index*ct.TileWidth < size; index++ {
 		data, err := m.readTile(index, size)
 		if err != nil {
 			return root, err
@@ -234,7 +235,7 @@ func (m *Mirror) grow(ctx context.Context, size uint64) error {
 	if err != nil {
 		return err
 	}
-	for index := m.kept.TreeSize / logclient.TileWidth; index*logclient.TileWidth < size; index++ {
+	for index := m.kept.TreeSize / ct.TileWidth; index*ct.TileWidth < size; index++ {
 		data, err := m.readTile(index, size)
 		if err != nil {
 			return err
@@ -272,10 +273,10 @@ func (m *Mirror) put(ctx context.Context, name string, content []byte) error {
 
 // checkPrefix returns an error if a data tile does not begin with the bytes of the stored partial tile.
 func (m *Mirror) checkPrefix(ctx context.Context, index uint64, data tile) error {
-	if m.kept.TreeSize%logclient.TileWidth == 0 || index != m.kept.TreeSize/logclient.TileWidth {
+	if m.kept.TreeSize%ct.TileWidth == 0 || index != m.kept.TreeSize/ct.TileWidth {
 		return nil
 	}
-	name, _ := logclient.DataTileName(index, m.kept.TreeSize)
+	name := ct.TileName(ct.DataTile(index*ct.TileWidth, m.kept.TreeSize))
 	kept, err := m.objects.Get(ctx, name, maxObject)
 	if err != nil {
 		return fmt.Errorf("mirror: %w", err)

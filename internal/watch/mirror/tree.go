@@ -7,7 +7,7 @@ import (
 	"golang.org/x/mod/sumdb/tlog"
 
 	"wagtenib/bindings/go/wagtenib"
-	"wagtenib/internal/logclient"
+	"wagtenib/internal/ct"
 	datatile "wagtenib/internal/tiles"
 )
 
@@ -15,7 +15,7 @@ import (
 // again. The levels above the leaves begin with the stored partial tiles.
 func (m *Mirror) edge(ctx context.Context, put datatile.Put) (*datatile.Edge, error) {
 	hashesOf := func(stored tlog.Tile) ([]wagtenib.Hash, error) {
-		content, err := m.objects.Get(ctx, datatile.Name(stored), maxObject)
+		content, err := m.objects.Get(ctx, ct.TileName(stored), maxObject)
 		if err != nil {
 			return nil, fmt.Errorf("mirror: %w", err)
 		}
@@ -25,5 +25,5 @@ func (m *Mirror) edge(ctx context.Context, put datatile.Put) (*datatile.Edge, er
 		}
 		return hashes, nil
 	}
-	return datatile.EdgeAt(m.kept.TreeSize/logclient.TileWidth, hashesOf, put)
+	return datatile.EdgeAt(m.kept.TreeSize/ct.TileWidth, hashesOf, put)
 }

@@ -140,42 +140,12 @@ func (o *Outcome) read(command *Command) (given wagtenib.NodeOutcome, came known
 	return given, came, err
 }
 
-// Point is the number of entries and the timestamp, in milliseconds, of a head.
-type Point struct{ Size, Timestamp uint64 }
-
-// Rooted is a head.
-type Rooted struct {
-	Point
-	Root [32]byte
-}
-
-// Found has the data that a node finds at a start. A nil field or an empty text does not exist.
+// Found has the data that a node finds at a start.
 type Found struct {
-	// Lock is the lock's text. IsEmptied says that the lock exists, and has no text.
+	// Lock is the lock's text, or empty. IsEmptied says that the lock exists, and has no text.
 	Lock      string
 	IsEmptied bool
-	// Seen is the newest head that this machine saw, and Guard the last that was signed, if there is a guard (Guarded).
-	Seen, Guard *Rooted
-	Guarded     bool
-	// Published is the newest head that is published, and Listed the newest in the store. Their roots matter only if they
-	// have the size and the timestamp of the lock's head.
-	Published, Listed *Rooted
-	// HasObject says that the store has an object of a log, and Creates that a log must be created if there is none.
-	HasObject, Creates bool
-}
-
-// inCall returns what the library takes of it.
-func (f Found) inCall() wagtenib.NodeFound {
-	head := func(of *Rooted) *wagtenib.TreeHead {
-		if of == nil {
-			return nil
-		}
-		return &wagtenib.TreeHead{TreeSize: of.Size, Timestamp: of.Timestamp, Root: of.Root}
-	}
-	return wagtenib.NodeFound{
-		Seen: head(f.Seen), Signed: head(f.Guard), Published: head(f.Published), Listed: head(f.Listed),
-		Guarded: f.Guarded, HasObject: f.HasObject, Creates: f.Creates,
-	}
+	wagtenib.NodeFound
 }
 
 // Refusal is why a node does not continue from what it finds.
@@ -292,7 +262,7 @@ func (d *Decider) Start(found Found) (creates bool, err error) {
 	if found.Lock != "" || found.IsEmptied {
 		lock = []byte(found.Lock)
 	}
-	err = wagtenib.NodeStart(lock, found.inCall())
+	err = wagtenib.NodeStart(lock, found.NodeFound)
 	if err == nil || errors.Is(err, wagtenib.ErrCreatesLock) {
 		return err != nil, nil
 	}

@@ -7,6 +7,7 @@ import (
 	"testing"
 
 	"wagtenib/bindings/go/wagtenib"
+	"wagtenib/internal/ct"
 	"wagtenib/internal/testkit"
 )
 
@@ -90,41 +91,44 @@ func TestStarts(t *testing.T) {
 	t.Parallel()
 	c := New()
 	root, other := [32]byte{}, [32]byte{1}
-	at := func(size, timestamp uint64) *Rooted { return &Rooted{Point{size, timestamp}, root} }
-	rooted := func(size, timestamp uint64, root [32]byte) *Rooted { return &Rooted{Point{size, timestamp}, root} }
+	rooted := func(size, timestamp uint64, root [32]byte) *ct.TreeHead {
+		return &ct.TreeHead{TreeSize: size, Timestamp: timestamp, Root: root}
+	}
+	at := func(size, timestamp uint64) *ct.TreeHead { return rooted(size, timestamp, root) }
 	text := textOf(3, 7, 5, 1)
 	for _, it := range []struct {
-		found Found
+		lock  string
+		found wagtenib.NodeFound
 		want  string
 	}{
-		{Found{Lock: text}, "goes"},
-		{Found{Lock: text, Guarded: true}, "goes"},
-		{Found{Lock: text, HasObject: true, Creates: true}, "goes"},
-		{Found{Lock: text, Seen: rooted(3, 7, root), Guard: rooted(3, 7, root), Guarded: true, Published: at(3, 7),
+		{text, wagtenib.NodeFound{}, "goes"},
+		{text, wagtenib.NodeFound{Guarded: true}, "goes"},
+		{text, wagtenib.NodeFound{HasObject: true, Creates: true}, "goes"},
+		{text, wagtenib.NodeFound{Seen: rooted(3, 7, root), Signed: rooted(3, 7, root), Guarded: true, Published: at(3, 7),
 			Listed: at(3, 7)}, "goes"},
-		{Found{Lock: text, Seen: rooted(3, 6, other), Guard: rooted(2, 6, other), Guarded: true,
+		{text, wagtenib.NodeFound{Seen: rooted(3, 6, other), Signed: rooted(2, 6, other), Guarded: true,
 			Published: at(2, 6), Listed: at(2, 6)}, "goes"},
-		{Found{Lock: text, Seen: rooted(3, 7, other)}, "behind-seen"},
-		{Found{Lock: text, Seen: rooted(2, 7, root)}, "behind-seen"},
-		{Found{Lock: text, Seen: rooted(4, 6, root)}, "behind-seen"},
-		{Found{Lock: text, Guard: rooted(3, 7, other), Guarded: true}, "two-roots"},
-		{Found{Lock: text, Guard: rooted(3, 8, root), Guarded: true}, "behind-guard"},
-		{Found{Lock: text, Listed: at(1, 1), Guarded: true}, "guard-behind"},
-		{Found{Lock: text, Guard: rooted(1, 1, root), Listed: at(1, 2), Guarded: true}, "guard-behind"},
-		{Found{Lock: text, Listed: at(3, 8)}, "behind-listed"},
-		{Found{Lock: text, Published: at(4, 7)}, "behind-published"},
-		{Found{Lock: text, Listed: rooted(3, 7, other)}, "behind-listed"},
-		{Found{Lock: text, Published: rooted(3, 7, other)}, "behind-published"},
-		{Found{Creates: true}, "creates"},
-		{Found{Creates: true, Guarded: true}, "creates"},
-		{Found{}, "gone"},
-		{Found{Creates: true, HasObject: true}, "gone"},
-		{Found{Creates: true, Seen: rooted(0, 1, root)}, "gone"},
-		{Found{Creates: true, Guard: rooted(0, 1, root), Guarded: true}, "gone"},
-		{Found{Creates: true, Published: at(0, 1)}, "gone"},
-		{Found{Creates: true, Listed: at(0, 1)}, "gone"},
+		{text, wagtenib.NodeFound{Seen: rooted(3, 7, other)}, "behind-seen"},
+		{text, wagtenib.NodeFound{Seen: rooted(2, 7, root)}, "behind-seen"},
+		{text, wagtenib.NodeFound{Seen: rooted(4, 6, root)}, "behind-seen"},
+		{text, wagtenib.NodeFound{Signed: rooted(3, 7, other), Guarded: true}, "two-roots"},
+		{text, wagtenib.NodeFound{Signed: rooted(3, 8, root), Guarded: true}, "behind-guard"},
+		{text, wagtenib.NodeFound{Listed: at(1, 1), Guarded: true}, "guard-behind"},
+		{text, wagtenib.NodeFound{Signed: rooted(1, 1, root), Listed: at(1, 2), Guarded: true}, "guard-behind"},
+		{text, wagtenib.NodeFound{Listed: at(3, 8)}, "behind-listed"},
+		{text, wagtenib.NodeFound{Published: at(4, 7)}, "behind-published"},
+		{text, wagtenib.NodeFound{Listed: rooted(3, 7, other)}, "behind-listed"},
+		{text, wagtenib.NodeFound{Published: rooted(3, 7, other)}, "behind-published"},
+		{"", wagtenib.NodeFound{Creates: true}, "creates"},
+		{"", wagtenib.NodeFound{Creates: true, Guarded: true}, "creates"},
+		{"", wagtenib.NodeFound{}, "gone"},
+		{"", wagtenib.NodeFound{Creates: true, HasObject: true}, "gone"},
+		{"", wagtenib.NodeFound{Creates: true, Seen: rooted(0, 1, root)}, "gone"},
+		{"", wagtenib.NodeFound{Creates: true, Signed: rooted(0, 1, root), Guarded: true}, "gone"},
+		{"", wagtenib.NodeFound{Creates: true, Published: at(0, 1)}, "gone"},
+		{"", wagtenib.NodeFound{Creates: true, Listed: at(0, 1)}, "gone"},
 	} {
-		creates, err := c.Start(it.found)
+		creates, err := c.Start(Found{Lock: it.lock, NodeFound: it.found})
 		got := "goes"
 		var refusal Refusal
 		switch {

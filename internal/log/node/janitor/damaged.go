@@ -3,7 +3,7 @@ package janitor
 import (
 	"context"
 
-	"wagtenib/internal/tiles"
+	"wagtenib/internal/ct"
 )
 
 // maxLooked is how many issuers are remembered as read.
@@ -38,7 +38,7 @@ func (j *Janitor) nextDamaged() (number uint64, ok bool) {
 // readDamaged reads one damaged tile again, which may have been put back.
 func (j *Janitor) readDamaged(ctx context.Context, newest Newest) error {
 	number, ok := j.nextDamaged()
-	if !ok || number*tiles.Width >= newest.Head.Size {
+	if !ok || number*ct.TileWidth >= newest.Head.TreeSize {
 		return nil
 	}
 	j.issuers.again = number + 1
@@ -64,7 +64,7 @@ func (j *Janitor) look(ctx context.Context, fingerprint [32]byte) error {
 }
 
 // readIssuersOf reads the issuers of entries again that were not read yet.
-func (j *Janitor) readIssuersOf(ctx context.Context, leaves []tiles.Leaf) {
+func (j *Janitor) readIssuersOf(ctx context.Context, leaves []ct.Leaf) {
 	if j.config.Issuers == nil {
 		return
 	}

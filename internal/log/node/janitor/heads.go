@@ -8,7 +8,7 @@ import (
 	"time"
 
 	"wagtenib/internal/blob"
-	"wagtenib/internal/log/signer"
+	"wagtenib/internal/ct"
 )
 
 // thinning is what is known for thinning the heads: one that was published for Keep.Thin, the marks in the order of
@@ -33,7 +33,7 @@ func (j *Janitor) deleteHeads(ctx context.Context, newest Newest) error {
 	if now < j.thin.due {
 		return nil
 	}
-	if err := j.mark(ctx, newest.Head); err != nil || j.thin.crowded.head == (signer.Head{}) {
+	if err := j.mark(ctx, newest.Head); err != nil || j.thin.crowded.head == (ct.TreeHead{}) {
 		return err
 	}
 	names, err := j.list(ctx, headsPrefix, "")
@@ -83,7 +83,7 @@ const maxMarks = 5
 
 // mark keeps the name of the newest head in the store, now and then. What the node knows may be old, if its process was
 // paused, so the store is asked.
-func (j *Janitor) mark(ctx context.Context, known signer.Head) error {
+func (j *Janitor) mark(ctx context.Context, known ct.TreeHead) error {
 	at := j.config.Clock.Elapsed()
 	j.unmark(at)
 	last := len(j.thin.marks) - 1
@@ -127,8 +127,8 @@ func (j *Janitor) unmark(now time.Duration) {
 }
 
 // headName returns the name of a head's object. Names are in the order of states.
-func headName(head signer.Head) string {
-	return fmt.Sprintf("%s%020d-%020d", headsPrefix, head.Size, head.Timestamp)
+func headName(head ct.TreeHead) string {
+	return fmt.Sprintf("%s%020d-%020d", headsPrefix, head.TreeSize, head.Timestamp)
 }
 
 // timestampOf reads the timestamp in a head's name, and reports false for any other name.

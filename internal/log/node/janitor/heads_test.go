@@ -9,9 +9,9 @@ import (
 	"testing"
 	"time"
 
+	"wagtenib/internal/ct"
 	"wagtenib/internal/log/node/decider"
 	"wagtenib/internal/log/node/janitor"
-	"wagtenib/internal/log/signer"
 )
 
 // store is one of heads only, and the clock of the janitor over it.
@@ -62,9 +62,9 @@ func (s *store) Wait(_ context.Context, long time.Duration, _ <-chan struct{}) e
 }
 
 // put adds the head of a size, whose timestamp is the time.
-func (s *store) put(size uint64) signer.Head {
-	head := signer.Head{Size: size, Timestamp: uint64(s.now.Milliseconds())}
-	s.heads = append(s.heads, name(head.Size, head.Timestamp))
+func (s *store) put(size uint64) ct.TreeHead {
+	head := ct.TreeHead{TreeSize: size, Timestamp: uint64(s.now.Milliseconds())}
+	s.heads = append(s.heads, name(head.TreeSize, head.Timestamp))
 	return head
 }
 
@@ -75,7 +75,7 @@ var keep = janitor.Keep{Every: time.Second, Tiles: time.Hour, Heads: time.Minute
 	Thin: 2 * time.Second, Apart: time.Second, Reread: time.Hour, Call: 5 * time.Second}
 
 // over returns a janitor over a store. Each of its passes gets the head that newest returns.
-func over(t *testing.T, s *store, newest func() signer.Head) *janitor.Janitor {
+func over(t *testing.T, s *store, newest func() ct.TreeHead) *janitor.Janitor {
 	t.Helper()
 	j, err := janitor.New(janitor.Config{Objects: s, Clock: s, Decider: decider.New(), Keep: keep,
 		Newest: func() (janitor.Newest, bool) { return janitor.Newest{Head: newest()}, true },
@@ -99,7 +99,7 @@ func makePasses(t *testing.T, j *janitor.Janitor, s *store, passes int) {
 // and so do those of the last seconds.
 func TestLeavesFirstHeadOfEachInterval(t *testing.T) {
 	s, size := &store{}, uint64(0)
-	j := over(t, s, func() (newest signer.Head) {
+	j := over(t, s, func() (newest ct.TreeHead) {
 		for range 5 {
 			size++
 			newest = s.put(size)
@@ -130,7 +130,7 @@ func TestThinsNoHeadsAfterAPause(t *testing.T) {
 	for what, within := range map[string]bool{"between two deletions": true, "between two passes": false} {
 		s := &store{}
 		newest := s.put(0)
-		j := over(t, s, func() signer.Head { return newest })
+		j := over(t, s, func() ct.TreeHead { return newest })
 		makePasses(t, j, s, 2)
 		for size := range uint64(8) {
 			newest = s.put(size + 1)
@@ -157,11 +157,11 @@ func TestThinsByHeadsThatTheNodeDoesNotKnow(t *testing.T) {
 		s.now += 50 * time.Millisecond
 		s.put(size + 2)
 	}
-	after := signer.Head{Size: 100, Timestamp: uint64((2 * time.Hour).Milliseconds())}
+	after := ct.TreeHead{TreeSize: 100, Timestamp: uint64((2 * time.Hour).Milliseconds())}
 	s.now += keep.Heads - 10*time.Second
-	j := over(t, s, func() signer.Head { return known })
+	j := over(t, s, func() ct.TreeHead { return known })
 	makePasses(t, j, s, 4)
-	s.heads, known = append(s.heads, name(after.Size, after.Timestamp)), after
+	s.heads, known = append(s.heads, name(after.TreeSize, after.Timestamp)), after
 	makePasses(t, j, s, 8)
 	if len(s.deleted) > 0 || len(s.heads) != 10 {
 		t.Errorf("heads that were put before the janitor began are deleted for others: %q", s.deleted)

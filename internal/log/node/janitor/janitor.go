@@ -21,8 +21,8 @@ import (
 	"sync"
 	"time"
 
+	"wagtenib/internal/ct"
 	"wagtenib/internal/log/node/decider"
-	"wagtenib/internal/log/signer"
 )
 
 // ErrConfig: a configuration lacks something.
@@ -59,7 +59,7 @@ type Issuers interface {
 // Newest is what the node knows of the log.
 type Newest struct {
 	// Head is the newest published head.
-	Head signer.Head
+	Head ct.TreeHead
 	// Stepping is the newest command to make a step, or nil.
 	Stepping *decider.Command
 }
@@ -180,14 +180,14 @@ func (j *Janitor) Run(ctx context.Context) error {
 // settled finds a head that has been published for some time, out of the newest heads that it is shown.
 type settled struct {
 	// head is that head. young is a later one, which was the newest at the time since, by Elapsed.
-	head, young signer.Head
+	head, young ct.TreeHead
 	since       time.Duration
 	isSeen      bool
 }
 
 // look shows the newest head of now. The head that is kept has been published at least for the duration after, and at
 // most for twice as long.
-func (s *settled) look(newest signer.Head, now, after time.Duration) {
+func (s *settled) look(newest ct.TreeHead, now, after time.Duration) {
 	if !s.isSeen {
 		s.young, s.since, s.isSeen = newest, now, true
 	}

@@ -14,8 +14,8 @@ import (
 	"golang.org/x/mod/sumdb/tlog"
 
 	"wagtenib/internal/blob"
+	"wagtenib/internal/ct"
 	"wagtenib/internal/log/node/decider"
-	"wagtenib/internal/log/signer"
 	"wagtenib/internal/tiles"
 )
 
@@ -65,13 +65,13 @@ func (h hashes) ReadHashes(indexes []int64) (found []tlog.Hash, err error) {
 }
 
 // logOf256 returns the tiles of a log of 256 entries, with partial tiles of its first three, and its head.
-func logOf256(t *testing.T) (kept, signer.Head) {
+func logOf256(t *testing.T) (kept, ct.TreeHead) {
 	t.Helper()
 	var all hashes
 	var data []byte
 	objects := kept{}
-	for i := range uint64(tiles.Width) {
-		extensions := tiles.Extensions(i)
+	for i := range uint64(ct.TileWidth) {
+		extensions := ct.IndexExtension(i)
 		entry := append(binary.BigEndian.AppendUint64(nil, 1800000000000+i), 0, 0, 0, 0, 1, byte(i))
 		entry = append(binary.BigEndian.AppendUint16(entry, uint16(len(extensions))), extensions...)
 		data = append(append(data, entry...), 0, 0)
@@ -84,20 +84,20 @@ func logOf256(t *testing.T) (kept, signer.Head) {
 		}
 	}
 	objects["tile/data/000"] = data
-	for _, size := range []int64{3, tiles.Width} {
+	for _, size := range []int64{3, ct.TileWidth} {
 		for _, one := range tlog.NewTiles(8, 0, size) {
 			content, err := tlog.ReadTileData(one, all)
 			if err != nil {
 				t.Fatal(err)
 			}
-			objects[tiles.Name(one)] = content
+			objects[ct.TileName(one)] = content
 		}
 	}
-	root, err := tlog.TreeHash(tiles.Width, all)
+	root, err := tlog.TreeHash(ct.TileWidth, all)
 	if err != nil {
 		t.Fatal(err)
 	}
-	return objects, signer.Head{Size: tiles.Width, Timestamp: 1800000001000, Root: root}
+	return objects, ct.TreeHead{TreeSize: ct.TileWidth, Timestamp: 1800000001000, Root: root}
 }
 
 // TestKeepsPartialTilesOfDamagedTile bends a full tile, of the data or of the hashes. Its partial ones must stay, and
@@ -144,18 +144,18 @@ func TestRefusesConfigurationWithoutTimes(t *testing.T) {
 // ones come.
 func TestSettledHeadIsOldEnough(t *testing.T) {
 	var s settled
-	head := func(size uint64) signer.Head { return signer.Head{Size: size, Timestamp: 10 * size} }
+	head := func(size uint64) ct.TreeHead { return ct.TreeHead{TreeSize: size, Timestamp: 10 * size} }
 	for second, expected := range []uint64{0, 0, 0, 1, 1, 1, 4, 4, 4, 7} {
 		s.look(head(uint64(second+1)), time.Duration(second)*time.Second, 3*time.Second)
-		if s.head.Size != expected {
-			t.Errorf("after %d s the head of %d entries is settled, and not that of %d", second, s.head.Size, expected)
+		if s.head.TreeSize != expected {
+			t.Errorf("after %d s the head of %d entries is settled, and not that of %d", second, s.head.TreeSize, expected)
 		}
 	}
 }
 
 // TestNamesOfHeads reads the names that it writes, and no others.
 func TestNamesOfHeads(t *testing.T) {
-	name := headName(signer.Head{Size: 12, Timestamp: 1800000000123})
+	name := headName(ct.TreeHead{TreeSize: 12, Timestamp: 1800000000123})
 	if timestamp, ok := timestampOf(name); name != "heads/00000000000000000012-00000001800000000123" || !ok ||
 		timestamp != 1800000000123 {
 		t.Errorf("%s is read as %d, %v", name, timestamp, ok)

@@ -10,8 +10,8 @@ import (
 	"golang.org/x/mod/sumdb/tlog"
 
 	"wagtenib/internal/blob"
+	"wagtenib/internal/ct"
 	"wagtenib/internal/log/node/decider"
-	"wagtenib/internal/log/signer"
 	"wagtenib/internal/tiles"
 )
 
@@ -76,7 +76,7 @@ func (j *Janitor) pass(ctx context.Context) {
 	}
 	j.report.Lock()
 	defer j.report.Unlock()
-	j.report.DeletedTo, j.report.Next = j.partial.next[0]*tiles.Width, j.reread.next
+	j.report.DeletedTo, j.report.Next = j.partial.next[0]*ct.TileWidth, j.reread.next
 }
 
 // call calls a function with the time limit of one call.
@@ -119,19 +119,19 @@ func (j *Janitor) remove(ctx context.Context, name string, count *uint64) error 
 
 // deletePartialTiles deletes the partial tiles of full ones that a head has had for Keep.Tiles.
 func (j *Janitor) deletePartialTiles(ctx context.Context, newest Newest) error {
-	if j.tiles.head.Size == 0 {
+	if j.tiles.head.TreeSize == 0 {
 		return nil
 	}
 	if !j.partial.begun {
 		j.partial.begun = true
 		for at := range j.partial.next {
-			full := tiles.Count(at-1, j.tiles.head.Size)
+			full := tiles.Count(at-1, j.tiles.head.TreeSize)
 			j.partial.next[at] = full - min(full, maxBefore)
 		}
 	}
 	left := maxFull
 	for at := range j.partial.next {
-		for full := tiles.Count(at-1, j.tiles.head.Size); left > 0 && j.partial.next[at] < full; left-- {
+		for full := tiles.Count(at-1, j.tiles.head.TreeSize); left > 0 && j.partial.next[at] < full; left-- {
 			if err := j.deletePartials(ctx, at-1, j.partial.next[at], newest.Head); err != nil {
 				// A tile that fails again and again does not stop the others. Its partial tiles are deleted when it is
 				// read again.
@@ -150,9 +150,9 @@ func (j *Janitor) deletePartialTiles(ctx context.Context, newest Newest) error {
 const maxFailed = 3
 
 // deletePartials deletes the partial tiles of a full one, if the full one is whole.
-func (j *Janitor) deletePartials(ctx context.Context, level int, number uint64, newest signer.Head) error {
-	full := tiles.Full(level, number)
-	partials, err := j.list(ctx, tiles.Name(full)+tiles.Partial, "")
+func (j *Janitor) deletePartials(ctx context.Context, level int, number uint64, newest ct.TreeHead) error {
+	full := ct.FullTile(level, number)
+	partials, err := j.list(ctx, ct.TileName(full)+ct.PartialTile, "")
 	if err != nil || len(partials) == 0 {
 		return err
 	}
@@ -169,7 +169,7 @@ func (j *Janitor) deletePartials(ctx context.Context, level int, number uint64, 
 }
 
 // whole returns tiles.ErrDamaged unless a full tile is the one of a head's tree.
-func (j *Janitor) whole(ctx context.Context, full tlog.Tile, newest signer.Head) error {
+func (j *Janitor) whole(ctx context.Context, full tlog.Tile, newest ct.TreeHead) error {
 	if full.L < 0 {
 		_, err := tiles.LeavesOf(ctx, full, newest, j.read)
 		return err
@@ -222,8 +222,8 @@ func (j *Janitor) deleteStaged(ctx context.Context, newest Newest) error {
 // within Keep.Reread. It begins at a random one, so that a log that is started often is read all the same. It deletes
 // the partial tiles of each full one that is whole.
 func (j *Janitor) readAgain(ctx context.Context, newest Newest) error {
-	full := tiles.Count(-1, newest.Head.Size)
-	if full == 0 || j.tiles.head.Size == 0 {
+	full := tiles.Count(-1, newest.Head.TreeSize)
+	if full == 0 || j.tiles.head.TreeSize == 0 {
 		return nil
 	}
 	if r := &j.reread; !r.begun {
@@ -269,7 +269,7 @@ func (j *Janitor) damaged(number uint64, err error) {
 
 // readTile reads one data tile again, and keeps whether it is damaged. An error says that this is not known.
 func (j *Janitor) readTile(ctx context.Context, number uint64, newest Newest) error {
-	leaves, err := tiles.LeavesOf(ctx, tiles.Data(number*tiles.Width, newest.Head.Size), newest.Head, j.read)
+	leaves, err := tiles.LeavesOf(ctx, ct.DataTile(number*ct.TileWidth, newest.Head.TreeSize), newest.Head, j.read)
 	if err != nil && !errors.Is(err, tiles.ErrDamaged) {
 		return err
 	}
@@ -280,7 +280,7 @@ func (j *Janitor) readTile(ctx context.Context, number uint64, newest Newest) er
 	for level := -1; level < levels-1; level++ {
 		// The tile of each level that the data tile is under, when its last one is read.
 		above := number >> uint(8*max(level, 0))
-		if above >= tiles.Count(level, j.tiles.head.Size) || number+1 != (above+1)<<uint(8*max(level, 0)) {
+		if above >= tiles.Count(level, j.tiles.head.TreeSize) || number+1 != (above+1)<<uint(8*max(level, 0)) {
 			continue
 		}
 		if err := j.deletePartials(ctx, level, above, newest.Head); err != nil {

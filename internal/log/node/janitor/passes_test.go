@@ -9,10 +9,10 @@ import (
 	"testing"
 	"time"
 
+	"wagtenib/internal/ct"
 	"wagtenib/internal/log/node/decider"
 	"wagtenib/internal/log/node/janitor"
 	"wagtenib/internal/log/node/step"
-	"wagtenib/internal/log/signer"
 	"wagtenib/internal/testkit"
 )
 
@@ -50,7 +50,7 @@ func (l listed) List(ctx context.Context, prefix, after string, max int) ([]stri
 }
 
 // configOf returns the configuration of a janitor that finds all of a log old enough in its second pass.
-func configOf(objects janitor.Objects, clock janitor.Clock, head signer.Head) janitor.Config {
+func configOf(objects janitor.Objects, clock janitor.Clock, head ct.TreeHead) janitor.Config {
 	return janitor.Config{
 		Objects: objects, Clock: clock, Decider: decider.New(),
 		Newest: func() (janitor.Newest, bool) { return janitor.Newest{Head: head}, true },

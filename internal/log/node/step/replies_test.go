@@ -122,32 +122,25 @@ func TestWrongHeads(t *testing.T) {
 	}
 }
 
-// TestWrongClaims: a receipt without bytes to sign is refused, and the function is not called for a wrong path.
+// TestWrongClaims: a receipt without bytes to sign is refused, and so is a submission that has no encoding.
 func TestWrongClaims(t *testing.T) {
 	of := Proved()
 	of.Claim = func(string, uint64, uint64, []wagtenib.Hash, []byte) ([]byte, error) { return nil, nil }
 	if receipt, err := Over(origin, of).Claim(lineOf(3, 7), 1, 6, nil,
-		Submission{LeafCertificate: []byte("x")}); !errors.Is(err, ErrReply) || receipt != nil {
+		wagtenib.Submission{Certificate: []byte("x")}); !errors.Is(err, ErrReply) || receipt != nil {
 		t.Errorf("%+v, %v", receipt, err)
 	}
 	c := New(origin)
-	if _, err := c.Claim(lineOf(3, 7), 1, 6, [][]byte{make([]byte, 31)},
-		Submission{LeafCertificate: []byte("x")}); !errors.Is(err, NoClaim) {
-		t.Error(err)
-	}
-	for what, s := range map[string]Submission{
-		"nothing":             {},
-		"a short fingerprint": {LeafCertificate: []byte("x"), Chain: [][]byte{make([]byte, 31)}},
-		"too many issuers":    {LeafCertificate: []byte("x"), Chain: make2048()},
-		"a short key hash": {PreCertificate: []byte("p"), TBSCertificate: []byte("t"),
-			IssuerKeyHash: make([]byte, 31)},
-		"no precertificate":  {TBSCertificate: []byte("t"), IssuerKeyHash: make([]byte, 32)},
-		"a long certificate": {LeafCertificate: make([]byte, 1<<24)},
+	for what, s := range map[string]wagtenib.Submission{
+		"nothing":            {},
+		"too many issuers":   {Certificate: []byte("x"), Chain: make2048()},
+		"no precertificate":  {TBSCertificate: []byte("t"), IssuerKeyHash: wagtenib.Hash{}},
+		"a long certificate": {Certificate: make([]byte, 1<<24)},
 	} {
 		if _, err := c.Claim(lineOf(3, 7), 1, 6, nil, s); !errors.Is(err, BadBatch) {
 			t.Errorf("%s: %v", what, err)
 		}
-		if _, err := c.Step(lineOf(0, 5, sha256.Sum256(nil)), nil, []Submission{{LeafCertificate: []byte("x")}, s}, 6,
+		if _, err := c.Step(lineOf(0, 5, sha256.Sum256(nil)), nil, []wagtenib.Submission{{Certificate: []byte("x")}, s}, 6,
 			MaxAhead); !errors.Is(err, BadBatch) {
 			t.Errorf("%s: %v", what, err)
 		}
@@ -155,19 +148,13 @@ func TestWrongClaims(t *testing.T) {
 }
 
 // make2048 returns one fingerprint more than a chain may have.
-func make2048() [][]byte {
-	chain := make([][]byte, 2048)
-	for i := range chain {
-		chain[i] = make([]byte, 32)
-	}
-	return chain
-}
+func make2048() []wagtenib.Hash { return make([]wagtenib.Hash, 2048) }
 
 // TestClaimOfOne: the only entry of a log, which has no issuers, is claimed with an empty path.
 func TestClaimOfOne(t *testing.T) {
 	c, _, one := oneEntry(t)
-	receipt, err := c.Claim(one.Line, 0, 7, nil, Submission{LeafCertificate: []byte("one")})
-	if err != nil || string(receipt.Sign) != string(one.Receipts[0].Sign) {
+	receipt, err := c.Claim(one.Line, 0, 7, nil, wagtenib.Submission{Certificate: []byte("one")})
+	if err != nil || string(receipt.Signed) != string(one.Receipts[0].Signed) {
 		t.Errorf("%+v, %v", receipt, err)
 	}
 	// Bytes that are appended to an object must not change the next one.
@@ -180,7 +167,7 @@ func TestClaimOfOne(t *testing.T) {
 
 // TestBounds: a state with the maximum number of entries is read, and one with more is refused.
 func TestBounds(t *testing.T) {
-	if s, err := ParseState(lineOf(MaxLeaves, 1)); err != nil || s.Size != MaxLeaves || s.Timestamp != 1 {
+	if s, err := ParseState(lineOf(MaxLeaves, 1)); err != nil || s.TreeSize != MaxLeaves || s.Timestamp != 1 {
 		t.Errorf("%+v, %v", s, err)
 	}
 	if s, err := ParseState(lineOf(MaxLeaves+1, 1)); !errors.Is(err, ErrState) {

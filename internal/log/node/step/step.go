@@ -3,9 +3,7 @@
 package step
 
 import (
-	"bytes"
 	"crypto/sha256"
-	"encoding/binary"
 	"errors"
 	"fmt"
 
@@ -83,26 +81,6 @@ func New(origin string) *Stepper { return Over(origin, Proved()) }
 // Over returns a stepper over other functions than the proved ones, for tests.
 func Over(origin string, functions Functions) *Stepper { return &Stepper{origin, functions} }
 
-// Receipt holds the index and the timestamp of an entry of a batch, and the bytes that its timestamp's signature covers (RFC 6962, section
-// 3.2).
-type Receipt struct {
-	LeafIndex uint64
-	Timestamp uint64
-	Sign      []byte
-}
-
-// Head is a tree head to sign.
-type Head struct {
-	// Checkpoint is the body of its note, and Sign the bytes under its signature (RFC 6962, section 3.5).
-	Checkpoint string
-	Sign       []byte
-	Head       struct {
-		RootHash  []byte
-		Timestamp uint64
-		TreeSize  uint64
-	}
-}
-
 // refused returns the error of a call.
 func refused(err error) error {
 	var code wagtenib.Code
@@ -115,20 +93,15 @@ func refused(err error) error {
 	return fmt.Errorf("step: %w", err)
 }
 
-// headOf returns the head that is published with a state, after it compared it with the state.
-func headOf(p wagtenib.Published, s State) (h Head, err error) {
-	h.Checkpoint, h.Sign = p.Checkpoint, p.Signed[:]
-	h.Head.Timestamp = binary.BigEndian.Uint64(h.Sign[2:])
-	h.Head.TreeSize = binary.BigEndian.Uint64(h.Sign[10:])
-	h.Head.RootHash = h.Sign[18:]
-	if h.Sign[0] != 0 || h.Sign[1] != 1 || h.Head.TreeSize != s.Size || h.Head.Timestamp != s.Timestamp ||
-		!bytes.Equal(h.Head.RootHash, s.Root[:]) {
-		return Head{}, fmt.Errorf("%w: the head is not that of the state", ErrReply)
+// checkHead returns an error unless the head that is published with a state is that of the state, and has a note.
+func checkHead(p wagtenib.Published, s State) error {
+	if p.Signed != wagtenib.TreeHeadSignature(s.TreeHead) {
+		return fmt.Errorf("%w: the head is not that of the state", ErrReply)
 	}
-	if h.Checkpoint == "" {
-		return Head{}, fmt.Errorf("%w: the head has no note", ErrReply)
+	if p.Checkpoint == "" {
+		return fmt.Errorf("%w: the head has no note", ErrReply)
 	}
-	return h, nil
+	return nil
 }
 
 // Begin returns the line of a log without entries.
@@ -137,7 +110,7 @@ func (s *Stepper) Begin(timestamp uint64) (string, error) {
 	if err != nil {
 		return "", refused(err)
 	}
-	if state, err := ParseState(line); err != nil || state.Size != 0 || state.Timestamp != timestamp ||
+	if state, err := ParseState(line); err != nil || state.TreeSize != 0 || state.Timestamp != timestamp ||
 		!state.IsBegin() {
 		return "", fmt.Errorf("%w: the state is not that of a log without entries", ErrReply)
 	}
@@ -160,13 +133,14 @@ func (s *Stepper) Needs(line string) ([]string, error) {
 
 // Stepped is the result of a step.
 type Stepped struct {
-	Head
+	// Checkpoint is the text of the head's note, without a signature (C2SP tlog-checkpoint).
+	Checkpoint string
 	// Line is the line of the new state, and Bundle the content of the staged batch.
 	Line   string
 	Bundle []byte
 	// Receipts has one receipt for each submission of the batch, in its order. A submission that is in the batch twice
 	// has the receipt of the first one both times.
-	Receipts []Receipt
+	Receipts []wagtenib.Receipt
 	// State is the state of the line, and Objects are the objects to publish, which are parts of the bundle.
 	State   State
 	Objects []Object
@@ -175,7 +149,7 @@ type Stepped struct {
 // Step returns the state after a batch, with the objects that it publishes. The edge has the contents of the objects
 // that Needs names, in that order. Now is the step's timestamp in milliseconds. If it is later than the line's by more
 // than maxAhead, the error is TooFar.
-func (s *Stepper) Step(line string, edge [][]byte, batch []Submission, now, maxAhead uint64) (*Stepped, error) {
+func (s *Stepper) Step(line string, edge [][]byte, batch []wagtenib.Submission, now, maxAhead uint64) (*Stepped, error) {
 	before, err := ParseState(line)
 	if err != nil {
 		return nil, err
@@ -188,7 +162,7 @@ func (s *Stepper) Step(line string, edge [][]byte, batch []Submission, now, maxA
 	if err != nil {
 		return nil, refused(err)
 	}
-	return stepped(reply, line, before.Size, len(batch), now)
+	return stepped(reply, line, before.TreeSize, len(batch), now)
 }
 
 // stepped returns the result of a step, after it compared the reply with its request: the line before, the number of
@@ -201,7 +175,7 @@ func stepped(reply *wagtenib.Step, line string, size uint64, batch int, now uint
 	if len(reply.Receipts) != batch {
 		return nil, fmt.Errorf("%w: %d receipts of %d entries", ErrReply, len(reply.Receipts), batch)
 	}
-	receipts, before := make([]Receipt, batch), size
+	before := size
 	for i, r := range reply.Receipts {
 		if r.LeafIndex == size {
 			size++
@@ -209,9 +183,8 @@ func stepped(reply *wagtenib.Step, line string, size uint64, batch int, now uint
 		if r.LeafIndex < before || r.LeafIndex >= size || r.Timestamp != now || len(r.Signed) == 0 {
 			return nil, fmt.Errorf("%w: receipt %d is not one of an entry of this batch", ErrReply, i)
 		}
-		receipts[i] = Receipt{r.LeafIndex, r.Timestamp, r.Signed}
 	}
-	if state.Size != size || state.Timestamp != now || state.Before != Digest(line) ||
+	if state.TreeSize != size || state.Timestamp != now || state.Before != Digest(line) ||
 		state.Bundle != sha256.Sum256(reply.Bundle) {
 		return nil, fmt.Errorf("%w: the state is not that after this batch", ErrReply)
 	}
@@ -219,42 +192,35 @@ func stepped(reply *wagtenib.Step, line string, size uint64, batch int, now uint
 	if err != nil {
 		return nil, err
 	}
-	head, err := headOf(reply.Published, state)
-	if err != nil {
+	if err := checkHead(reply.Published, state); err != nil {
 		return nil, err
 	}
-	return &Stepped{head, reply.State, reply.Bundle, receipts, state, objects}, nil
+	return &Stepped{reply.Checkpoint, reply.State, reply.Bundle, reply.Receipts, state, objects}, nil
 }
 
 // Claim returns the receipt of a submission whose entry has this index in the log of this line. The audit path has the
 // hashes from the leaf up (RFC 9162, section 2.1.3.2). If it does not lead from the entry's leaf to the line's root, the
 // error is NoClaim.
-func (s *Stepper) Claim(line string, index, timestamp uint64, path [][]byte, submission Submission) (*Receipt, error) {
-	hashes := make([]wagtenib.Hash, len(path))
-	for i, hash := range path {
-		if len(hash) != wagtenib.HashSize {
-			return nil, fmt.Errorf("%w: a hash of %d bytes", NoClaim, len(hash))
-		}
-		hashes[i] = wagtenib.Hash(hash)
-	}
-	asked, err := batchBytes([]Submission{submission})
+func (s *Stepper) Claim(line string, index, timestamp uint64, path [][32]byte, submission wagtenib.Submission) (*wagtenib.Receipt, error) {
+	asked, err := batchBytes([]wagtenib.Submission{submission})
 	if err != nil {
 		return nil, err
 	}
-	signed, err := s.functions.Claim(line, index, timestamp, hashes, asked)
+	signed, err := s.functions.Claim(line, index, timestamp, path, asked)
 	if err != nil {
 		return nil, refused(err)
 	}
 	if len(signed) == 0 {
 		return nil, fmt.Errorf("%w: the receipt has no bytes to sign", ErrReply)
 	}
-	return &Receipt{index, timestamp, signed}, nil
+	return &wagtenib.Receipt{LeafIndex: index, Timestamp: timestamp, Signed: signed}, nil
 }
 
 // Resumed is what must be published of a step that was decided.
 type Resumed struct {
-	Head
-	Objects []Object
+	// Checkpoint is the text of the head's note, without a signature.
+	Checkpoint string
+	Objects    []Object
 }
 
 // Resume returns what must be published of a state, out of the bundle of the step that made it.
@@ -271,9 +237,8 @@ func (s *Stepper) Resume(line string, bundle []byte) (*Resumed, error) {
 	if err != nil {
 		return nil, err
 	}
-	head, err := headOf(*published, state)
-	if err != nil {
+	if err := checkHead(*published, state); err != nil {
 		return nil, err
 	}
-	return &Resumed{head, objects}, nil
+	return &Resumed{published.Checkpoint, objects}, nil
 }

@@ -25,14 +25,14 @@ func TestSteps(t *testing.T) {
 	if err != nil || len(names) != 0 {
 		t.Fatalf("%v, %v", names, err)
 	}
-	one, err := c.Step(line, nil, []Submission{{LeafCertificate: []byte("one")}}, 7, MaxAhead)
+	one, err := c.Step(line, nil, []wagtenib.Submission{{Certificate: []byte("one")}}, 7, MaxAhead)
 	must(t, err)
 	// The root of one leaf is the leaf's hash: by hand, from RFC 6962, sections 2.1 and 3.4, and static-ct-api's
 	// extension.
 	leaf := "\x00\x00\x00" + "\x00\x00\x00\x00\x00\x00\x00\x07" + "\x00\x00" + "\x00\x00\x03one" +
 		"\x00\x08\x00\x00\x05\x00\x00\x00\x00\x00"
-	if one.State.Root != sha256.Sum256([]byte(leaf)) || one.State.Size != 1 ||
-		string(one.Receipts[0].Sign) != leaf[1:] {
+	if one.State.Root != sha256.Sum256([]byte(leaf)) || one.State.TreeSize != 1 ||
+		string(one.Receipts[0].Signed) != leaf[1:] {
 		t.Errorf("%+v", one)
 	}
 	names, err = c.Needs(one.Line)
@@ -41,14 +41,13 @@ func TestSteps(t *testing.T) {
 	}
 	objects := one.Objects
 	edge := [][]byte{objects[0].Content, objects[1].Content}
-	two, err := c.Step(one.Line, edge, []Submission{{IssuerKeyHash: make([]byte, 32), PreCertificate: []byte("p"),
+	two, err := c.Step(one.Line, edge, []wagtenib.Submission{{PreCertificate: []byte("p"),
 		TBSCertificate: []byte("t")}}, 8, MaxAhead)
 	must(t, err)
 	resumed, err := c.Resume(two.Line, two.Bundle)
 	must(t, err)
 	objects = two.Objects
-	if len(objects) != 2 || len(resumed.Objects) != 2 || resumed.Checkpoint != two.Checkpoint ||
-		!bytes.Equal(resumed.Sign, two.Sign) {
+	if len(objects) != 2 || len(resumed.Objects) != 2 || resumed.Checkpoint != two.Checkpoint {
 		t.Fatalf("%+v and %+v", objects, resumed)
 	}
 	for i := range objects {
@@ -60,10 +59,10 @@ func TestSteps(t *testing.T) {
 	}
 	// The path in a tree of two leaves is the other leaf's hash.
 	first := sha256.Sum256([]byte(leaf))
-	path, entry := [][]byte{objects[0].Content[32:64]}, Submission{LeafCertificate: []byte("one")}
+	path, entry := [][32]byte{[32]byte(objects[0].Content[32:64])}, wagtenib.Submission{Certificate: []byte("one")}
 	claimed, err := c.Claim(two.Line, 0, 7, path, entry)
 	must(t, err)
-	if string(claimed.Sign) != leaf[1:] || !bytes.Equal(objects[0].Content[:32], first[:]) {
+	if string(claimed.Signed) != leaf[1:] || !bytes.Equal(objects[0].Content[:32], first[:]) {
 		t.Errorf("%+v", claimed)
 	}
 	bent := append([]byte{}, edge[0]...)
@@ -82,7 +81,7 @@ func TestSteps(t *testing.T) {
 			t.Errorf("%v, and not %s", err, want)
 		}
 	}
-	if _, err := c.Step(one.Line, edge, []Submission{{}}, 8, MaxAhead); !errors.Is(err, BadBatch) {
+	if _, err := c.Step(one.Line, edge, []wagtenib.Submission{{}}, 8, MaxAhead); !errors.Is(err, BadBatch) {
 		t.Error(err)
 	}
 }
@@ -111,7 +110,7 @@ func oneEntry(t *testing.T) (c *Stepper, before string, first *Stepped) {
 }
 
 // oneSubmission is its batch.
-var oneSubmission = []Submission{{LeafCertificate: []byte("one")}}
+var oneSubmission = []wagtenib.Submission{{Certificate: []byte("one")}}
 
 // TestWrongStates: a state in a reply with one wrong field is refused, since it must follow from the request.
 func TestWrongStates(t *testing.T) {
@@ -143,22 +142,22 @@ func TestReceipts(t *testing.T) {
 	c := New(origin)
 	line, err := c.Begin(5)
 	must(t, err)
-	of := func(leaf string) Submission { return Submission{LeafCertificate: []byte(leaf)} }
-	before, err := c.Step(line, nil, []Submission{of("zero")}, 6, MaxAhead)
+	of := func(leaf string) wagtenib.Submission { return wagtenib.Submission{Certificate: []byte(leaf)} }
+	before, err := c.Step(line, nil, []wagtenib.Submission{of("zero")}, 6, MaxAhead)
 	must(t, err)
 	edge := [][]byte{before.Objects[0].Content, before.Objects[1].Content}
-	batch := []Submission{of("one"), of("two"), of("one"), of("three"), of("two")}
+	batch := []wagtenib.Submission{of("one"), of("two"), of("one"), of("three"), of("two")}
 	right, err := c.Step(before.Line, edge, batch, 7, MaxAhead)
 	must(t, err)
 	for i, index := range []uint64{1, 2, 1, 3, 2} {
 		first := map[uint64]int{1: 0, 2: 1, 3: 3}[index]
-		if r := right.Receipts[i]; r.LeafIndex != index || !bytes.Equal(r.Sign, right.Receipts[first].Sign) ||
-			!bytes.Contains(r.Sign, batch[i].LeafCertificate) {
+		if r := right.Receipts[i]; r.LeafIndex != index || !bytes.Equal(r.Signed, right.Receipts[first].Signed) ||
+			!bytes.Contains(r.Signed, batch[i].Certificate) {
 			t.Errorf("receipt %d is of entry %d", i, r.LeafIndex)
 		}
 	}
-	if right.State.Size != 4 {
-		t.Errorf("%d entries", right.State.Size)
+	if right.State.TreeSize != 4 {
+		t.Errorf("%d entries", right.State.TreeSize)
 	}
 	reply, err := wagtenib.MakeStep(origin, before.Line, edgeBytes(edge), bytesOf(t, batch), 7, MaxAhead)
 	must(t, err)
@@ -183,7 +182,7 @@ func TestReceipts(t *testing.T) {
 }
 
 // bytesOf returns the bytes of a batch.
-func bytesOf(t *testing.T, batch []Submission) []byte {
+func bytesOf(t *testing.T, batch []wagtenib.Submission) []byte {
 	t.Helper()
 	text, err := batchBytes(batch)
 	must(t, err)

@@ -1,4 +1,4 @@
-package tiles
+package ct
 
 import (
 	"bytes"
@@ -8,18 +8,16 @@ import (
 	"fmt"
 
 	"golang.org/x/crypto/cryptobyte"
-
-	"wagtenib/internal/log/chain"
 )
 
-// ErrTile means that bytes are not a data tile.
-var ErrTile = errors.New("tile: not a data tile")
+// ErrDataTile means that bytes are not a data tile.
+var ErrDataTile = errors.New("tile: not a data tile")
 
 // Leaf is an entry of a data tile (TileLeaf). Its fields share memory with the tile.
 type Leaf struct {
 	// Timestamp is in milliseconds since 1970.
 	Timestamp uint64
-	Type      chain.EntryType
+	Type      EntryType
 	// IssuerKeyHash has 32 bytes if the entry is a precertificate. Certificate is the certificate, or the
 	// TBSCertificate of the precertificate.
 	IssuerKeyHash, Certificate []byte
@@ -31,12 +29,7 @@ type Leaf struct {
 	Precertificate []byte
 	// Chain has the SHA-256 fingerprints of the issuers, 32 bytes each.
 	Chain []byte
-
-	length int
 }
-
-// Length returns the number of bytes of the leaf in its tile.
-func (l *Leaf) Length() int { return l.length }
 
 // Input returns the bytes of the leaf in the tree, a MerkleTreeLeaf. It begins with two zero bytes, the version v1 and
 // the type timestamped_entry, before the entry (RFC 6962, section 3.4).
@@ -62,25 +55,38 @@ func (l *Leaf) Index() (index uint64, ok bool) {
 	return binary.BigEndian.Uint64(append([]byte{0, 0, 0}, l.Extensions[len(leafIndex):]...)), true
 }
 
-// Extensions returns extensions with only the index of a leaf, which must be below 2^40.
-func Extensions(index uint64) []byte {
+// IndexExtension returns extensions with only the index of a leaf, which must be below 2^40.
+func IndexExtension(index uint64) []byte {
 	return append(leafIndex[:len(leafIndex):len(leafIndex)], binary.BigEndian.AppendUint64(nil, index)[3:]...)
 }
 
-// ReadData returns the leaves of a data tile, at most Width. The error wraps ErrTile. The programs that check a log
-// from outside (internal/audit/judge, tests/clients/tlog) have a reader of their own.
-func ReadData(tile []byte) (leaves []Leaf, err error) {
+// ReadDataTile returns the leaves of a data tile, at most TileWidth. The error wraps ErrDataTile. The programs that check
+// a log from outside (internal/audit/judge, tests/clients/tlog) have a reader of their own.
+func ReadDataTile(tile []byte) (leaves []Leaf, err error) {
 	for rest := cryptobyte.String(tile); !rest.Empty(); {
 		leaf, ok := readLeaf(&rest)
 		if !ok {
-			return nil, fmt.Errorf("%w: entry %d is invalid", ErrTile, len(leaves))
+			return nil, fmt.Errorf("%w: entry %d is invalid", ErrDataTile, len(leaves))
 		}
-		if len(leaves) == Width {
-			return nil, fmt.Errorf("%w: it has more than %d entries", ErrTile, Width)
+		if len(leaves) == TileWidth {
+			return nil, fmt.Errorf("%w: it has more than %d entries", ErrDataTile, TileWidth)
 		}
 		leaves = append(leaves, leaf)
 	}
 	return leaves, nil
+}
+
+// FirstEntries returns the beginning of a data tile with this number of entries. It checks only that these entries can
+// be read, and not what they contain. ok is false if the tile does not begin with so many entries. A log can put
+// millions of tiny entries into a tile, and those that follow take no memory.
+func FirstEntries(tile []byte, count int) (beginning []byte, ok bool) {
+	rest := cryptobyte.String(tile)
+	for range count {
+		if _, ok := readLeaf(&rest); !ok {
+			return nil, false
+		}
+	}
+	return tile[:len(tile)-len(rest)], true
 }
 
 // readLeaf reads the leaf at the beginning of the bytes, and removes it from them.
@@ -91,9 +97,9 @@ func readLeaf(tile *cryptobyte.String) (leaf Leaf, ok bool) {
 	if !tile.ReadUint64(&leaf.Timestamp) || !tile.ReadUint16(&of) {
 		return leaf, false
 	}
-	switch leaf.Type = chain.EntryType(of); leaf.Type {
-	case chain.X509Entry:
-	case chain.PrecertEntry:
+	switch leaf.Type = EntryType(of); leaf.Type {
+	case X509Entry:
+	case PrecertEntry:
 		if !tile.ReadBytes(&leaf.IssuerKeyHash, sha256.Size) {
 			return leaf, false
 		}
@@ -104,13 +110,12 @@ func readLeaf(tile *cryptobyte.String) (leaf Leaf, ok bool) {
 		return leaf, false
 	}
 	leaf.Entry = whole[: len(whole)-len(*tile) : len(whole)-len(*tile)]
-	if leaf.Type == chain.PrecertEntry && !tile.ReadUint24LengthPrefixed(&precertificate) {
+	if leaf.Type == PrecertEntry && !tile.ReadUint24LengthPrefixed(&precertificate) {
 		return leaf, false
 	}
 	if !tile.ReadUint16LengthPrefixed(&fingerprints) || len(fingerprints)%sha256.Size != 0 {
 		return leaf, false
 	}
 	leaf.Certificate, leaf.Extensions, leaf.Precertificate, leaf.Chain = certificate, extensions, precertificate, fingerprints
-	leaf.length = len(whole) - len(*tile)
 	return leaf, true
 }

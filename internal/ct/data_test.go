@@ -1,4 +1,4 @@
-package tiles
+package ct_test
 
 import (
 	"bytes"
@@ -8,7 +8,7 @@ import (
 	"strings"
 	"testing"
 
-	"wagtenib/internal/log/chain"
+	"wagtenib/internal/ct"
 )
 
 // These are a leaf of each type, field by field (C2SP static-ct-api, "Log Entries"; RFC 6962, section 3.4). The
@@ -31,17 +31,17 @@ func unhex(t testing.TB, text string) []byte {
 	return content
 }
 
-func TestRead(t *testing.T) {
-	leaves, err := ReadData(unhex(t, plain+pre))
+func TestReadsDataTile(t *testing.T) {
+	leaves, err := ct.ReadDataTile(unhex(t, plain+pre))
 	if err != nil || len(leaves) != 2 {
 		t.Fatalf("%d leaves, %v", len(leaves), err)
 	}
 	for i, expected := range []struct {
-		entryType                                          chain.EntryType
+		entryType                                          ct.EntryType
 		keyHash, certificate, precertificate, chain, entry string
 	}{
-		{chain.X509Entry, "", "300141", "", issuer, timestamp + "0000" + "000003" + "300141" + extensions},
-		{chain.PrecertEntry, keyHash, "300154", "300150", "", timestamp + "0001" + keyHash + "000003" + "300154" +
+		{ct.X509Entry, "", "300141", "", issuer, timestamp + "0000" + "000003" + "300141" + extensions},
+		{ct.PrecertEntry, keyHash, "300154", "300150", "", timestamp + "0001" + keyHash + "000003" + "300154" +
 			extensions},
 	} {
 		l := &leaves[i]
@@ -73,60 +73,73 @@ func TestRead(t *testing.T) {
 	}
 }
 
-// TestReadRefuses checks that incomplete leaves and wrong fields are refused.
-func TestReadRefuses(t *testing.T) {
+// TestRefusesDataTile checks that incomplete leaves and wrong fields are refused.
+func TestRefusesDataTile(t *testing.T) {
 	refused := map[string]string{
 		"an unknown type":           strings.Replace(plain, timestamp+"0000", timestamp+"0002", 1),
 		"half of a fingerprint":     strings.Replace(plain, "0020"+issuer, "0010"+issuer[:32], 1),
 		"a byte after the last one": plain + "00",
-		"257 leaves":                strings.Repeat(plain, Width+1),
+		"257 leaves":                strings.Repeat(plain, ct.TileWidth+1),
 	}
 	for what, text := range refused {
-		if leaves, err := ReadData(unhex(t, text)); !errors.Is(err, ErrTile) || leaves != nil {
+		if leaves, err := ct.ReadDataTile(unhex(t, text)); !errors.Is(err, ct.ErrDataTile) || leaves != nil {
 			t.Errorf("%s: %d leaves, %v", what, len(leaves), err)
 		}
 	}
 	for _, whole := range [][]byte{unhex(t, plain), unhex(t, pre)} {
 		for n := 1; n < len(whole); n++ {
-			if leaves, err := ReadData(whole[:n]); !errors.Is(err, ErrTile) || leaves != nil {
+			if leaves, err := ct.ReadDataTile(whole[:n]); !errors.Is(err, ct.ErrDataTile) || leaves != nil {
 				t.Errorf("the first %d bytes of %x: %d leaves, %v", n, whole, len(leaves), err)
 			}
 		}
 	}
-	if _, err := ReadData(unhex(t, pre+plain+"00")); err == nil || !strings.Contains(err.Error(), "entry 2 ") {
+	if _, err := ct.ReadDataTile(unhex(t, pre+plain+"00")); err == nil || !strings.Contains(err.Error(), "entry 2 ") {
 		t.Errorf("the error does not name the third entry: %v", err)
 	}
-	if leaves, err := ReadData(unhex(t, strings.Repeat(plain, Width))); err != nil || len(leaves) != Width {
+	if leaves, err := ct.ReadDataTile(unhex(t, strings.Repeat(plain, ct.TileWidth))); err != nil || len(leaves) != ct.TileWidth {
 		t.Errorf("a full tile is %d leaves, %v", len(leaves), err)
 	}
-	if leaves, err := ReadData(nil); err != nil || len(leaves) != 0 {
+	if leaves, err := ct.ReadDataTile(nil); err != nil || len(leaves) != 0 {
 		t.Errorf("no bytes are %d leaves, %v", len(leaves), err)
+	}
+}
+
+// TestFirstEntries checks that a tile is cut after its first entries, whatever follows them.
+func TestFirstEntries(t *testing.T) {
+	tile := unhex(t, plain+pre+"07")
+	for count, expected := range []string{"", plain, plain + pre} {
+		if first, ok := ct.FirstEntries(tile, count); !ok || hex.EncodeToString(first) != expected {
+			t.Errorf("the first %d entries are %x, %t", count, first, ok)
+		}
+	}
+	if first, ok := ct.FirstEntries(tile, 3); ok || first != nil {
+		t.Errorf("the first 3 entries of 2 are %x", first)
 	}
 }
 
 func TestIndex(t *testing.T) {
 	for _, index := range []uint64{0, 1, 255, 0x0102030405, 1<<40 - 1} {
-		l := Leaf{Extensions: Extensions(index)}
+		l := ct.Leaf{Extensions: ct.IndexExtension(index)}
 		if found, ok := l.Index(); found != index || !ok || len(l.Extensions) != 8 {
 			t.Errorf("%d is written as %x, and read as %d, %t", index, l.Extensions, found, ok)
 		}
 	}
 	for _, other := range []string{"", "0000050102030405ff", "00000501020304", "0100050102030405", "0000040102030405",
 		"000005010203040500000501020304ff"} {
-		if found, ok := (&Leaf{Extensions: unhex(t, other)}).Index(); ok || found != 0 {
+		if found, ok := (&ct.Leaf{Extensions: unhex(t, other)}).Index(); ok || found != 0 {
 			t.Errorf("%s is read as %d", other, found)
 		}
 	}
 }
 
-// FuzzRead checks that a data tile is read completely or not at all, and that its entries contain all of its bytes.
-func FuzzRead(f *testing.F) {
+// FuzzReadDataTile checks that a data tile is read completely or not at all, and that its entries contain all of its bytes.
+func FuzzReadDataTile(f *testing.F) {
 	whole := unhex(f, plain+pre)
 	f.Add(whole)
 	f.Add(whole[:len(whole)-1])
 	f.Add([]byte{0, 0, 0, 0, 0, 0, 0, 1, 0, 1})
 	f.Fuzz(func(t *testing.T, content []byte) {
-		leaves, err := ReadData(content)
+		leaves, err := ct.ReadDataTile(content)
 		if err != nil {
 			if leaves != nil {
 				t.Fatal("entries are returned with an error")
@@ -136,7 +149,7 @@ func FuzzRead(f *testing.F) {
 		var again []byte
 		for _, leaf := range leaves {
 			again = append(again, leaf.Entry...)
-			if leaf.Type == chain.PrecertEntry {
+			if leaf.Type == ct.PrecertEntry {
 				n := len(leaf.Precertificate)
 				again = append(append(again, byte(n>>16), byte(n>>8), byte(n)), leaf.Precertificate...)
 			}
