@@ -1,0 +1,3 @@
+pub mod Subtrees
+pub mod Roots
+pub mod Verdict

@@ -1,0 +1,14 @@
+//! Subtrees of a Certificate Transparency log's tree, and the verifiers of their proofs.
+//!
+//! A subtree of a list of leaves D is a range `[start, end)` whose start is a multiple of the smallest power of two that is not below its
+//! length. Its hash is MTH(D[start:end]) (RFC 6962, section 2.1). Merkle Tree Certificates sign such hashes.
+//!
+//! The definitions are in `specs/Subtrees.antt`. Their recursion is that of draft-ietf-plants-merkle-tree-certs, which is cited from memory.
+//! Nothing here depends on the text of the draft, because all of it is mathematics of the tree of RFC 6962.
+#![tactic(auto)]
+
+mod fault;
+mod range;
+
+pub use fault::SubtreeFault;
+pub use range::is_subtree;
