@@ -7,8 +7,10 @@
 //! Nothing here depends on the text of the draft, because all of it is mathematics of the tree of RFC 6962.
 #![tactic(auto)]
 
+mod covering;
 mod fault;
 mod range;
 
+pub use covering::{Cover, Subtree, cover_range};
 pub use fault::SubtreeFault;
 pub use range::is_subtree;
