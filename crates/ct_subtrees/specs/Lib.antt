@@ -1,3 +1,4 @@
 pub mod Subtrees
 pub mod Roots
 pub mod Verdict
+pub mod Walk

@@ -7,8 +7,13 @@
 //! Nothing here depends on the text of the draft, because all of it is mathematics of the tree of RFC 6962.
 #![tactic(auto)]
 
+mod consistency;
+mod element;
 mod fault;
+mod inclusion;
 mod range;
 
+pub use consistency::verify_subtree_consistency;
 pub use fault::SubtreeFault;
+pub use inclusion::evaluate_subtree_inclusion;
 pub use range::is_subtree;
