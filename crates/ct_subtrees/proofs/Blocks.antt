@@ -1,7 +1,6 @@
 -- Ranges that begin a block of leaves, and their halves.
-use Rattle.std.proofs.Common.{◌≡◌, ℕ, zero, suc, ◌+◌, ◌-◌, ◌*◌, ◌/◌, ◌%◌, ◌^◌, ◌<◌, ◌≤◌, refl, sym, ◌∙◌, ap, arith, subst, ⊎_elim}
+use Rattle.std.proofs.Common.{◌≡◌, ℕ, zero, suc, ◌+◌, ◌-◌, ◌*◌, ◌/◌, ◌%◌, ◌^◌, ◌<◌, ◌≤◌, ◌∙◌, ap, arith}
 use Rattle.std.proofs.Math.Nat.{mul_left_comm, pow-suc}
-use Rattle.std.proofs.lemmas.Bool.{cases_lt}
 use Rattle.ct_subtrees.specs.Subtrees.{IsSubtree}
 
 -- c leaves from index s on begin a block of 2 ^ j leaves

@@ -8,9 +8,14 @@
 #![tactic(auto)]
 
 mod covering;
+mod consistency;
+mod element;
 mod fault;
+mod inclusion;
 mod range;
 
 pub use covering::{Cover, Subtree, cover_range};
+pub use consistency::verify_subtree_consistency;
 pub use fault::SubtreeFault;
+pub use inclusion::evaluate_subtree_inclusion;
 pub use range::is_subtree;

@@ -1,4 +1,4 @@
-use Rattle.std.proofs.Common.{◌<◌, ◌≡◌, ◌%◌, arith, refl, false}
+use Rattle.std.proofs.Common.{arith, refl, false}
 use Rattle.std.proofs.lemmas.Bool.{both_ways}
 use Rattle.ct_subtrees.proofs.Blocks.{block_one, block_even, block_half, block_twice, subtree_block, block_subtree}
 use Rattle.ct_subtrees.proofs.range.is_subtree.Goals as goal
