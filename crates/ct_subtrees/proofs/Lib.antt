@@ -6,3 +6,6 @@ pub mod Halves
 pub mod Covered
 pub mod Defined
 pub mod Steps
+pub mod Subproof
+pub mod Inside
+pub mod Made

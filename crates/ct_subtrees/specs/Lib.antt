@@ -3,3 +3,4 @@ pub mod Roots
 pub mod Verdict
 pub mod Cover
 pub mod Walk
+pub mod Made

@@ -7,15 +7,18 @@
 //! Nothing here depends on the text of the draft, because all of it is mathematics of the tree of RFC 6962.
 #![tactic(auto)]
 
-mod covering;
 mod consistency;
+mod covering;
 mod element;
 mod fault;
+mod from_nodes;
 mod inclusion;
+mod parts;
 mod range;
 
-pub use covering::{Cover, Subtree, cover_range};
 pub use consistency::verify_subtree_consistency;
+pub use covering::{Cover, Subtree, cover_range};
 pub use fault::SubtreeFault;
+pub use from_nodes::{subtree_hash, subtree_path, subtree_proof};
 pub use inclusion::evaluate_subtree_inclusion;
 pub use range::is_subtree;
