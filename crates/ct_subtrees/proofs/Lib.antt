@@ -9,3 +9,4 @@ pub mod Steps
 pub mod Subproof
 pub mod Inside
 pub mod Made
+pub mod FirstLeaf

@@ -128,6 +128,12 @@ module _ (H : List ℕ → List ℕ) where
       ∙ take_at part (subtree_proof H s e E) (path_length (i - s) (e - s)) count
       ∙ ap (path H (i - s)) same
 
+  pub path-first : (s e : ℕ) (D : List (List ℕ)) → IsSubtree s e → e ≤ length D
+      → take (path_length 0 (e - s)) (path H s (take e D)) ≡ subtree_path H s s e D
+  path-first s e D v l =
+      let z : s - s ≡ 0 = omega arith in
+      ap (λ u. take (path_length u (e - s)) (path H s (take e D))) (sym z) ∙ path-inside s s e D v (omega arith) v.0 l
+
   -- ---- the hash
   fold-path_at : (n : ℕ) (D : List (List ℕ)) → length D ≡ n → 0 < n → fold (hash_node H) (get_or D 0 []) (path H 0 D) ≡ mth H D
   fold-path_at =

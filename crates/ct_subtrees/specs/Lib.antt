@@ -4,3 +4,4 @@ pub mod Verdict
 pub mod Cover
 pub mod Walk
 pub mod Made
+pub mod Tiles

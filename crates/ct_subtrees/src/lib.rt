@@ -12,6 +12,7 @@ mod covering;
 mod element;
 mod fault;
 mod from_nodes;
+mod from_tiles;
 mod inclusion;
 mod parts;
 mod range;
@@ -20,5 +21,9 @@ pub use consistency::verify_subtree_consistency;
 pub use covering::{Cover, Subtree, cover_range};
 pub use fault::SubtreeFault;
 pub use from_nodes::{subtree_hash, subtree_path, subtree_proof};
+pub use from_tiles::{
+    subtree_hash_of_handed, subtree_path_of_handed, subtree_proof_of_handed,
+    tiles_for_subtree_path, tiles_for_subtree_proof,
+};
 pub use inclusion::evaluate_subtree_inclusion;
 pub use range::is_subtree;
