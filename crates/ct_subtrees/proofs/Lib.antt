@@ -4,3 +4,8 @@ pub mod Length
 pub mod Down
 pub mod Defined
 pub mod Steps
+pub mod Subproof
+pub mod Rebuilds
+pub mod Special
+pub mod OneRefusal
+pub mod Equations

@@ -2,3 +2,4 @@ pub mod Subtrees
 pub mod Roots
 pub mod Verdict
 pub mod Walk
+pub mod Laws

@@ -11,6 +11,7 @@ mod consistency;
 mod element;
 mod fault;
 mod inclusion;
+pub mod laws;
 mod range;
 
 pub use consistency::verify_subtree_consistency;
