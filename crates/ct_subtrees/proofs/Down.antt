@@ -68,3 +68,14 @@ module _ (H : List ℕ → List ℕ) where
       → subtree_roots H s e n b r (q ++ c ∷ []) ≡ option_map (λ z. pair_right H z c) (subtree_roots H 0 (e - k) (n - k) false r q)
   unfolding subtree_roots
   roots-both s e n k b r c q w f l g = rw (reverse_last q c) (down-both H s e n k b r c (reverse q) w f l g)
+
+  -- the known hash does not matter if it is not known
+  down_any : (r t : List ℕ) (q : List (List ℕ)) (s e n : ℕ) → subtree_down H s e n false r q ≡ subtree_down H s e n false t q
+  unfolding subtree_down
+  down_any r t [] s e n = refl
+  down_any r t (c ∷ q) s e n =
+      rw (down_any r t q 0 (e - split n) (n - split n), down_any r t q (s - split n) (e - split n) (n - split n), down_any r t q s e (split n)) refl
+
+  pub any_known : (s e n : ℕ) (r t : List ℕ) (q : List (List ℕ)) → subtree_roots H s e n false r q ≡ subtree_roots H s e n false t q
+  unfolding subtree_roots
+  any_known s e n r t q = down_any r t (reverse q) s e n

@@ -1,16 +1,18 @@
 -- The audit path of a leaf of a subtree, and the subtrees whose consistency proof is that of the leaves before their end.
-use Rattle.std.proofs.Common.{◌≡◌, ℕ, zero, suc, ◌+◌, ◌-◌, ◌*◌, ◌^◌, ◌<◌, ◌≤◌, Bool, true, false, refl, sym, ◌∙◌, ap, subst, arith, List, [], ◌∷◌, ◌++◌, length, take, drop, length-drop}
+use Rattle.std.proofs.Common.{◌≡◌, ℕ, zero, suc, ◌+◌, ◌-◌, ◌*◌, ◌^◌, ◌<◌, ◌≤◌, Bool, true, false, sym, ◌∙◌, ap, subst, arith, List, [], ◌∷◌, ◌++◌, length, take, drop, length-drop}
 use Rattle.std.proofs.Common.{⊎_elim, ◌⊎◌, inl, inr}
 use Rattle.std.proofs.lemmas.Bool.{cases_lt}
-use Rattle.std.proofs.lemmas.List.{length-take-le, take_all, take-take, drop-drop, drop-take, append-nil, append_assoc}
+use Rattle.std.proofs.lemmas.List.{length-take-le, take_all, append-nil, append_assoc}
 use Rattle.std.proofs.Math.Nat.{pow-le-pow_right, pow-suc, mul-le-mul_right, lt_of_mul-lt-mul_right}
 use Rattle.std.proofs.lemmas.Nat.{pow-add}
-use Rattle.ct_tree.proofs.Split.{split_is, split_pos, split_lt, split_induct}
+use Rattle.ct_tree.proofs.Split.{split_is, split_lt, split_induct}
 use Rattle.ct_tree.proofs.Path.{path-left, path-right}
-use Rattle.ct_tree.proofs.Subproof.{subproof-whole, subproof-left, subproof-right}
+use Rattle.ct_tree.proofs.Subproof.{subproof-left, subproof-right}
 use Rattle.ct_tree.specs.Tree.{split, mth, path, subproof}
 use Rattle.ct_subtrees.proofs.Whole.{all, left, right, both, part, first_ends, subtree_right, subtree_both}
-use Rattle.ct_subtrees.proofs.Subproof.{sub-whole, sub-left, sub-right, sub-both}
+use Rattle.ct_subtrees.proofs.Subproof.{subtree-whole, subtree-left, subtree-right, subtree-both}
+use Rattle.ct_subtrees.proofs.Special.{first_proof}
+use Rattle.ct_subtrees.proofs.Rebuilds.{slice_left, slice_right}
 use Rattle.ct_subtrees.specs.Cover.{IsPower}
 use Rattle.ct_subtrees.specs.Subtrees.{IsSubtree, slice, is_whole, subtree_subproof}
 
@@ -55,32 +57,6 @@ full_at_power s k a (l, (j, suc q, is, end)) e = (j, by_cases (cases_lt a j))
         omega (arith, l, is, end, block, next, two)
 
 module _ (H : List ℕ → List ℕ) where
-  -- ---- the first leaves
-  pub sub-first_at : (n e : ℕ) (D : List (List ℕ)) (b : Bool) → length D ≡ n → 0 < e → e ≤ n → subtree_subproof H 0 e D b ≡ subproof H e D b
-  sub-first_at =
-      split_induct (λ n. (e : ℕ) (D : List (List ℕ)) (b : Bool) → length D ≡ n → 0 < e → e ≤ n → subtree_subproof H 0 e D b ≡ subproof H e D b)
-      (λ e D b f z i. absurd (omega arith))
-      (λ e D b f z i. whole e D b z (omega arith))
-      (λ n h left_one right_one e D b f z i. elim (part 0 e n z i) [
-        | all y g ↦ whole e D b z (omega (arith, g))
-        | left m w low ↦
-            let v : is_whole 0 e (length D) ≡ false = rw f w in
-            sub-left H 0 e (split n) D b z (omega arith) v (ap split f) low
-            ∙ ap (λ r. r ++ mth H (drop (split n) D) ∷ [])
-            (left_one e (take (split n) D) b (length-take-le (split n) D (omega (arith, split_lt n h))) z low)
-            ∙ sym (subproof-left H e (split n) D b z (omega (arith, split_lt n h)) (ap split f) low)
-        | right m w high ↦ absurd (omega (arith, split_pos n h, high))
-        | both m w before over ↦
-            let v : is_whole 0 e (length D) ≡ false = rw f w in
-            sub-both H 0 e (split n) D b (omega arith) (omega arith) v (ap split f) before over
-            ∙ ap (λ r. r ++ mth H (take (split n) D) ∷ [])
-            (right_one (e - split n) (drop (split n) D) false (omega (arith, length-drop (split n) D)) (omega arith) (omega arith))
-            ∙ sym (subproof-right H e (split n) D b z (omega (arith, first_ends 0 e n refl w)) (ap split f) over)
-      ])
-    where
-      whole : (e : ℕ) (D : List (List ℕ)) (b : Bool) → 0 < e → e ≡ length D → subtree_subproof H 0 e D b ≡ subproof H e D b
-      whole e D b z g = sub-whole H 0 e D b z refl g ∙ sym (subproof-whole H e D b z g)
-
   -- ---- a full subtree, or one that ends with the tree: the path of a leaf is first that in the subtree, and then the subtree's proof
   pub path-inside_at : (n i s e : ℕ) (D : List (List ℕ)) → length D ≡ n → IsSubtree s e → s ≤ i → i < e → e ≤ n → IsPower (e - s) ⊎ (e ≡ n)
       → path H i D ≡ path H (i - s) (slice s e D) ++ subtree_subproof H s e D true
@@ -97,7 +73,7 @@ module _ (H : List ℕ → List ℕ) where
           let f : i ≡ i - s = omega arith in
           let all_of : D ≡ slice s e D = sym (ap (λ u. drop u (take e D)) y ∙ take_all e D (omega arith)) in
           ap (λ u. path H u D) f ∙ ap (path H (i - s)) all_of ∙ sym (append-nil (path H (i - s) (slice s e D)))
-          ∙ ap (λ r. path H (i - s) (slice s e D) ++ r) (sym (sub-whole H s e D true l y g))
+          ∙ ap (λ r. path H (i - s) (slice s e D) ++ r) (sym (subtree-whole H s e D true l y g))
 
       step : (n : ℕ) → 1 < n
           → ((i s e : ℕ) (D : List (List ℕ)) → length D ≡ split n → IsSubtree s e → s ≤ i → i < e → e ≤ split n → IsPower (e - s) ⊎ (e ≡ split n)
@@ -113,23 +89,19 @@ module _ (H : List ℕ → List ℕ) where
             | all y g ↦ whole i s e D v.0 y (omega (arith, g))
             | left m w low ↦
                 let x : is_whole s e (length D) ≡ false = rw f w in
-                let same : slice s e (take k D) ≡ slice s e D = ap (drop s) (take-take e k D low) in
+                let same : slice s e (take k D) ≡ slice s e D = slice_left s e k D low in
                 let rest = mth H (drop k D) ∷ [] in
                 let power : IsPower (e - s) ⊎ (e ≡ k) = elim full [ inl p ↦ inl p | inr g ↦ absurd (omega (arith, g, low, less)) ] in
                 path-left H i k D (omega arith) (ap split f) (omega arith)
                 ∙ ap (λ r. r ++ rest) (left_one i s e (take k D) (length-take-le k D (omega (arith, less))) v a b low power)
                 ∙ ap (λ u. path H (i - s) u ++ subtree_subproof H s e (take k D) true ++ rest) same
                 ∙ append_assoc (path H (i - s) (slice s e D)) (subtree_subproof H s e (take k D) true) rest
-                ∙ ap (λ r. path H (i - s) (slice s e D) ++ r) (sym (sub-left H s e k D true v.0 (omega arith) x (ap split f) low))
+                ∙ ap (λ r. path H (i - s) (slice s e D) ++ r) (sym (subtree-left H s e k D true v.0 (omega arith) (omega arith) x (ap split f) low))
             | right m w high ↦
                 let x : is_whole s e (length D) ≡ false = rw f w in
                 let p = split_is n h in
                 let j : i - k - (s - k) ≡ i - s = omega arith in
-                let to : k + (e - k) ≡ e = omega arith in
-                let from : k + (s - k) ≡ s = omega arith in
-                let same : slice (s - k) (e - k) (drop k D) ≡ slice s e D =
-                ap (drop (s - k)) (sym (drop-take k (e - k) D) ∙ ap (λ u. drop k (take u D)) to)
-                ∙ drop-drop (s - k) k (take e D) ∙ ap (λ u. drop u (take e D)) from in
+                let same : slice (s - k) (e - k) (drop k D) ≡ slice s e D = slice_right s e k D high v.0 in
                 let rest = mth H (take k D) ∷ [] in
                 let count : e - k - (s - k) ≡ e - s = omega arith in
                 let power : IsPower (e - k - (s - k)) ⊎ (e - k ≡ n - k) =
@@ -140,7 +112,7 @@ module _ (H : List ℕ → List ℕ) where
                 ∙ ap (λ u. path H (i - k - (s - k)) u ++ subtree_subproof H (s - k) (e - k) (drop k D) true ++ rest) same
                 ∙ ap (λ u. path H u (slice s e D) ++ subtree_subproof H (s - k) (e - k) (drop k D) true ++ rest) j
                 ∙ append_assoc (path H (i - s) (slice s e D)) (subtree_subproof H (s - k) (e - k) (drop k D) true) rest
-                ∙ ap (λ r. path H (i - s) (slice s e D) ++ r) (sym (sub-right H s e k D true v.0 (omega arith) (omega arith) x (ap split f) high))
+                ∙ ap (λ r. path H (i - s) (slice s e D) ++ r) (sym (subtree-right H s e k D true v.0 (omega arith) (omega arith) x (ap split f) high))
             | both m w before over ↦
                 let p = split_is n h in
                 let z : s ≡ 0 = subtree_both s e k v p.power before over in
@@ -180,7 +152,7 @@ module _ (H : List ℕ → List ℕ) where
                 let x : is_whole s e (length D) ≡ false = rw f w in
                 ⊎_elim
                 (λ (inside : e < k).
-                sub-left H s e k D b v.0 (omega arith) x (ap split f) low
+                subtree-left H s e k D b v.0 (omega arith) (omega arith) x (ap split f) low
                 ∙ ap (λ r. r ++ mth H (drop k D) ∷ []) (left_one s e (take k D) b c (length-take-le k D (omega (arith, less))) v inside q)
                 ∙ sym (subproof-left H e k D c (omega (arith, v.0)) (omega arith) (ap split f) low))
                 (λ (outside : k ≤ e).
@@ -190,13 +162,13 @@ module _ (H : List ℕ → List ℕ) where
             | right m w high ↦
                 let x : is_whole s e (length D) ≡ false = rw f w in
                 let count : e - k - (s - k) ≡ e - s = omega arith in
-                sub-right H s e k D b v.0 (omega arith) (omega arith) x (ap split f) high
+                subtree-right H s e k D b v.0 (omega arith) (omega arith) x (ap split f) high
                 ∙ ap (λ r. r ++ mth H (take k D) ∷ []) (right_one (s - k) (e - k) (drop k D) b false (omega (arith, length-drop k D))
                 (subtree_right s e k v p.power high (omega (arith, p.half, v.0))) (omega (arith, v.0)) (λ t. q (subst IsPower count t)))
                 ∙ sym (subproof-right H e k D c (omega (arith, v.0)) (omega arith) (ap split f) (omega (arith, v.0)))
             | both m w before over ↦
                 let x : is_whole s e (length D) ≡ false = rw f w in
-                sub-both H s e k D b (omega arith) (omega arith) x (ap split f) before over
-                ∙ ap (λ r. r ++ mth H (take k D) ∷ []) (sub-first_at (n - k) (e - k) (drop k D) false (omega (arith, length-drop k D)) (omega arith) (omega arith))
+                subtree-both H s e k D b v.0 (omega arith) (omega arith) x (ap split f) before over
+                ∙ ap (λ r. r ++ mth H (take k D) ∷ []) (first_proof H (n - k) (e - k) (drop k D) false (omega (arith, length-drop k D)) (omega arith) (omega arith))
                 ∙ sym (subproof-right H e k D c (omega arith) (omega arith) (ap split f) over)
           ]

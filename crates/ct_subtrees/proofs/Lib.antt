@@ -10,3 +10,7 @@ pub mod Subproof
 pub mod Inside
 pub mod Made
 pub mod FirstLeaf
+pub mod Rebuilds
+pub mod Special
+pub mod OneRefusal
+pub mod Equations

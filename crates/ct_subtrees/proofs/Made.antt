@@ -1,6 +1,6 @@
 -- The hash and the proofs of a subtree from the audit path of a leaf.
 use Rattle.std.proofs.Common.{◌≡◌, ℕ, zero, suc, ◌+◌, ◌-◌, ◌*◌, ◌/◌, ◌^◌, ◌<◌, ◌≤◌, cond, ltb, nat_eq, Bool, true, false, refl, sym, ◌∙◌, ap, arith}
-use Rattle.std.proofs.Common.{List, [], ◌∷◌, length, take, drop, get_or, fold, length-drop, ⊎_elim, ◌⊎◌, inl, inr}
+use Rattle.std.proofs.Common.{List, [], ◌∷◌, length, take, drop, get_or, fold, ⊎_elim, ◌⊎◌, inl, inr}
 use Rattle.std.proofs.lemmas.Bool.{cases_lt, ltb-true, ltb-false, eqb-true, eq-eqb}
 use Rattle.std.proofs.lemmas.List.{length-take-le, take-take, take_at, drop_at, get_or-take, get_or-drop}
 use Rattle.std.proofs.lemmas.List.Sums.{fold-append}
@@ -16,6 +16,7 @@ use Rattle.ct_tree.specs.Walk.{IsPathNode}
 use Rattle.ct_subtrees.specs.Cover.{IsPower}
 use Rattle.ct_subtrees.specs.Made.{is_perfect, is_proof_of_end}
 use Rattle.ct_subtrees.specs.Subtrees.{IsSubtree, slice, subtree_hash, subtree_path, subtree_proof}
+use Rattle.ct_subtrees.proofs.Rebuilds.{slice_length}
 use Rattle.ct_subtrees.proofs.Inside.{path-inside_at, sub-partial_at}
 
 -- ---- perfect trees
@@ -85,9 +86,6 @@ own_read s e l =
     (cases_lt s (e - 1))
 
 -- ---- lists
-slice_length : (s e : ℕ) (D : List (List ℕ)) → e ≤ length D → length (slice s e D) ≡ e - s
-slice_length s e D l = omega (arith, length-drop s (take e D), length-take-le e D l)
-
 slice_first : (s e : ℕ) (D : List (List ℕ)) → s < e → get_or (slice s e D) 0 [] ≡ get_or D s []
 slice_first s e D l =
     let same : s + 0 ≡ s = omega arith in
@@ -109,7 +107,7 @@ module _ (H : List ℕ → List ℕ) where
       let part = path H (s - s) (slice s e E) in
       let z : s - s ≡ 0 = omega arith in
       let count : length part ≡ path_length 0 (e - s) =
-      length-path_at H (e - s) (s - s) (slice s e E) (slice_length s e E (omega (arith, size, i))) (omega (arith, v.0))
+      length-path_at H (e - s) (s - s) (slice s e E) (slice_length s e E (omega (arith, v.0)) (omega (arith, size, i))) (omega (arith, v.0))
       ∙ ap (λ u. path_length u (e - s)) z in
       ap (drop (path_length 0 (e - s))) (path-inside_at H n s s e E size v (omega arith) v.0 i (proof_above s e n v.0 i f))
       ∙ drop_at part (subtree_proof H s e E) (path_length 0 (e - s)) count
@@ -122,7 +120,7 @@ module _ (H : List ℕ → List ℕ) where
       let size : length E ≡ e = length-take-le e D l in
       let part = path H (i - s) (slice s e E) in
       let count : length part ≡ path_length (i - s) (e - s) =
-      length-path_at H (e - s) (i - s) (slice s e E) (slice_length s e E (omega (arith, size))) (omega (arith, a, b)) in
+      length-path_at H (e - s) (i - s) (slice s e E) (slice_length s e E (omega (arith, v.0)) (omega (arith, size))) (omega (arith, a, b)) in
       let same : slice s e E ≡ slice s e D = ap (drop s) (take-take e e D (omega arith)) in
       ap (take (path_length (i - s) (e - s))) (path-inside_at H e i s e E size v a b (omega arith) (inr refl))
       ∙ take_at part (subtree_proof H s e E) (path_length (i - s) (e - s)) count
@@ -155,4 +153,4 @@ module _ (H : List ℕ → List ℕ) where
       let z : s - s ≡ 0 = omega arith in
       ap (λ x. fold (hash_node H) x p) (f ∙ sym (slice_first s e D v.0))
       ∙ ap (fold (hash_node H) (get_or (slice s e D) 0 [])) (g ∙ ap (λ u. path H u (slice s e D)) z)
-      ∙ fold-path_at (e - s) (slice s e D) (slice_length s e D l) (omega (arith, v.0))
+      ∙ fold-path_at (e - s) (slice s e D) (slice_length s e D (omega (arith, v.0)) l) (omega (arith, v.0))

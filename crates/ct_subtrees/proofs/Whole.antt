@@ -54,7 +54,7 @@ higher_power a j k e l =
     let i : suc a ≤ j = l in
     omega (arith, e, pow-suc 2 a, pow-le-pow_right z i)
 
-lower_power : (a j k : ℕ) → k ≡ 2 ^ a → j ≤ a → k ≡ 2 ^ (a - j) * 2 ^ j
+pub lower_power : (a j k : ℕ) → k ≡ 2 ^ a → j ≤ a → k ≡ 2 ^ (a - j) * 2 ^ j
 lower_power a j k e l =
     let i : a ≡ (a - j) + j = omega arith in
     e ∙ ap (λ v. 2 ^ v) i ∙ pow-add 2 (a - j) j

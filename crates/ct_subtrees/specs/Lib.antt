@@ -5,3 +5,4 @@ pub mod Cover
 pub mod Walk
 pub mod Made
 pub mod Tiles
+pub mod Laws

@@ -14,6 +14,7 @@ mod fault;
 mod from_nodes;
 mod from_tiles;
 mod inclusion;
+pub mod laws;
 mod parts;
 mod range;
 
