@@ -9,3 +9,6 @@ pub mod Rebuilds
 pub mod Special
 pub mod OneRefusal
 pub mod Equations
+pub mod HashedStrings
+pub mod OfList
+pub mod Serial

@@ -3,3 +3,5 @@ pub mod Roots
 pub mod Verdict
 pub mod Walk
 pub mod Laws
+pub mod Hashed
+pub mod Meaning

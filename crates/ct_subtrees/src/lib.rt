@@ -12,6 +12,7 @@ mod element;
 mod fault;
 mod inclusion;
 pub mod laws;
+pub mod meaning;
 mod range;
 
 pub use consistency::verify_subtree_consistency;
