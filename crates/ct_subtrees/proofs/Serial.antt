@@ -13,7 +13,7 @@ use Rattle.ct_verify.specs.Evidence.{IsAudited}
 use Rattle.ct_verify.specs.Hashed.{CollideAmong, IsHashedIn, path_strings}
 use Rattle.ct_verify.specs.ListLaws.{IsHashedInAudit}
 use Rattle.ct_verify.specs.Rebuild.{rebuild}
-use Rattle.ct_subtrees.specs.Meaning.{SerialNumberNamesEntry, SubtreeHashShowsOneLeaf, IsSubtreeOfList, IsEntry, IsHashedInSubtreeCheck, IsHashedInLeafCheck}
+use Rattle.ct_subtrees.specs.Meaning.{SerialNumberNamesEntry, SubtreeHashShowsOneLeaf, IsSubtreeOfList, IsEntryAt, IsHashedInSubtreeCheck, IsHashedInLeafCheck}
 use Rattle.ct_subtrees.specs.Subtrees.{slice}
 use Rattle.ct_subtrees.specs.Verdict.{IsInSubtree}
 use Rattle.ct_subtrees.proofs.OfList.{accepted_subtree_is_of_list}
@@ -26,7 +26,7 @@ module _ (H : List ℕ → List ℕ) (hash_length : (x : List ℕ) → length (H
   -- a path in the subtree of a list
   entry : (D : List (List ℕ)) (s e i : ℕ) (leaf : List ℕ) (q : List (List ℕ)) → IsInSubtree i s e → e ≤ length D
       → rebuild H (i - s) (e - s) (hash_leaf H leaf) q ≡ Some (mth_of_leaves H (slice s e D))
-      → IsEntry H i s e D leaf q ⊎ CollideAmong H (IsHashedInLeafCheck H i s e D leaf q)
+      → IsEntryAt H i s e D leaf q ⊎ CollideAmong H (IsHashedInLeafCheck H i s e D leaf q)
   entry D s e i leaf q within l d =
       let n : length (slice s e D) ≡ e - s = slice_length s e D (omega (arith, within.1, within.2)) l in
       let inside : i - s < length (slice s e D) = omega (arith, within.1, within.2, n) in
@@ -46,7 +46,7 @@ serial_number_names_entry H hash_length D s e x p hashes accepted i leaf q evalu
     ⊎_elim
     (λ (f : IsSubtreeOfList H s e x D p).
     ⊎_elim
-    (λ (found : IsEntry H i s e D leaf q). inl found)
+    (λ (found : IsEntryAt H i s e D leaf q). inl found)
     (λ (pair : CollideAmong H Q). inr (collide_more H Q S (λ t w. inr w) pair))
     (entry H hash_length D s e i leaf q evaluated.0 accepted.0.1 (evaluated.1 ∙ ap Some f.0)))
     (λ (pair : CollideAmong H P). inr (collide_more H P S (λ t w. inl w) pair))

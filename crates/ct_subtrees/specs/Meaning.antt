@@ -30,8 +30,8 @@ IsHashedInLeafCheck H i s e D leaf q t =
     Contains ((0 ∷ leaf) ∷ path_strings H (i - s) (e - s) (hash_leaf H leaf) q) t ⊎ IsHashedIn H (slice s e D) t
 
 -- the leaf is the element of D at index i, and q is its path in the subtree [s, e)
-abbrev pub IsEntry : (List ℕ → List ℕ) → ℕ → ℕ → ℕ → List (List ℕ) → List ℕ → List (List ℕ) → Type 0
-IsEntry H i s e D leaf q = (i < length D) × (leaf ≡ get_or D i []) × (q ≡ subtree_path H i s e (map (hash_leaf H) D))
+abbrev pub IsEntryAt : (List ℕ → List ℕ) → ℕ → ℕ → ℕ → List (List ℕ) → List ℕ → List (List ℕ) → Type 0
+IsEntryAt H i s e D leaf q = (i < length D) × (leaf ≡ get_or D i []) × (q ≡ subtree_path H i s e (map (hash_leaf H) D))
 
 -- A serial number names one entry. Let a consistency proof p (elements of 32 bytes) of the subtree [s, e) with the hash x be accepted under
 -- MTH of the leaves D, and let a path q evaluate a leaf at index i in the subtree to x. Then the leaf is the element of D at index i, and q
@@ -41,7 +41,7 @@ SerialNumberNamesEntry =
     (H : List ℕ → List ℕ) → ((z : List ℕ) → length (H z) ≡ 32) → (D : List (List ℕ)) (s e : ℕ) (x : List ℕ) (p : List (List ℕ)) → AreHashes p
     → AcceptsSubtree H s e (length D) x (mth_of_leaves H D) p
     → (i : ℕ) (leaf : List ℕ) (q : List (List ℕ)) → EvaluatesTo H i s e (hash_leaf H leaf) q x
-    → IsEntry H i s e D leaf q ⊎ CollideAmong H (λ t. IsHashedInSubtreeCheck H s e x D p t ⊎ IsHashedInLeafCheck H i s e D leaf q t)
+    → IsEntryAt H i s e D leaf q ⊎ CollideAmong H (λ t. IsHashedInSubtreeCheck H s e x D p t ⊎ IsHashedInLeafCheck H i s e D leaf q t)
 
 -- Two leaves whose paths evaluate to one hash for the same index of one subtree are the same leaf, with the same path; or two strings that
 -- are hashed when the paths are checked collide. No list is required.

@@ -1,7 +1,7 @@
 //! The laws of the definitions that the verifiers' contracts name, each a clause of a function that does nothing. A reader who trusts these
 //! laws need not read how `specs/Subtrees.antt` counts down a bound and `specs/Roots.antt` reads a proof from its end.
 ghost use Rattle.ct_subtrees.specs.Laws.{SubtreeIsMultiple, SubtreeOfBothParts, SubtreeOfRightPart, FirstLeavesAreSubtree, LeafIsSubtree};
-ghost use Rattle.ct_subtrees.specs.Laws.{SubproofOfKnown, SubproofOfUnknown, SubproofInLeft, SubproofInRight, SubproofInBoth, SubproofHasLength};
+ghost use Rattle.ct_subtrees.specs.Laws.{SubtreeSubproofOfKnown, SubtreeSubproofOfUnknown, SubtreeSubproofInLeft, SubtreeSubproofInRight, SubtreeSubproofInBoth, SubtreeSubproofHasLength};
 ghost use Rattle.ct_subtrees.specs.Laws.{ProofOfFirstLeaves, ProofOfOneLeaf, RootsOfFirstLeaves, RootsOfOneLeaf};
 ghost use Rattle.ct_subtrees.specs.Laws.{RootsOfKnown, RootsOfUnknown, RootsInLeft, RootsInRight, RootsInBoth, RootsDefined};
 ghost use Rattle.ct_subtrees.specs.Laws.{SubtreeProofRebuilds, SubtreeProofAccepted, SubtreeProofNotRefused, SubtreeProofOneRefusal};
@@ -19,12 +19,12 @@ pub fn range()
 /// The recursion SUBTREE_SUBPROOF, and the length of what it yields.
 #[tactic(auto, using(crate::proofs::Equations::subproof_of_known, crate::proofs::Equations::subproof_of_unknown, crate::proofs::Equations::subproof_in_left, crate::proofs::Equations::subproof_in_right, crate::proofs::Equations::subproof_in_both, crate::proofs::Equations::subproof_has_length))]
 pub fn subproof()
-    ensures known { SubproofOfKnown }
-    ensures unknown { SubproofOfUnknown }
-    ensures left { SubproofInLeft }
-    ensures right { SubproofInRight }
-    ensures both { SubproofInBoth }
-    ensures length { SubproofHasLength }
+    ensures known { SubtreeSubproofOfKnown }
+    ensures unknown { SubtreeSubproofOfUnknown }
+    ensures left { SubtreeSubproofInLeft }
+    ensures right { SubtreeSubproofInRight }
+    ensures both { SubtreeSubproofInBoth }
+    ensures length { SubtreeSubproofHasLength }
 {}
 
 /// The two hashes that a subtree's consistency proof yields, from the root of the tree down.
