@@ -41,6 +41,7 @@ BY_NAME = {
     ("ct_lines/src/plan_reading.rt", "READS"): "it reads to the end of the input",
     ("ct_lines/src/serving.rt", "READS"): "it reads to the end of the input",
     ("json_lines/src/lines.rt", "READS"): "it reads to the end of a line of the input",
+    ("ct_subtrees/src/range.rt", "count > 1"): "each turn halves the count",
     ("ct_verify/src/place.rt", "place.node % 2 == 0 && place.node > 0"): "up halves the node",
     ("ct_verify/src/place.rt", "place.node % 2 == 1"): "up halves the node",
     ("ct_workers/src/front_work.rt", "turn < turns && !waiting.is_over()"): "it waits for other threads, under the handle Wait",

@@ -7,7 +7,7 @@ use Rattle.ct_verify.specs.Climb.{pair_left, pair_right}
 use Rattle.ct_verify.specs.Rebuild.{same_pair}
 use Rattle.ct_subtrees.specs.Subtrees.{is_whole, subtree_length}
 use Rattle.ct_subtrees.specs.Roots.{subtree_down, subtree_roots}
-use Rattle.ct_subtrees.proofs.Whole.{Part, all, left, right, both, part, whole_is}
+use Rattle.ct_subtrees.proofs.Whole.{Part, all, first_part, second_part, both_parts, part, whole_is}
 use Rattle.ct_subtrees.proofs.Length.{length-whole, length-left, length-right, length-both}
 use Rattle.ct_subtrees.proofs.Down.{pair_beyond, down-end, down-end_whole, down-whole, down-left, down-right, down-both}
 
@@ -37,22 +37,22 @@ module _ (H : List ℕ → List ℕ) where
   end_sized : (s e n : ℕ) (b : Bool) (r : List ℕ) (z : List ℕ × List ℕ) → s < e → e ≤ n → Part s e n
       → subtree_down H s e n b r [] ≡ Some z → length {A = List ℕ} [] ≡ subtree_length s e n b
   end_sized s e n b r z l i (all y f) g = whole_sized [] s e n b r z (whole_is s e n y (omega arith)) g ∙ sym (length-whole s e n b l y f)
-  end_sized s e n b r z l i (left m w low) g = absurd (none_some z (sym (down-end H s e n b r w) ∙ g))
-  end_sized s e n b r z l i (right m w high) g = absurd (none_some z (sym (down-end H s e n b r w) ∙ g))
-  end_sized s e n b r z l i (both m w before over) g = absurd (none_some z (sym (down-end H s e n b r w) ∙ g))
+  end_sized s e n b r z l i (first_part m w low) g = absurd (none_some z (sym (down-end H s e n b r w) ∙ g))
+  end_sized s e n b r z l i (second_part m w high) g = absurd (none_some z (sym (down-end H s e n b r w) ∙ g))
+  end_sized s e n b r z l i (both_parts m w before over) g = absurd (none_some z (sym (down-end H s e n b r w) ∙ g))
 
   more_sized : (c : List ℕ) (q : List (List ℕ)) → Sized q → (s e n : ℕ) (b : Bool) (r : List ℕ) (z : List ℕ × List ℕ) → s < e → e ≤ n
       → Part s e n → subtree_down H s e n b r (c ∷ q) ≡ Some z → length (c ∷ q) ≡ subtree_length s e n b
   more_sized c q ih s e n b r z l i (all y f) g =
       whole_sized (c ∷ q) s e n b r z (whole_is s e n y (omega arith)) g ∙ sym (length-whole s e n b l y f)
-  more_sized c q ih s e n b r z l i (left m w low) g =
+  more_sized c q ih s e n b r z l i (first_part m w low) g =
       let u = mapped (λ v. pair_left H v c) (subtree_down H s e (split n) b r q) z (sym (down-left H s e n (split n) b r c q w refl low) ∙ g) in
       ap suc (ih s e (split n) b r u.0 l low u.1) ∙ sym (length-left s e n b l i m w low)
-  more_sized c q ih s e n b r z l i (right m w high) g =
+  more_sized c q ih s e n b r z l i (second_part m w high) g =
       let k = split n in
       let u = mapped (λ v. pair_beyond H v c) (subtree_down H (s - k) (e - k) (n - k) b r q) z (sym (down-right H s e n k b r c q w refl high l) ∙ g) in
       ap suc (ih (s - k) (e - k) (n - k) b r u.0 (omega arith) (omega arith) u.1) ∙ sym (length-right s e n b l i m w high)
-  more_sized c q ih s e n b r z l i (both m w before over) g =
+  more_sized c q ih s e n b r z l i (both_parts m w before over) g =
       let k = split n in
       let u = mapped (λ v. pair_right H v c) (subtree_down H 0 (e - k) (n - k) false r q) z (sym (down-both H s e n k b r c q w refl before over) ∙ g) in
       ap suc (ih 0 (e - k) (n - k) false r u.0 (omega arith) (omega arith) u.1) ∙ sym (length-both s e n b l i m w before over)
@@ -81,24 +81,24 @@ module _ (H : List ℕ → List ℕ) where
   end_filled : (s e n : ℕ) (b : Bool) (r : List ℕ) → s < e → e ≤ n → Part s e n → length {A = List ℕ} [] ≡ subtree_length s e n b
       → is_some (subtree_down H s e n b r []) ≡ true
   end_filled s e n b r l i (all y f) g = whole_filled [] s e n b r (whole_is s e n y (omega arith)) (g ∙ length-whole s e n b l y f)
-  end_filled s e n b r l i (left m w low) g = absurd (omega (arith, g, length-left s e n b l i m w low))
-  end_filled s e n b r l i (right m w high) g = absurd (omega (arith, g, length-right s e n b l i m w high))
-  end_filled s e n b r l i (both m w before over) g = absurd (omega (arith, g, length-both s e n b l i m w before over))
+  end_filled s e n b r l i (first_part m w low) g = absurd (omega (arith, g, length-left s e n b l i m w low))
+  end_filled s e n b r l i (second_part m w high) g = absurd (omega (arith, g, length-right s e n b l i m w high))
+  end_filled s e n b r l i (both_parts m w before over) g = absurd (omega (arith, g, length-both s e n b l i m w before over))
 
   more_filled : (c : List ℕ) (q : List (List ℕ)) → Filled q → (s e n : ℕ) (b : Bool) (r : List ℕ) → s < e → e ≤ n → Part s e n
       → length (c ∷ q) ≡ subtree_length s e n b → is_some (subtree_down H s e n b r (c ∷ q)) ≡ true
   more_filled c q ih s e n b r l i (all y f) g =
       whole_filled (c ∷ q) s e n b r (whole_is s e n y (omega arith)) (g ∙ length-whole s e n b l y f)
-  more_filled c q ih s e n b r l i (left m w low) g =
+  more_filled c q ih s e n b r l i (first_part m w low) g =
       let h : length q ≡ subtree_length s e (split n) b = omega (arith, g, length-left s e n b l i m w low) in
       ap is_some (down-left H s e n (split n) b r c q w refl low)
       ∙ some_mapped (λ v. pair_left H v c) (subtree_down H s e (split n) b r q) (ih s e (split n) b r l low h)
-  more_filled c q ih s e n b r l i (right m w high) g =
+  more_filled c q ih s e n b r l i (second_part m w high) g =
       let k = split n in
       let h : length q ≡ subtree_length (s - k) (e - k) (n - k) b = omega (arith, g, length-right s e n b l i m w high) in
       ap is_some (down-right H s e n k b r c q w refl high l)
       ∙ some_mapped (λ v. pair_beyond H v c) (subtree_down H (s - k) (e - k) (n - k) b r q) (ih (s - k) (e - k) (n - k) b r (omega arith) (omega arith) h)
-  more_filled c q ih s e n b r l i (both m w before over) g =
+  more_filled c q ih s e n b r l i (both_parts m w before over) g =
       let k = split n in
       let h : length q ≡ subtree_length 0 (e - k) (n - k) false = omega (arith, g, length-both s e n b l i m w before over) in
       ap is_some (down-both H s e n k b r c q w refl before over)

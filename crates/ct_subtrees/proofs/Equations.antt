@@ -6,7 +6,7 @@ use Rattle.ct_tree.proofs.Split.{IsPower, split_is, split_pos, split_lt, split_h
 use Rattle.ct_verify.proofs.Options.{held}
 use Rattle.ct_subtrees.specs.Roots.{subtree_roots}
 use Rattle.ct_subtrees.specs.Laws.{SubtreeIsMultiple, SubtreeOfBothParts, SubtreeOfRightPart, FirstLeavesAreSubtree, LeafIsSubtree}
-use Rattle.ct_subtrees.specs.Laws.{SubproofOfKnown, SubproofOfUnknown, SubproofInLeft, SubproofInRight, SubproofInBoth, SubproofHasLength}
+use Rattle.ct_subtrees.specs.Laws.{SubtreeSubproofOfKnown, SubtreeSubproofOfUnknown, SubtreeSubproofInLeft, SubtreeSubproofInRight, SubtreeSubproofInBoth, SubtreeSubproofHasLength}
 use Rattle.ct_subtrees.specs.Laws.{ProofOfFirstLeaves, ProofOfOneLeaf, RootsOfFirstLeaves, RootsOfOneLeaf}
 use Rattle.ct_subtrees.specs.Laws.{RootsOfKnown, RootsOfUnknown, RootsInLeft, RootsInRight, RootsInBoth, RootsDefined}
 use Rattle.ct_subtrees.specs.Laws.{SubtreeProofRebuilds, SubtreeProofAccepted, SubtreeProofNotRefused, SubtreeProofOneRefusal}
@@ -43,28 +43,28 @@ first_leaves_are_subtree e l = subtree_first e l
 pub leaf_is_subtree : LeafIsSubtree
 leaf_is_subtree i = (omega arith, (0, i, omega arith, omega arith))
 
-pub subproof_of_known : SubproofOfKnown
+pub subproof_of_known : SubtreeSubproofOfKnown
 subproof_of_known H D l = subtree-whole H 0 (length D) D true l refl refl
 
-pub subproof_of_unknown : SubproofOfUnknown
+pub subproof_of_unknown : SubtreeSubproofOfUnknown
 subproof_of_unknown H D l = subtree-whole H 0 (length D) D false l refl refl
 
-pub subproof_in_left : SubproofInLeft
+pub subproof_in_left : SubtreeSubproofInLeft
 subproof_in_left H s e D b k l m f low =
     let less : e < length D = omega (arith, split_lt (length D) m, f) in
     subtree-left H s e k D b l (omega arith) m (part_ends s e (length D) less) (sym f) low
 
-pub subproof_in_right : SubproofInRight
+pub subproof_in_right : SubtreeSubproofInRight
 subproof_in_right H s e D b k l i m f high =
     let some : 0 < s = omega (arith, split_pos (length D) m, f) in
     subtree-right H s e k D b l i m (part_starts s e (length D) some) (sym f) high
 
-pub subproof_in_both : SubproofInBoth
+pub subproof_in_both : SubtreeSubproofInBoth
 subproof_in_both H e D b k less m f over =
     let some : 0 < k = omega (arith, split_pos (length D) m, f) in
     subtree-both H 0 e k D b (omega arith) (omega arith) m (part_ends 0 e (length D) less) (sym f) some over
 
-pub subproof_has_length : SubproofHasLength
+pub subproof_has_length : SubtreeSubproofHasLength
 subproof_has_length H s e D b l i = length-subtree H (length D) s e D b refl l i
 
 pub proof_of_first_leaves : ProofOfFirstLeaves

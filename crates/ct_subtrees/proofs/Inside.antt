@@ -9,7 +9,7 @@ use Rattle.ct_tree.proofs.Split.{split_is, split_lt, split_induct}
 use Rattle.ct_tree.proofs.Path.{path-left, path-right}
 use Rattle.ct_tree.proofs.Subproof.{subproof-left, subproof-right}
 use Rattle.ct_tree.specs.Tree.{split, mth, path, subproof}
-use Rattle.ct_subtrees.proofs.Whole.{all, left, right, both, part, first_ends, subtree_right, subtree_both}
+use Rattle.ct_subtrees.proofs.Whole.{all, first_part, second_part, both_parts, part, first_ends, subtree_right, subtree_both}
 use Rattle.ct_subtrees.proofs.Subproof.{subtree-whole, subtree-left, subtree-right, subtree-both}
 use Rattle.ct_subtrees.proofs.Special.{first_proof}
 use Rattle.ct_subtrees.proofs.Rebuilds.{slice_left, slice_right}
@@ -87,7 +87,7 @@ module _ (H : List ℕ → List ℕ) where
           let less = split_lt n h in
           elim (part s e n v.0 c) [
             | all y g ↦ whole i s e D v.0 y (omega (arith, g))
-            | left m w low ↦
+            | first_part m w low ↦
                 let x : is_whole s e (length D) ≡ false = rw f w in
                 let same : slice s e (take k D) ≡ slice s e D = slice_left s e k D low in
                 let rest = mth H (drop k D) ∷ [] in
@@ -97,7 +97,7 @@ module _ (H : List ℕ → List ℕ) where
                 ∙ ap (λ u. path H (i - s) u ++ subtree_subproof H s e (take k D) true ++ rest) same
                 ∙ append_assoc (path H (i - s) (slice s e D)) (subtree_subproof H s e (take k D) true) rest
                 ∙ ap (λ r. path H (i - s) (slice s e D) ++ r) (sym (subtree-left H s e k D true v.0 (omega arith) (omega arith) x (ap split f) low))
-            | right m w high ↦
+            | second_part m w high ↦
                 let x : is_whole s e (length D) ≡ false = rw f w in
                 let p = split_is n h in
                 let j : i - k - (s - k) ≡ i - s = omega arith in
@@ -113,7 +113,7 @@ module _ (H : List ℕ → List ℕ) where
                 ∙ ap (λ u. path H u (slice s e D) ++ subtree_subproof H (s - k) (e - k) (drop k D) true ++ rest) j
                 ∙ append_assoc (path H (i - s) (slice s e D)) (subtree_subproof H (s - k) (e - k) (drop k D) true) rest
                 ∙ ap (λ r. path H (i - s) (slice s e D) ++ r) (sym (subtree-right H s e k D true v.0 (omega arith) (omega arith) x (ap split f) high))
-            | both m w before over ↦
+            | both_parts m w before over ↦
                 let p = split_is n h in
                 let z : s ≡ 0 = subtree_both s e k v p.power before over in
                 let ends = first_ends s e n z w in
@@ -148,7 +148,7 @@ module _ (H : List ℕ → List ℕ) where
           let p = split_is n h in
           elim (part s e n v.0 (omega arith)) [
             | all y g ↦ absurd (omega (arith, g))
-            | left m w low ↦
+            | first_part m w low ↦
                 let x : is_whole s e (length D) ≡ false = rw f w in
                 ⊎_elim
                 (λ (inside : e < k).
@@ -159,14 +159,14 @@ module _ (H : List ℕ → List ℕ) where
                 let g : e ≡ k = omega arith in
                 absurd (q (full_at_power s e p.power.exponent v (g ∙ p.power.is))))
                 (cases_lt e k)
-            | right m w high ↦
+            | second_part m w high ↦
                 let x : is_whole s e (length D) ≡ false = rw f w in
                 let count : e - k - (s - k) ≡ e - s = omega arith in
                 subtree-right H s e k D b v.0 (omega arith) (omega arith) x (ap split f) high
                 ∙ ap (λ r. r ++ mth H (take k D) ∷ []) (right_one (s - k) (e - k) (drop k D) b false (omega (arith, length-drop k D))
                 (subtree_right s e k v p.power high (omega (arith, p.half, v.0))) (omega (arith, v.0)) (λ t. q (subst IsPower count t)))
                 ∙ sym (subproof-right H e k D c (omega (arith, v.0)) (omega arith) (ap split f) (omega (arith, v.0)))
-            | both m w before over ↦
+            | both_parts m w before over ↦
                 let x : is_whole s e (length D) ≡ false = rw f w in
                 subtree-both H s e k D b v.0 (omega arith) (omega arith) x (ap split f) before over
                 ∙ ap (λ r. r ++ mth H (take k D) ∷ []) (first_proof H (n - k) (e - k) (drop k D) false (omega (arith, length-drop k D)) (omega arith) (omega arith))

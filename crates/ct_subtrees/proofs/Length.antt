@@ -4,7 +4,7 @@ use Rattle.std.proofs.lemmas.Bool.{lt-ltb, le-ltb}
 use Rattle.ct_tree.proofs.Split.{split_pos, split_lt}
 use Rattle.ct_tree.specs.Tree.{split}
 use Rattle.ct_subtrees.specs.Subtrees.{is_whole, subtree_length_within, subtree_length}
-use Rattle.ct_subtrees.proofs.Whole.{Part, all, left, right, both, part, whole_is}
+use Rattle.ct_subtrees.proofs.Whole.{Part, all, first_part, second_part, both_parts, part, whole_is}
 
 abbrev Enough : ℕ → ℕ → Type 0
 Enough d g =
@@ -14,13 +14,13 @@ more_enough : (d g : ℕ) → Enough d g → (s e n : ℕ) (b : Bool) → s < e 
     → subtree_length_within (suc d) s e n b ≡ subtree_length_within (suc g) s e n b
 unfolding subtree_length_within
 more_enough d g ih s e n b l i p q (all z f) = rw (whole_is s e n z (omega arith)) refl
-more_enough d g ih s e n b l i p q (left m w low) =
+more_enough d g ih s e n b l i p q (first_part m w low) =
     rw (w, le-ltb (split n) e low) (ap suc (ih s e (split n) b l low (omega (arith, split_lt n m)) (omega (arith, split_lt n m))))
-more_enough d g ih s e n b l i p q (right m w high) =
+more_enough d g ih s e n b l i p q (second_part m w high) =
     let over : split n < e = omega arith in
     rw (w, lt-ltb (split n) e over, le-ltb s (split n) high)
     (ap suc (ih (s - split n) (e - split n) (n - split n) b (omega arith) (omega arith) (omega (arith, split_pos n m)) (omega (arith, split_pos n m))))
-more_enough d g ih s e n b l i p q (both m w before over) =
+more_enough d g ih s e n b l i p q (both_parts m w before over) =
     rw (w, lt-ltb (split n) e over, lt-ltb s (split n) before)
     (ap suc (ih 0 (e - split n) (n - split n) false (omega arith) (omega arith) (omega (arith, split_pos n m)) (omega (arith, split_pos n m))))
 

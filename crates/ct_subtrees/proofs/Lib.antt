@@ -14,3 +14,6 @@ pub mod Rebuilds
 pub mod Special
 pub mod OneRefusal
 pub mod Equations
+pub mod HashedStrings
+pub mod OfList
+pub mod Serial

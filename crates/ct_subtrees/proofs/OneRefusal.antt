@@ -3,7 +3,7 @@ use Rattle.std.proofs.Common.{refl, ◌≡◌, ℕ, ◌-◌, sym, ◌∙◌, ap,
 use Rattle.ct_verify.proofs.Defined.{defined_length}
 use Rattle.ct_verify.proofs.Options.{same_some}
 use Rattle.ct_subtrees.specs.Subtrees.{subtree_length}
-use Rattle.ct_subtrees.specs.Verdict.{AcceptsSubtree, RefusesSubtree, EvaluatesTo, RefusesPath}
+use Rattle.ct_subtrees.specs.Verdict.{AcceptsSubtree, RefusesSubtree, EvaluatesTo, RefusesEvaluation}
 use Rattle.ct_subtrees.specs.declared.fault.SubtreeFault.{SubtreeFault}
 use Rattle.ct_subtrees.specs.declared.fault.SubtreeFault.TheVariants.{NotASubtree, BeyondTree, IndexOutOfRange, PathTooLong, PathTooShort}
 use Rattle.ct_subtrees.specs.declared.fault.SubtreeFault.TheVariants.{FirstMismatch, RootMismatch}
@@ -25,7 +25,7 @@ module _ (H : List ℕ → List ℕ) where
   accepted_not_refused s e n x y p IndexOutOfRange a r = r
 
   pub evaluated_not_refused : (i s e : ℕ) (h : List ℕ) (p : List (List ℕ)) (x : List ℕ) (fault : SubtreeFault) → EvaluatesTo H i s e h p x
-      → RefusesPath i s e p fault → ⊥
+      → RefusesEvaluation i s e p fault → ⊥
   evaluated_not_refused i s e h p x NotASubtree a r = r a.0.0
   evaluated_not_refused i s e h p x IndexOutOfRange a r = r.1 (a.0.1, a.0.2)
   evaluated_not_refused i s e h p x PathTooLong a r =
@@ -90,7 +90,7 @@ module _ (H : List ℕ → List ℕ) where
   one_proof_refusal s e n x y p IndexOutOfRange g r t = absurd r
   one_proof_refusal s e n x y p f IndexOutOfRange r t = absurd t
 
-pub one_path_refusal : (i s e : ℕ) (p : List (List ℕ)) (f g : SubtreeFault) → RefusesPath i s e p f → RefusesPath i s e p g → f ≡ g
+pub one_path_refusal : (i s e : ℕ) (p : List (List ℕ)) (f g : SubtreeFault) → RefusesEvaluation i s e p f → RefusesEvaluation i s e p g → f ≡ g
 one_path_refusal i s e p NotASubtree NotASubtree r t = refl
 one_path_refusal i s e p NotASubtree IndexOutOfRange r t = absurd (r t.0)
 one_path_refusal i s e p NotASubtree PathTooLong r t = absurd (r t.0.0)

@@ -11,7 +11,7 @@ use Rattle.ct_verify.specs.Climb.{pair_left, pair_right}
 use Rattle.ct_verify.specs.Rebuild.{rebuild}
 use Rattle.ct_subtrees.specs.Subtrees.{IsSubtree, slice, subtree_hash, subtree_subproof, is_whole}
 use Rattle.ct_subtrees.specs.Roots.{subtree_roots}
-use Rattle.ct_subtrees.proofs.Whole.{Part, all, left, right, both, part, whole_is, subtree_right, subtree_both, subtree_first, first_ends}
+use Rattle.ct_subtrees.proofs.Whole.{Part, all, first_part, second_part, both_parts, part, whole_is, subtree_right, subtree_both, subtree_first, first_ends}
 use Rattle.ct_subtrees.proofs.Down.{pair_beyond, roots-known, roots-given, roots-left, roots-right, roots-both, any_known}
 use Rattle.ct_subtrees.proofs.Subproof.{subtree-whole, subtree-left, subtree-right, subtree-both}
 
@@ -63,7 +63,7 @@ module _ (H : List ℕ → List ℕ) where
   part_rebuilds n below_left below_right s e D b j t i (all z f) =
       let x : subtree_hash H s e D ≡ mth H D = ap (mth H) (slice_first s e D z ∙ take_all e D (omega arith)) in
       rw (x, subtree-whole H s e D b t.0 z (omega arith)) (whole_roots s e n b (mth H D) (whole_is s e n z (omega arith)))
-  part_rebuilds n below_left below_right s e D b j t i (left m w low) =
+  part_rebuilds n below_left below_right s e D b j t i (first_part m w low) =
       let k = split n in
       let c = mth H (drop k D) in
       let f : split (length D) ≡ k = ap split j in
@@ -74,7 +74,7 @@ module _ (H : List ℕ → List ℕ) where
       ∙ ap (option_map (λ z. pair_left H z c))
       (ap (λ v. subtree_roots H s e k b v (subtree_subproof H s e (take k D) b)) (sym x) ∙ y ∙ ap (λ v. Some (v, mth H (take k D))) x)
       ∙ ap (λ v. Some (subtree_hash H s e D, v)) (sym (mth-split_at H D k (omega arith) f))
-  part_rebuilds n below_left below_right s e D b j t i (right m w high) =
+  part_rebuilds n below_left below_right s e D b j t i (second_part m w high) =
       let k = split n in
       let c = mth H (take k D) in
       let f : split (length D) ≡ k = ap split j in
@@ -87,7 +87,7 @@ module _ (H : List ℕ → List ℕ) where
       ∙ ap (option_map (λ z. pair_beyond H z c))
       (ap (λ v. subtree_roots H (s - k) (e - k) (n - k) b v q) (sym x) ∙ y ∙ ap (λ v. Some (v, mth H (drop k D))) x)
       ∙ ap (λ v. Some (subtree_hash H s e D, v)) (sym (mth-split_at H D k (omega arith) f))
-  part_rebuilds n below_left below_right s e D b j t i (both m w before over) =
+  part_rebuilds n below_left below_right s e D b j t i (both_parts m w before over) =
       let k = split n in
       let c = mth H (take k D) in
       let f : split (length D) ≡ k = ap split j in

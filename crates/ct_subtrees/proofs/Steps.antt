@@ -19,7 +19,7 @@ use Rattle.ct_subtrees.specs.Walk.{HasOtherLength}
 use Rattle.ct_subtrees.specs.declared.fault.SubtreeFault.{SubtreeFault}
 use Rattle.ct_subtrees.specs.declared.fault.SubtreeFault.TheVariants.{NotASubtree, BeyondTree, IndexOutOfRange, PathTooLong, PathTooShort}
 use Rattle.ct_subtrees.specs.declared.fault.SubtreeFault.TheVariants.{FirstMismatch, RootMismatch}
-use Rattle.ct_subtrees.proofs.Whole.{Part, all, left, right, both, part, whole_is}
+use Rattle.ct_subtrees.proofs.Whole.{Part, all, first_part, second_part, both_parts, part, whole_is}
 use Rattle.ct_subtrees.proofs.Length.{length-whole, length-left, length-right, length-both}
 use Rattle.ct_subtrees.proofs.Down.{pair_beyond, roots-known, roots-given, roots-left, roots-right, roots-both}
 
@@ -64,9 +64,9 @@ subtree_short s e n b given l i w z = by_part (part s e n l i)
   where
     by_part : Part s e n → given < subtree_length s e n b
     by_part (all y f) = absurd (both_ways (is_whole s e n) w (whole_is s e n y (omega arith)))
-    by_part (left m v low) = omega (arith, length-left s e n b l i m v low)
-    by_part (right m v high) = omega (arith, length-right s e n b l i m v high)
-    by_part (both m v before over) = omega (arith, length-both s e n b l i m v before over)
+    by_part (first_part m v low) = omega (arith, length-left s e n b l i m v low)
+    by_part (second_part m v high) = omega (arith, length-right s e n b l i m v high)
+    by_part (both_parts m v before over) = omega (arith, length-both s e n b l i m v before over)
 
 pub known_long : (s e n : ℕ) (b : Bool) (given : ℕ) → s < e → s ≡ 0 → e ≡ n → b ≡ true → 0 < given → subtree_length s e n b < given
 known_long s e n b given l z f t i = rw (length-whole s e n b l z f, t) i

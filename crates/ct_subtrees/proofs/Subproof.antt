@@ -5,7 +5,7 @@ use Rattle.std.proofs.lemmas.List.{length_push, length-take-le}
 use Rattle.ct_tree.proofs.Split.{split_pos, split_lt, split_induct}
 use Rattle.ct_tree.specs.Tree.{split, mth}
 use Rattle.ct_subtrees.specs.Subtrees.{is_whole, subtree_subproof_within, subtree_subproof, subtree_length}
-use Rattle.ct_subtrees.proofs.Whole.{Part, all, left, right, both, part, whole_is}
+use Rattle.ct_subtrees.proofs.Whole.{Part, all, first_part, second_part, both_parts, part, whole_is}
 use Rattle.ct_subtrees.proofs.Length.{length-whole, length-left, length-right, length-both}
 
 module _ (H : List ℕ → List ℕ) where
@@ -21,18 +21,18 @@ module _ (H : List ℕ → List ℕ) where
       → length D ≤ suc (suc g) → Part s e (length D) → subtree_subproof_within H (suc d) s e D b ≡ subtree_subproof_within H (suc g) s e D b
   unfolding subtree_subproof_within
   more_enough d g ih s e D b l i p q (all z f) = rw (whole_is s e (length D) z (omega arith)) refl
-  more_enough d g ih s e D b l i p q (left m w low) =
+  more_enough d g ih s e D b l i p q (first_part m w low) =
       let k = split (length D) in
       rw (w, le-ltb k e low)
       (ap (λ r. r ++ mth H (drop k D) ∷ []) (ih s e (take k D) b l (omega (arith, short_left D m))
       (omega (arith, short_left D m, split_lt (length D) m)) (omega (arith, short_left D m, split_lt (length D) m))))
-  more_enough d g ih s e D b l i p q (right m w high) =
+  more_enough d g ih s e D b l i p q (second_part m w high) =
       let k = split (length D) in
       let over : k < e = omega arith in
       rw (w, lt-ltb k e over, le-ltb s k high)
       (ap (λ r. r ++ mth H (take k D) ∷ []) (ih (s - k) (e - k) (drop k D) b (omega arith) (omega (arith, length-drop k D))
       (omega (arith, length-drop k D, split_pos (length D) m)) (omega (arith, length-drop k D, split_pos (length D) m))))
-  more_enough d g ih s e D b l i p q (both m w before over) =
+  more_enough d g ih s e D b l i p q (both_parts m w before over) =
       let k = split (length D) in
       rw (w, lt-ltb k e over, lt-ltb s k before)
       (ap (λ r. r ++ mth H (take k D) ∷ []) (ih 0 (e - k) (drop k D) false (omega arith) (omega (arith, length-drop k D))
@@ -94,12 +94,12 @@ module _ (H : List ℕ → List ℕ) where
       → length D ≡ n → s < e → e ≤ n → Part s e n → length (subtree_subproof H s e D b) ≡ subtree_length s e n b
   part_length n below_left below_right s e D b j l i (all z f) =
       ap length (subtree-whole s e D b l z (omega arith)) ∙ by_known b (mth H D) ∙ sym (length-whole s e n b l z f)
-  part_length n below_left below_right s e D b j l i (left m w low) =
+  part_length n below_left below_right s e D b j l i (first_part m w low) =
       let k = split n in
       let t : length (take k D) ≡ k = length-take-le k D (omega (arith, split_lt n m)) in
       ap length (subtree-left s e k D b l (omega arith) (omega arith) (ap (is_whole s e) j ∙ w) (ap split j) low)
       ∙ omega (arith, length_push (subtree_subproof H s e (take k D) b) (mth H (drop k D)), below_left m s e (take k D) b t l low, length-left s e n b l i m w low)
-  part_length n below_left below_right s e D b j l i (right m w high) =
+  part_length n below_left below_right s e D b j l i (second_part m w high) =
       let k = split n in
       let t : length (drop k D) ≡ n - k = omega (arith, length-drop k D) in
       ap length (subtree-right s e k D b l (omega arith) (omega arith) (ap (is_whole s e) j ∙ w) (ap split j) high)
@@ -109,7 +109,7 @@ module _ (H : List ℕ → List ℕ) where
         below_right m (s - k) (e - k) (drop k D) b t (omega arith) (omega arith),
         length-right s e n b l i m w high,
       )
-  part_length n below_left below_right s e D b j l i (both m w before over) =
+  part_length n below_left below_right s e D b j l i (both_parts m w before over) =
       let k = split n in
       let t : length (drop k D) ≡ n - k = omega (arith, length-drop k D) in
       ap length (subtree-both s e k D b l (omega arith) (omega arith) (ap (is_whole s e) j ∙ w) (ap split j) before over)

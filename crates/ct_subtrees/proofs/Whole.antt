@@ -23,18 +23,18 @@ part_ends s e n l =
 -- where [s, e) is in a tree of n leaves: it is the whole tree, or it is in one part, or it has leaves of both parts
 pub data Part (s e n : ℕ) : Type 0 where
   all : s ≡ 0 → e ≡ n → Part s e n
-  left : 1 < n → is_whole s e n ≡ false → e ≤ split n → Part s e n
-  right : 1 < n → is_whole s e n ≡ false → split n ≤ s → Part s e n
-  both : 1 < n → is_whole s e n ≡ false → s < split n → split n < e → Part s e n
+  first_part : 1 < n → is_whole s e n ≡ false → e ≤ split n → Part s e n
+  second_part : 1 < n → is_whole s e n ≡ false → split n ≤ s → Part s e n
+  both_parts : 1 < n → is_whole s e n ≡ false → s < split n → split n < e → Part s e n
 
 some_part : (s e n : ℕ) → 1 < n → is_whole s e n ≡ false → Part s e n
 some_part s e n l w =
     ⊎_elim
     (λ (over : split n < e). ⊎_elim
-    (λ (before : s < split n). both l w before over)
-    (λ (behind : split n ≤ s). right l w behind)
+    (λ (before : s < split n). both_parts l w before over)
+    (λ (behind : split n ≤ s). second_part l w behind)
     (cases_lt s (split n)))
-    (λ (within : e ≤ split n). left l w within)
+    (λ (within : e ≤ split n). first_part l w within)
     (cases_lt (split n) e)
 
 pub part : (s e n : ℕ) → s < e → e ≤ n → Part s e n

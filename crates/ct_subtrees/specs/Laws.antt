@@ -11,7 +11,7 @@ use Rattle.ct_tree.specs.Tree.{split, hash_node, mth, path, proof}
 use Rattle.ct_verify.specs.Rebuild.{rebuild, both_roots}
 use Rattle.ct_subtrees.specs.Subtrees.{IsSubtree, subtree_hash, subtree_path, subtree_subproof, subtree_proof, subtree_length}
 use Rattle.ct_subtrees.specs.Roots.{subtree_roots}
-use Rattle.ct_subtrees.specs.Verdict.{IsSubtreeOf, IsInSubtree, AcceptsSubtree, RefusesSubtree, EvaluatesTo, RefusesPath}
+use Rattle.ct_subtrees.specs.Verdict.{IsSubtreeOf, IsInSubtree, AcceptsSubtree, RefusesSubtree, EvaluatesTo, RefusesEvaluation}
 use Rattle.ct_subtrees.specs.declared.fault.SubtreeFault.{SubtreeFault}
 
 -- 2 ^ j is the smallest power of two that is not below m
@@ -39,34 +39,34 @@ abbrev pub LeafIsSubtree : Type 0
 LeafIsSubtree = (i : ℕ) → IsSubtree i (i + 1)
 
 -- SUBTREE_SUBPROOF(0, n, D[n], true) = {}
-abbrev pub SubproofOfKnown : Type 0
-SubproofOfKnown = (H : List ℕ → List ℕ) (D : List (List ℕ)) → 0 < length D → subtree_subproof H 0 (length D) D true ≡ []
+abbrev pub SubtreeSubproofOfKnown : Type 0
+SubtreeSubproofOfKnown = (H : List ℕ → List ℕ) (D : List (List ℕ)) → 0 < length D → subtree_subproof H 0 (length D) D true ≡ []
 
 -- SUBTREE_SUBPROOF(0, n, D[n], false) = {MTH(D[n])}
-abbrev pub SubproofOfUnknown : Type 0
-SubproofOfUnknown = (H : List ℕ → List ℕ) (D : List (List ℕ)) → 0 < length D → subtree_subproof H 0 (length D) D false ≡ mth H D ∷ []
+abbrev pub SubtreeSubproofOfUnknown : Type 0
+SubtreeSubproofOfUnknown = (H : List ℕ → List ℕ) (D : List (List ℕ)) → 0 < length D → subtree_subproof H 0 (length D) D false ≡ mth H D ∷ []
 
 -- for e <= k SUBTREE_SUBPROOF(s, e, D[n], b) = SUBTREE_SUBPROOF(s, e, D[0:k], b) : MTH(D[k:n])
-abbrev pub SubproofInLeft : Type 0
-SubproofInLeft =
+abbrev pub SubtreeSubproofInLeft : Type 0
+SubtreeSubproofInLeft =
     (H : List ℕ → List ℕ) (s e : ℕ) (D : List (List ℕ)) (b : Bool) (k : ℕ) → s < e → 1 < length D → k ≡ split (length D) → e ≤ k
     → subtree_subproof H s e D b ≡ subtree_subproof H s e (take k D) b ++ mth H (drop k D) ∷ []
 
 -- for k <= s SUBTREE_SUBPROOF(s, e, D[n], b) = SUBTREE_SUBPROOF(s - k, e - k, D[k:n], b) : MTH(D[0:k])
-abbrev pub SubproofInRight : Type 0
-SubproofInRight =
+abbrev pub SubtreeSubproofInRight : Type 0
+SubtreeSubproofInRight =
     (H : List ℕ → List ℕ) (s e : ℕ) (D : List (List ℕ)) (b : Bool) (k : ℕ) → s < e → e ≤ length D → 1 < length D → k ≡ split (length D) → k ≤ s
     → subtree_subproof H s e D b ≡ subtree_subproof H (s - k) (e - k) (drop k D) b ++ mth H (take k D) ∷ []
 
 -- for k < e < n SUBTREE_SUBPROOF(0, e, D[n], b) = SUBTREE_SUBPROOF(0, e - k, D[k:n], false) : MTH(D[0:k])
-abbrev pub SubproofInBoth : Type 0
-SubproofInBoth =
+abbrev pub SubtreeSubproofInBoth : Type 0
+SubtreeSubproofInBoth =
     (H : List ℕ → List ℕ) (e : ℕ) (D : List (List ℕ)) (b : Bool) (k : ℕ) → e < length D → 1 < length D → k ≡ split (length D) → k < e
     → subtree_subproof H 0 e D b ≡ subtree_subproof H 0 (e - k) (drop k D) false ++ mth H (take k D) ∷ []
 
 -- subtree_length(s, e, n, b) is the length of SUBTREE_SUBPROOF(s, e, D[n], b)
-abbrev pub SubproofHasLength : Type 0
-SubproofHasLength =
+abbrev pub SubtreeSubproofHasLength : Type 0
+SubtreeSubproofHasLength =
     (H : List ℕ → List ℕ) (s e : ℕ) (D : List (List ℕ)) (b : Bool) → s < e → e ≤ length D
     → length (subtree_subproof H s e D b) ≡ subtree_length s e (length D) b
 
@@ -156,9 +156,9 @@ SubtreePathEvaluates =
 abbrev pub SubtreePathNotRefused : Type 0
 SubtreePathNotRefused =
     (H : List ℕ → List ℕ) (i s e : ℕ) (h : List ℕ) (p : List (List ℕ)) (x : List ℕ) (fault : SubtreeFault)
-    → EvaluatesTo H i s e h p x → ¬ (RefusesPath i s e p fault)
+    → EvaluatesTo H i s e h p x → ¬ (RefusesEvaluation i s e p fault)
 
 -- no path is refused in two ways
 abbrev pub SubtreePathOneRefusal : Type 0
 SubtreePathOneRefusal =
-    (i s e : ℕ) (p : List (List ℕ)) (one other : SubtreeFault) → RefusesPath i s e p one → RefusesPath i s e p other → one ≡ other
+    (i s e : ℕ) (p : List (List ℕ)) (one other : SubtreeFault) → RefusesEvaluation i s e p one → RefusesEvaluation i s e p other → one ≡ other

@@ -6,3 +6,5 @@ pub mod Walk
 pub mod Made
 pub mod Tiles
 pub mod Laws
+pub mod Hashed
+pub mod Meaning

@@ -40,11 +40,11 @@ abbrev pub EvaluatesTo : (List ℕ → List ℕ) → ℕ → ℕ → ℕ → Lis
 EvaluatesTo H i s e h p x = IsInSubtree i s e × (rebuild H (i - s) (e - s) h p ≡ Some x)
 
 -- when each refusal of a path in a subtree occurs: for the range; for the index; for too many or too few hashes
-abbrev pub RefusesPath : ℕ → ℕ → ℕ → List (List ℕ) → SubtreeFault → Type 0
-RefusesPath i s e p NotASubtree = ¬ IsSubtree s e
-RefusesPath i s e p IndexOutOfRange = IsSubtree s e × (¬ ((s ≤ i) × (i < e)))
-RefusesPath i s e p PathTooLong = IsInSubtree i s e × (path_length (i - s) (e - s) < length p)
-RefusesPath i s e p PathTooShort = IsInSubtree i s e × (length p < path_length (i - s) (e - s))
-RefusesPath i s e p BeyondTree = ⊥
-RefusesPath i s e p FirstMismatch = ⊥
-RefusesPath i s e p RootMismatch = ⊥
+abbrev pub RefusesEvaluation : ℕ → ℕ → ℕ → List (List ℕ) → SubtreeFault → Type 0
+RefusesEvaluation i s e p NotASubtree = ¬ IsSubtree s e
+RefusesEvaluation i s e p IndexOutOfRange = IsSubtree s e × (¬ ((s ≤ i) × (i < e)))
+RefusesEvaluation i s e p PathTooLong = IsInSubtree i s e × (path_length (i - s) (e - s) < length p)
+RefusesEvaluation i s e p PathTooShort = IsInSubtree i s e × (length p < path_length (i - s) (e - s))
+RefusesEvaluation i s e p BeyondTree = ⊥
+RefusesEvaluation i s e p FirstMismatch = ⊥
+RefusesEvaluation i s e p RootMismatch = ⊥

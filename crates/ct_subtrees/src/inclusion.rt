@@ -2,7 +2,7 @@
 ghost use Rattle.std.specs.Prelude.{◌≡◌, ◌-◌, ◌<◌, ◌≤◌, length, MatchResult};
 ghost use Rattle.ct_tree.specs.Lengths.{path_length};
 ghost use Rattle.ct_verify.specs.Rebuild.{rebuild};
-ghost use Rattle.ct_subtrees.specs.Verdict.{EvaluatesTo, RefusesPath};
+ghost use Rattle.ct_subtrees.specs.Verdict.{EvaluatesTo, RefusesEvaluation};
 ghost use Rattle.ct_subtrees.specs.Walk.{HasOtherLength};
 
 use crate::element::last_and_rest;
@@ -60,7 +60,7 @@ pub fn evaluate_subtree_inclusion<H: NodeHash>(
     leaf_hash: &[u8; 32],
     path: &[[u8; 32]],
 ) -> Result<[u8; 32], SubtreeFault>
-    ensures { MatchResult result (EvaluatesTo H.digest index start end leaf_hash.now path.now) (RefusesPath index start end path.now) }
+    ensures { MatchResult result (EvaluatesTo H.digest index start end leaf_hash.now path.now) (RefusesEvaluation index start end path.now) }
 {
     if !is_subtree(start, end) {
         return Err(SubtreeFault::NotASubtree);

@@ -1,7 +1,7 @@
 //! The laws of the definitions that the verifiers' contracts name, each a clause of a function that does nothing. A reader who trusts these
 //! laws need not read how `specs/Subtrees.antt` counts down a bound and `specs/Roots.antt` reads a proof from its end.
 ghost use Rattle.ct_subtrees.specs.Laws.{SubtreeIsMultiple, SubtreeOfBothParts, SubtreeOfRightPart, FirstLeavesAreSubtree, LeafIsSubtree};
-ghost use Rattle.ct_subtrees.specs.Laws.{SubproofOfKnown, SubproofOfUnknown, SubproofInLeft, SubproofInRight, SubproofInBoth, SubproofHasLength};
+ghost use Rattle.ct_subtrees.specs.Laws.{SubtreeSubproofOfKnown, SubtreeSubproofOfUnknown, SubtreeSubproofInLeft, SubtreeSubproofInRight, SubtreeSubproofInBoth, SubtreeSubproofHasLength};
 ghost use Rattle.ct_subtrees.specs.Laws.{ProofOfFirstLeaves, ProofOfOneLeaf, RootsOfFirstLeaves, RootsOfOneLeaf};
 ghost use Rattle.ct_subtrees.specs.Laws.{RootsOfKnown, RootsOfUnknown, RootsInLeft, RootsInRight, RootsInBoth, RootsDefined};
 ghost use Rattle.ct_subtrees.specs.Laws.{SubtreeProofRebuilds, SubtreeProofAccepted, SubtreeProofNotRefused, SubtreeProofOneRefusal};
@@ -18,18 +18,18 @@ pub fn range()
 
 /// The recursion SUBTREE_SUBPROOF, and the length of what it yields.
 #[tactic(auto, using(crate::proofs::Equations::subproof_of_known, crate::proofs::Equations::subproof_of_unknown, crate::proofs::Equations::subproof_in_left, crate::proofs::Equations::subproof_in_right, crate::proofs::Equations::subproof_in_both, crate::proofs::Equations::subproof_has_length))]
-pub fn subproof()
-    ensures known { SubproofOfKnown }
-    ensures unknown { SubproofOfUnknown }
-    ensures left { SubproofInLeft }
-    ensures right { SubproofInRight }
-    ensures both { SubproofInBoth }
-    ensures length { SubproofHasLength }
+pub fn subtree_subproof()
+    ensures known { SubtreeSubproofOfKnown }
+    ensures unknown { SubtreeSubproofOfUnknown }
+    ensures left { SubtreeSubproofInLeft }
+    ensures right { SubtreeSubproofInRight }
+    ensures both { SubtreeSubproofInBoth }
+    ensures length { SubtreeSubproofHasLength }
 {}
 
 /// The two hashes that a subtree's consistency proof yields, from the root of the tree down.
 #[tactic(auto, using(crate::proofs::Equations::roots_of_known, crate::proofs::Equations::roots_of_unknown, crate::proofs::Equations::roots_in_left, crate::proofs::Equations::roots_in_right, crate::proofs::Equations::roots_in_both, crate::proofs::Equations::roots_defined))]
-pub fn roots()
+pub fn subtree_roots()
     ensures known { RootsOfKnown }
     ensures unknown { RootsOfUnknown }
     ensures left { RootsInLeft }
@@ -50,7 +50,7 @@ pub fn known_proofs()
 /// Every consistency proof of a subtree leads to both hashes, and is accepted. No accepted proof is refused, and no proof is refused in two
 /// ways.
 #[tactic(auto, using(crate::proofs::Equations::subtree_proof_rebuilds, crate::proofs::Equations::subtree_proof_accepted, crate::proofs::Equations::subtree_proof_not_refused, crate::proofs::Equations::subtree_proof_one_refusal))]
-pub fn proof()
+pub fn subtree_proof()
     ensures rebuilds { SubtreeProofRebuilds }
     ensures accepted { SubtreeProofAccepted }
     ensures not_refused { SubtreeProofNotRefused }
@@ -60,7 +60,7 @@ pub fn proof()
 /// Every path of a leaf in a subtree evaluates to the hash of the subtree. No path that evaluates to a hash is refused, and no path is
 /// refused in two ways.
 #[tactic(auto, using(crate::proofs::Equations::subtree_path_evaluates, crate::proofs::Equations::subtree_path_not_refused, crate::proofs::Equations::subtree_path_one_refusal))]
-pub fn path()
+pub fn subtree_path()
     ensures evaluates { SubtreePathEvaluates }
     ensures not_refused { SubtreePathNotRefused }
     ensures one_refusal { SubtreePathOneRefusal }

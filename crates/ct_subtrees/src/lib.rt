@@ -15,6 +15,7 @@ mod from_nodes;
 mod from_tiles;
 mod inclusion;
 pub mod laws;
+pub mod meaning;
 mod parts;
 mod range;
 
