@@ -62,10 +62,11 @@ pub(crate) fn above(
     requires { 0 < size }
     ensures { IfOk result (λ rest. rest.items ≡ drop (path_length_of 0 size) path.now) }
 {
-    path.iter()
-        .copied()
-        .skip(path_length(0, size as usize))
-        .collect(alloc)
+    let count = path_length(0, size as usize);
+    if count >= path.len() {
+        return Ok(Vec::new(alloc));
+    }
+    Vec::from_slice(alloc, &path[count..])
 }
 
 // Returns the root of leaves from the hash of the first one and its path, on which each hash is a right one.
