@@ -5,6 +5,13 @@
 //!
 //! The definitions are in `specs/Subtrees.antt`. Their recursion is that of draft-ietf-plants-merkle-tree-certs, which is cited from memory.
 //! Nothing here depends on the text of the draft, because all of it is mathematics of the tree of RFC 6962.
+//!
+//! # Made by a log
+//!
+//! - [`subtree_hash`], [`subtree_path`] and [`subtree_proof`] return the hash and the two proofs from the nodes of a tree.
+//! - [`subtree_hash_of_handed`], [`subtree_path_of_handed`] and [`subtree_proof_of_handed`] return the same from the bytes of the tiles that
+//!   [`tiles_for_subtree_path`] and [`tiles_for_subtree_proof`] list.
+//! - [`cover_range`] returns the one or two subtrees that cover a range of leaves.
 #![tactic(auto)]
 
 mod consistency;
