@@ -1,10 +1,25 @@
 //! Subtrees of a Certificate Transparency log's tree, and the verifiers of their proofs.
 //!
 //! A subtree of a list of leaves D is a range `[start, end)` whose start is a multiple of the smallest power of two that is not below its
-//! length. Its hash is MTH(D[start:end]) (RFC 6962, section 2.1). Merkle Tree Certificates sign such hashes.
+//! length. Its hash is MTH(D[start:end]) (RFC 6962, section 2.1). Merkle Tree Certificates sign such hashes, and a certificate's serial
+//! number is the index of its leaf.
 //!
-//! The definitions are in `specs/Subtrees.antt`. Their recursion is that of draft-ietf-plants-merkle-tree-certs, which is cited from memory.
-//! Nothing here depends on the text of the draft, because all of it is mathematics of the tree of RFC 6962.
+//! - [`is_subtree`] decides whether a range is a subtree.
+//! - [`verify_subtree_consistency`] decides whether a subtree's hash belongs to the tree with a given root.
+//! - [`evaluate_subtree_inclusion`] returns the hash of a subtree to which the path of a leaf leads. The caller must compare it with a hash
+//!   that it trusts for this start and end.
+//!
+//! They work for every hash function with digests of 32 bytes, every range and size of 64 bits, and every proof. They take no memory from an
+//! allocator and hash at most two nodes for each element of a proof. They go from the root of the tree down, so they call themselves at
+//! most 64 times.
+//!
+//! The meaning of a result is defined from the root of the tree down (`specs/Subtrees.antt`, `specs/Roots.antt`). A refusal names the first
+//! fault in a fixed order ([`SubtreeFault`], `specs/Verdict.antt`). The module [`laws`] shows the equations of the definitions, and that
+//! every true proof is accepted. The module [`meaning`] states what an accepted proof shows of a list of leaves, or otherwise which strings
+//! collide.
+//!
+//! The recursion of the proofs is that of draft-ietf-plants-merkle-tree-certs, sections 4.1 to 4.4, which is cited from memory. Nothing here
+//! depends on the text of the draft, because all of it is mathematics of the tree of RFC 6962.
 //!
 //! # Made by a log
 //!

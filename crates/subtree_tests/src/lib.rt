@@ -1,4 +1,4 @@
-//! Tests of `ct_subtrees`, in a crate of their own so that it is proved once.
+//! Tests of what `ct_subtrees` makes, in a crate of their own so that it is proved once.
 #![tactic(auto)]
 
 #[cfg(test)]
