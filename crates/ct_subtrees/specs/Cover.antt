@@ -7,13 +7,16 @@ use Rattle.ct_subtrees.specs.Subtrees.{IsSubtree}
 abbrev pub IsPower : ℕ → Type 0
 IsPower w = (j : ℕ) × (w ≡ 2 ^ j)
 
--- Two adjacent subtrees cover the range [s, e) of leaves. The left one is full: the number of its leaves is a power of two. It may begin
--- before the range. The right one ends with the range. Each has a leaf of the range, and both have fewer than twice the leaves of the range
+-- Two adjacent subtrees cover the range [s, e) of leaves. The left one is full: the number of its leaves is a power of two, the smallest that
+-- reaches s, so it may begin before the range. The right one ends with the range. It begins at the only index of the range after s that is a
+-- multiple of some power of two. Each has a leaf of the range, and both have fewer than twice the leaves of the range
 pub record IsCoverByTwo (s e : ℕ) (left right : Subtree) : Type 0 where
   pub left_is : IsSubtree left.start left.end
   pub right_is : IsSubtree right.start right.end
   pub full : IsPower (left.end - left.start)
+  pub least : left.end - left.start < 2 * (left.end - s)
   pub adjacent : left.end ≡ right.start
+  pub only : (j : ℕ) × ((q : ℕ) × (right.start ≡ q * 2 ^ j)) × ((x : ℕ) → s < x * 2 ^ j → x * 2 ^ j < e → x * 2 ^ j ≡ right.start)
   pub begins : left.start ≤ s
   pub in_left : s < left.end
   pub in_right : right.start < e
