@@ -5,3 +5,4 @@ pub mod Walk
 pub mod Laws
 pub mod Hashed
 pub mod Meaning
+pub mod Explained
