@@ -17,3 +17,4 @@ pub mod Equations
 pub mod HashedStrings
 pub mod OfList
 pub mod Serial
+pub mod Searching

@@ -81,7 +81,7 @@ module _ (H : List ℕ → List ℕ) where
       ∙ rw (take-map (hash_leaf H) k D, drop-map (hash_leaf H) k D)
       (reverse_last (subtree_subproof H 0 (e - k) (hashes_of (drop k D)) false) (mth_of_leaves H (take k D)))
 
-  one_pair : (c x y : List ℕ) (q : List (List ℕ)) → same_pair c q ≡ Some (x, y) → (x ≡ c) × (y ≡ c) × (q ≡ [])
+  pub one_pair : (c x y : List ℕ) (q : List (List ℕ)) → same_pair c q ≡ Some (x, y) → (x ≡ c) × (y ≡ c) × (q ≡ [])
   one_pair c x y [] f =
       let z : (c, c) ≡ (x, y) = same_some (c, c) (x, y) f in
       (sym (ap (λ (v : List ℕ × List ℕ). v.0) z), sym (ap (λ (v : List ℕ × List ℕ). v.1) z), refl)

@@ -8,3 +8,4 @@ pub mod Tiles
 pub mod Laws
 pub mod Hashed
 pub mod Meaning
+pub mod Explained

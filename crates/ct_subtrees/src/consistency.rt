@@ -12,22 +12,22 @@ use ct_tree::{NodeHash, largest_power_below, node_hash};
 
 // The range of a subtree in a tree of `size` leaves.
 #[derive(Clone, Copy)]
-struct Place {
-    start: usize,
-    end: usize,
-    size: usize,
+pub(crate) struct Place {
+    pub(crate) start: usize,
+    pub(crate) end: usize,
+    pub(crate) size: usize,
 }
 
 // The hash of the subtree and the root of the tree, as far as they are rebuilt.
 #[derive(Clone, Copy)]
-struct Hashes {
-    subtree: [u8; 32],
-    root: [u8; 32],
+pub(crate) struct Hashes {
+    pub(crate) subtree: [u8; 32],
+    pub(crate) root: [u8; 32],
 }
 
 impl Place {
     // Reports whether the range is all leaves of the tree.
-    fn is_all(self) -> bool
+    pub(crate) fn is_all(self) -> bool
         ensures { IsTrue result ↔ (is_whole self.start self.end self.size ≡ true) }
     {
         self.start == 0 && self.end >= self.size
@@ -65,7 +65,7 @@ fn whole(known: bool, subtree_hash: &[u8; 32], proof: &[[u8; 32]]) -> Result<Has
 }
 
 // The two hashes that a proof yields. If `known` is true, the hash of the subtree is known.
-fn rebuilt<H: NodeHash>(
+pub(crate) fn rebuilt<H: NodeHash>(
     h: &H,
     place: Place,
     known: bool,

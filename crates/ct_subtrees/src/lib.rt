@@ -8,10 +8,12 @@
 //! - [`verify_subtree_consistency`] decides whether a subtree's hash belongs to the tree with a given root.
 //! - [`evaluate_subtree_inclusion`] returns the hash of a subtree to which the path of a leaf leads. The caller must compare it with a hash
 //!   that it trusts for this start and end.
+//! - [`explain_subtree`] compares an accepted proof with the list. It reports that the proof is true of the list, or returns two strings
+//!   that differ and have the same hash.
 //!
-//! They work for every hash function with digests of 32 bytes, every range and size of 64 bits, and every proof. They take no memory from an
-//! allocator and hash at most two nodes for each element of a proof. They go from the root of the tree down, so they call themselves at
-//! most 64 times.
+//! They work for every hash function with digests of 32 bytes, every range and size of 64 bits, and every proof. The first
+//! three take no memory from an allocator, and hash at most two nodes for each element of a proof. All of them go from the root of the tree
+//! down, so they call themselves at most 64 times.
 //!
 //! The meaning of a result is defined from the root of the tree down (`specs/Subtrees.antt`, `specs/Roots.antt`). A refusal names the first
 //! fault in a fixed order ([`SubtreeFault`], `specs/Verdict.antt`). The module [`laws`] shows the equations of the definitions, and that
@@ -32,6 +34,7 @@
 mod consistency;
 mod covering;
 mod element;
+mod explained;
 mod fault;
 mod from_nodes;
 mod from_tiles;
@@ -43,6 +46,7 @@ mod range;
 
 pub use consistency::verify_subtree_consistency;
 pub use covering::{Cover, Subtree, cover_range};
+pub use explained::{SubtreeEvidenceFault, explain_subtree};
 pub use fault::SubtreeFault;
 pub use from_nodes::{subtree_hash, subtree_path, subtree_proof};
 pub use from_tiles::{

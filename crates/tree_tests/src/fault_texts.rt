@@ -1,7 +1,7 @@
 // The text that `Display` shows for each fault of a proof, of evidence and of a head, and for each refusal of a guard.
 use ct_guard::{HeadRefusal, ReceiptRefusal};
 use ct_monitor::MonitorFault;
-use ct_subtrees::SubtreeFault;
+use ct_subtrees::{SubtreeEvidenceFault, SubtreeFault};
 use ct_verify::{EvidenceFault, ProofFault};
 use std::alloc::Global;
 use std::fmt::Display;
@@ -51,6 +51,21 @@ fn each_fault_of_a_subtree(rt: HostRuntime) {
         (
             SubtreeFault::RootMismatch,
             "the proof leads to another root than the tree head's",
+        ),
+    ];
+    assert!(rt; are_told(rt.alloc(), &faults));
+}
+
+#[test]
+fn each_fault_of_evidence_for_a_subtree(rt: HostRuntime) {
+    let faults = [
+        (
+            SubtreeEvidenceFault::ProofRefused(SubtreeFault::BeyondTree),
+            "the proof of the subtree is refused: the subtree ends beyond the tree",
+        ),
+        (
+            SubtreeEvidenceFault::Memory,
+            "there is no memory for the two strings",
         ),
     ];
     assert!(rt; are_told(rt.alloc(), &faults));

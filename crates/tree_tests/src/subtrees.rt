@@ -4,9 +4,10 @@
 use crate::rows::{Row, Shown, right_rows};
 use crate::weak_hashes::ZeroHash;
 use ct_subtrees::{
-    evaluate_subtree_inclusion, is_subtree, laws, meaning, verify_subtree_consistency,
+    evaluate_subtree_inclusion, explain_subtree, is_subtree, laws, meaning,
+    verify_subtree_consistency,
 };
-use ct_tree::Sha256Hash;
+use ct_tree::{NodeHash, Sha256Hash};
 use std::alloc::Global;
 
 const ZEROS: [u8; 32] = [0; 32];
@@ -77,12 +78,25 @@ fn is_proof_of_zeros_answered(alloc: Global, mut row: Row<'_>) -> bool {
     row.ends_in(alloc, &answer)
 }
 
+// Checks a row of the hashes of all leaves, a range, the hash of the subtree and the proof.
+fn is_explained<H: NodeHash>(alloc: Global, h: &H, mut row: Row<'_>) -> bool {
+    let leaf_hashes = row.hashes(alloc);
+    let start = row.number();
+    let end = row.number();
+    let hash = row.hash();
+    let proof = row.hashes(alloc);
+    let answer = explain_subtree(alloc, h, &leaf_hashes, start, end, &hash, &proof);
+    row.ends_in(alloc, &answer)
+}
+
 impl Shown for Subtrees {
     fn is_right(&mut self, alloc: Global, mut row: Row<'_>) -> bool {
         match row.word() {
             "range" => is_range_answered(alloc, row),
             "proof" => is_proof_answered(alloc, row),
             "path" => is_path_answered(alloc, row),
+            "explain" => is_explained(alloc, &Sha256Hash, row),
+            "explain-zeros" => is_explained(alloc, &ZeroHash, row),
             "zeros" => is_proof_of_zeros_answered(alloc, row),
             _ => false,
         }
@@ -90,7 +104,7 @@ impl Shown for Subtrees {
 }
 
 // Groups of rows, with the number of rows.
-const SUBTREES: [(u32, &str); 7] = [
+const SUBTREES: [(u32, &str); 8] = [
     // Ranges, also of the largest numbers. The smallest power of two that is not below a length of more than 2^63 has 65 bits.
     (
         26,
@@ -241,6 +255,21 @@ zeros 9223372036854775808 13835058055282163712 18446744073709551615 3 Err(PathTo
 zeros 4611686018427387904 9223372036854775808 18446744073709551615 1 Err(PathTooShort)
 zeros 4611686018427387904 9223372036854775808 18446744073709551615 2 Err(RootMismatch)
 zeros 4611686018427387904 9223372036854775808 18446744073709551615 3 Err(PathTooLong)",
+    ),
+    // Evidence. Under the hash function whose digests are zeros, every proof of the right length leads to the root.
+    (
+        10,
+        "\
+explain L0,L1,L2,L3,L4,L5,L6 4 7 N456 N0123 Ok(Holds)
+explain L0,L1,L2,L3,L4,L5,L6 0 7 MTH_7 - Ok(Holds)
+explain L0,L1,L2,L3,L4,L5,L6 0 3 MTH_3 L2,L3,N01,N456 Ok(Holds)
+explain L0,L1,L2,L3,L4,L5,L6 2 4 N23 N01,N456 Ok(Holds)
+explain L0,L1,L2,L3,L4,L5,L6 3 5 N23 N01 Err(ProofRefused(NotASubtree))
+explain L0,L1,L2,L3,L4,L5,L6 4 8 N456 N0123 Err(ProofRefused(BeyondTree))
+explain L0,L1,L2,L3,L4,L5,L6 4 7 MTH_3 N0123 Err(ProofRefused(RootMismatch))
+explain-zeros ONES,SEVENS,ONES 0 2 ZEROS SEVENS Ok(Collision([1, 0, 0, 0, 0, 0, 0, 0, 0, 0, 0, 0, 0, 0, 0, 0, 0, 0, 0, 0, 0, 0, 0, 0, 0, 0, 0, 0, 0, 0, 0, 0, 0, 7, 7, 7, 7, 7, 7, 7, 7, 7, 7, 7, 7, 7, 7, 7, 7, 7, 7, 7, 7, 7, 7, 7, 7, 7, 7, 7, 7, 7, 7, 7, 7], [1, 0, 0, 0, 0, 0, 0, 0, 0, 0, 0, 0, 0, 0, 0, 0, 0, 0, 0, 0, 0, 0, 0, 0, 0, 0, 0, 0, 0, 0, 0, 0, 0, 1, 1, 1, 1, 1, 1, 1, 1, 1, 1, 1, 1, 1, 1, 1, 1, 1, 1, 1, 1, 1, 1, 1, 1, 1, 1, 1, 1, 1, 1, 1, 1]))
+explain-zeros ONES,SEVENS,SEVENS 2 3 ONES ZEROS Ok(Collision([1, 0, 0, 0, 0, 0, 0, 0, 0, 0, 0, 0, 0, 0, 0, 0, 0, 0, 0, 0, 0, 0, 0, 0, 0, 0, 0, 0, 0, 0, 0, 0, 0, 1, 1, 1, 1, 1, 1, 1, 1, 1, 1, 1, 1, 1, 1, 1, 1, 1, 1, 1, 1, 1, 1, 1, 1, 1, 1, 1, 1, 1, 1, 1, 1], [1, 0, 0, 0, 0, 0, 0, 0, 0, 0, 0, 0, 0, 0, 0, 0, 0, 0, 0, 0, 0, 0, 0, 0, 0, 0, 0, 0, 0, 0, 0, 0, 0, 7, 7, 7, 7, 7, 7, 7, 7, 7, 7, 7, 7, 7, 7, 7, 7, 7, 7, 7, 7, 7, 7, 7, 7, 7, 7, 7, 7, 7, 7, 7, 7]))
+explain-zeros ONES,SEVENS,SEVENS 2 3 SEVENS ZEROS Ok(Holds)",
     ),
 ];
 
