@@ -18,3 +18,4 @@ pub mod HashedStrings
 pub mod OfList
 pub mod Serial
 pub mod Searching
+pub mod PartLaws

@@ -20,7 +20,7 @@ use Rattle.ct_subtrees.proofs.Rebuilds.{slice_length}
 use Rattle.ct_subtrees.proofs.Inside.{path-inside_at, sub-partial_at}
 
 -- ---- perfect trees
-perfect_power : (c : ℕ) → 0 < c → is_perfect c ≡ true → IsPower c
+pub perfect_power : (c : ℕ) → 0 < c → is_perfect c ≡ true → IsPower c
 perfect_power c z e = by_one (nat_eq c 1) refl e
   where
     by_one : (b : Bool) → nat_eq c 1 ≡ b → cond b true (nat_eq (split c) (c - split c)) ≡ true → IsPower c
@@ -34,7 +34,7 @@ perfect_power c z e = by_one (nat_eq c 1) refl e
         (λ (h : c ≤ 1). (0, omega arith))
         (cases_lt 1 c)
 
-power_perfect : (c : ℕ) → IsPower c → is_perfect c ≡ true
+pub power_perfect : (c : ℕ) → IsPower c → is_perfect c ≡ true
 power_perfect c (zero, e) = rw (eq-eqb c 1 (omega (arith, e))) refl
 power_perfect c (suc j, e) =
     let p = pow_pos j in

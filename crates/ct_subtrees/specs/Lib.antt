@@ -9,3 +9,4 @@ pub mod Laws
 pub mod Hashed
 pub mod Meaning
 pub mod Explained
+pub mod PartLaws

@@ -29,6 +29,7 @@
 //! - [`subtree_hash_of_handed`], [`subtree_path_of_handed`] and [`subtree_proof_of_handed`] return the same from the bytes of the tiles that
 //!   [`tiles_for_subtree_path`] and [`tiles_for_subtree_proof`] list.
 //! - [`cover_range`] returns the one or two subtrees that cover a range of leaves.
+//! - [`part_laws`] shows which parts of a path these proofs are, and that a range has one cover.
 #![tactic(auto)]
 
 mod consistency;
@@ -41,6 +42,7 @@ mod from_tiles;
 mod inclusion;
 pub mod laws;
 pub mod meaning;
+pub mod part_laws;
 mod parts;
 mod range;
 

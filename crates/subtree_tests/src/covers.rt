@@ -1,6 +1,6 @@
 // Covers of ranges. The expected ones are those of the draft's algorithm in another language.
 
-use ct_subtrees::cover_range;
+use ct_subtrees::{cover_range, part_laws};
 
 // Ranges of more than one leaf: the start, the end, the start of the left subtree, and the index at which the right one begins.
 const PAIRS: [(u64, u64, u64, u64); 10] = [
@@ -45,6 +45,8 @@ fn ranges_have_the_covers_of_the_draft(rt: HostRuntime) {
     for (start, end, first, middle) in &PAIRS {
         assert!(rt; is_pair(*start, *end, *first, *middle));
     }
+    part_laws::covers();
+    part_laws::parts();
     assert!(rt; is_alone(0, 1));
     assert!(rt; is_alone(5, 6));
     assert!(rt; is_alone(u64::MAX - 1, u64::MAX));
