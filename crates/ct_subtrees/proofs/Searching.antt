@@ -16,7 +16,7 @@ use Rattle.ct_subtrees.specs.Hashed.{subtree_strings}
 use Rattle.ct_subtrees.specs.Roots.{subtree_down, subtree_roots}
 use Rattle.ct_subtrees.specs.Subtrees.{IsSubtree, slice, subtree_length, is_whole}
 use Rattle.ct_subtrees.specs.Walk.{HasOtherLength}
-use Rattle.ct_subtrees.specs.declared.subtree_evidence.Difference.{Difference}
+use Rattle.ct_subtrees.specs.declared.explained.Difference.{Difference}
 use Rattle.ct_subtrees.specs.declared.fault.SubtreeFault.{SubtreeFault}
 use Rattle.ct_subtrees.specs.declared.fault.SubtreeFault.TheVariants.{NotASubtree, BeyondTree, IndexOutOfRange, PathTooLong, PathTooShort}
 use Rattle.ct_subtrees.specs.declared.fault.SubtreeFault.TheVariants.{FirstMismatch, RootMismatch}

@@ -8,10 +8,10 @@ use Rattle.ct_verify.specs.declared.evidence.Evidence.TheVariants.{Holds, Collis
 use Rattle.ct_subtrees.specs.Hashed.{subtree_strings}
 use Rattle.ct_subtrees.specs.Subtrees.{subtree_hash, subtree_subproof, subtree_proof}
 use Rattle.ct_subtrees.specs.Verdict.{AcceptsSubtree, RefusesSubtree}
-use Rattle.ct_subtrees.specs.declared.subtree_evidence.SubtreeEvidenceFault.{SubtreeEvidenceFault}
-use Rattle.ct_subtrees.specs.declared.subtree_evidence.SubtreeEvidenceFault.TheVariants.{ProofRefused, Memory}
-use Rattle.ct_subtrees.specs.declared.subtree_evidence.Node.{Node}
-use Rattle.ct_subtrees.specs.declared.subtree_evidence.Difference.{Difference}
+use Rattle.ct_subtrees.specs.declared.explained.SubtreeEvidenceFault.{SubtreeEvidenceFault}
+use Rattle.ct_subtrees.specs.declared.explained.SubtreeEvidenceFault.TheVariants.{ProofRefused, Memory}
+use Rattle.ct_subtrees.specs.declared.explained.Node.{Node}
+use Rattle.ct_subtrees.specs.declared.explained.Difference.{Difference}
 
 -- the string of an inner node: 01 || left || right
 abbrev pub node_string : Node → List ℕ

@@ -26,15 +26,15 @@
 
 mod consistency;
 mod element;
+mod explained;
 mod fault;
 mod inclusion;
 pub mod laws;
 pub mod meaning;
 mod range;
-mod subtree_evidence;
 
 pub use consistency::verify_subtree_consistency;
+pub use explained::{SubtreeEvidenceFault, explain_subtree};
 pub use fault::SubtreeFault;
 pub use inclusion::evaluate_subtree_inclusion;
 pub use range::is_subtree;
-pub use subtree_evidence::{SubtreeEvidenceFault, explain_subtree};

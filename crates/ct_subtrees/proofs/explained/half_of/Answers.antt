@@ -1,5 +1,5 @@
 use Rattle.ct_subtrees.specs.Explained.IsHalf.{left, right, both}
-use Rattle.ct_subtrees.proofs.subtree_evidence.half_of.Goals as goal
+use Rattle.ct_subtrees.proofs.explained.half_of.Goals as goal
 
 pub returns-then-place-middle-clause-half : goal.returns-then-place-middle-clause-half
 returns-then-place-middle-clause-half c = left c.if-place-middle.true

@@ -5,7 +5,7 @@ ghost use Rattle.ct_verify.specs.Strings.{IsCollision};
 ghost use Rattle.ct_subtrees.specs.Explained.{node_string, IsHalf, SearchResult, SubtreeEvidence, SubtreeRefusal};
 ghost use Rattle.ct_subtrees.specs.Roots.{subtree_roots};
 ghost use Rattle.ct_subtrees.specs.Subtrees.{IsSubtree};
-ghost use Rattle.ct_subtrees.specs.declared.subtree_evidence.SubtreeEvidenceFault.TheVariants.{ProofRefused, Memory};
+ghost use Rattle.ct_subtrees.specs.declared.explained.SubtreeEvidenceFault.TheVariants.{ProofRefused, Memory};
 
 use crate::consistency::{Place, rebuilt, verify_subtree_consistency};
 use crate::element::last_and_rest;

@@ -1,7 +1,7 @@
 use Rattle.std.proofs.Common.{refl}
 use Rattle.std.proofs.lemmas.Bool.{both_ways}
 use Rattle.ct_verify.proofs.Comparing.{same_parts}
-use Rattle.ct_subtrees.proofs.subtree_evidence.is_same_string.Goals as goal
+use Rattle.ct_subtrees.proofs.explained.is_same_string.Goals as goal
 
 pub returns-then-left-clause-strings : goal.returns-then-left-clause-strings
 returns-then-left-clause-strings c = (

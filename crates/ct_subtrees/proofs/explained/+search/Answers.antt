@@ -7,7 +7,7 @@ use Rattle.ct_subtrees.specs.declared.consistency.Hashes.{Hashes}
 use Rattle.ct_subtrees.proofs.Searching.{whole_result, not_empty, search_above, differ_here, below, part_rebuilt}
 use Rattle.ct_subtrees.proofs.Steps.{not_shown}
 use Rattle.ct_subtrees.proofs.Whole.{whole_means, many}
-use Rattle.ct_subtrees.proofs.subtree_evidence.+search.Goals as goal
+use Rattle.ct_subtrees.proofs.explained.+search.Goals as goal
 
 pub returns-then-is_all : goal.returns-then-is_all
 returns-then-is_all g t c x u d =
