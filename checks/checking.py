@@ -29,6 +29,8 @@ BY_EQUATIONS = {
     "subproof_whole": "subproof",
     "path_length_within": "path",
     "subproof_length_within": "subproof",
+    "subtree_subproof_within": "subtree_subproof",
+    "subtree_length_within": "subtree_subproof",
 }
 
 
@@ -234,8 +236,10 @@ def definitions_of(keys, page):
     left_out = [one.key[2] for one in texts if one.key[2] in BY_EQUATIONS]
     if left_out:
         laws = dict.fromkeys(BY_EQUATIONS[name] for name in left_out)
-        where = "above" if page.stem == "verifiers" else "on the page [verifiers.md](verifiers.md)"
-        lines += [f"No reader must follow the recursions with a bound, {listed(left_out)}, so they are left out. The contracts {listed(laws)} {where} are their equations.", ""]
+        above = {named[2] for named in CONTRACT.finditer(page.read_text())}
+        places = {"above": [law for law in laws if law in above], "on the page [verifiers.md](verifiers.md)": [law for law in laws if law not in above]}
+        where = ", and ".join(f"{listed(found)} {place}" for place, found in places.items() if found)
+        lines += [f"No reader must follow the recursions with a bound, {listed(left_out)}, so they are left out. The contracts {where} are their equations.", ""]
     return "\n".join([*lines, *definitions(shown), ""])
 
 

@@ -30,6 +30,7 @@ BREAKS = {
     "fallen-lock": "libwagtenib/the_accepted_head_is_judged_in_place_of_the_next",
     "witness": "ct_witness/a_fork_is_let_through",
     "verifiers": "ct_verify/inclusion_ends_below_the_root",
+    "subtrees": "ct_subtrees/an_element_beside_the_subtree_joins_it",
     "reader": "ct_tiles/path_checked_against_another_root",
     "names": "ct_names/the_last_extension_is_not_read",
     "monitor": "ct_monitor/smaller_head_taken",

@@ -1,6 +1,7 @@
 // The text that `Display` shows for each fault of a proof, of evidence and of a head, and for each refusal of a guard.
 use ct_guard::{HeadRefusal, ReceiptRefusal};
 use ct_monitor::MonitorFault;
+use ct_subtrees::{SubtreeEvidenceFault, SubtreeFault};
 use ct_verify::{EvidenceFault, ProofFault};
 use std::alloc::Global;
 use std::fmt::Display;
@@ -21,6 +22,53 @@ fn are_told<T: Display>(alloc: Global, faults: &[(T, &str)]) -> bool {
         }
     }
     true
+}
+
+#[test]
+fn each_fault_of_a_subtree(rt: HostRuntime) {
+    let faults = [
+        (
+            SubtreeFault::NotASubtree,
+            "the range is not a subtree: its start must be a multiple of a power of two that is not below its length",
+        ),
+        (SubtreeFault::BeyondTree, "the subtree ends beyond the tree"),
+        (
+            SubtreeFault::IndexOutOfRange,
+            "the leaf index is not in the subtree",
+        ),
+        (
+            SubtreeFault::PathTooLong,
+            "the proof has more elements than a proof of this subtree has",
+        ),
+        (
+            SubtreeFault::PathTooShort,
+            "the proof has fewer elements than a proof of this subtree has",
+        ),
+        (
+            SubtreeFault::FirstMismatch,
+            "the proof leads to another hash of the subtree than the given one",
+        ),
+        (
+            SubtreeFault::RootMismatch,
+            "the proof leads to another root than the tree head's",
+        ),
+    ];
+    assert!(rt; are_told(rt.alloc(), &faults));
+}
+
+#[test]
+fn each_fault_of_evidence_for_a_subtree(rt: HostRuntime) {
+    let faults = [
+        (
+            SubtreeEvidenceFault::ProofRefused(SubtreeFault::BeyondTree),
+            "the proof of the subtree is refused: the subtree ends beyond the tree",
+        ),
+        (
+            SubtreeEvidenceFault::Memory,
+            "there is no memory for the two strings",
+        ),
+    ];
+    assert!(rt; are_told(rt.alloc(), &faults));
 }
 
 #[test]

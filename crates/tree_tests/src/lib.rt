@@ -1,4 +1,4 @@
-//! Tests of `ct_tree`, `ct_verify`, `ct_monitor` and `ct_guard`, in a crate of their own so that each of those crates is
+//! Tests of `ct_tree`, `ct_verify`, `ct_subtrees`, `ct_monitor` and `ct_guard`, in a crate of their own so that each of those crates is
 //! proved once.
 #![tactic(auto)]
 
@@ -18,6 +18,8 @@ mod library_call;
 mod monitor;
 #[cfg(test)]
 mod rows;
+#[cfg(test)]
+mod subtrees;
 #[cfg(test)]
 mod sweeps;
 #[cfg(test)]

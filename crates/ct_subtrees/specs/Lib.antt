@@ -1,0 +1,12 @@
+pub mod Subtrees
+pub mod Roots
+pub mod Verdict
+pub mod Cover
+pub mod Walk
+pub mod Made
+pub mod Tiles
+pub mod Laws
+pub mod Hashed
+pub mod Meaning
+pub mod Explained
+pub mod PartLaws
