@@ -56,7 +56,7 @@ type tree struct {
 	objects map[string][]byte
 	leaves  [][]byte
 	hashes  [][32]byte
-	head    log.Head
+	head    ct.SignedHead
 }
 
 type waiting struct {
@@ -153,8 +153,8 @@ func (l *Log) publish() {
 	}
 	l.tiles()
 	root := MerkleTreeHash(l.tree.hashes)
-	l.tree.head = log.Head{TreeSize: uint64(len(l.tree.leaves)), Timestamp: now, RootHash: root}
-	l.tree.head.Note = []byte(fmt.Sprintf("log.example/stand-in\n%d\n%s\n\n— log.example/stand-in AAAAAA==\n",
+	l.tree.head = ct.SignedHead{TreeHead: ct.TreeHead{TreeSize: uint64(len(l.tree.leaves)), Timestamp: now, Root: root}}
+	l.tree.head.Signed = []byte(fmt.Sprintf("log.example/stand-in\n%d\n%s\n\n— log.example/stand-in AAAAAA==\n",
 		len(l.tree.leaves), base64.StdEncoding.EncodeToString(root[:])))
 	l.tree.head.Signature = l.sign(HeadSigned(l.tree.head))
 	for i, w := range batch {
@@ -242,9 +242,9 @@ func (l *Log) sign(signed []byte) []byte {
 }
 
 // Checkpoint implements log.Log.
-func (l *Log) Checkpoint(ctx context.Context) (log.Head, error) {
+func (l *Log) Checkpoint(ctx context.Context) (ct.SignedHead, error) {
 	if err := l.slowly(ctx); err != nil {
-		return log.Head{}, err
+		return ct.SignedHead{}, err
 	}
 	l.mutex.Lock()
 	defer l.mutex.Unlock()
@@ -252,7 +252,7 @@ func (l *Log) Checkpoint(ctx context.Context) (log.Head, error) {
 }
 
 // HeadOf implements log.Log.
-func (l *Log) HeadOf(ctx context.Context, _ uint64) (log.Head, error) {
+func (l *Log) HeadOf(ctx context.Context, _ uint64) (ct.SignedHead, error) {
 	return l.Checkpoint(ctx)
 }
 
@@ -393,12 +393,12 @@ func MerkleTreeHash(hashes [][32]byte) [32]byte {
 }
 
 // HeadSigned returns the bytes under a head's signature (RFC 6962, section 3.5).
-func HeadSigned(head log.Head) []byte {
+func HeadSigned(head ct.SignedHead) []byte {
 	var b cryptobyte.Builder
 	b.AddUint16(1)
 	b.AddUint64(head.Timestamp)
 	b.AddUint64(head.TreeSize)
-	b.AddBytes(head.RootHash[:])
+	b.AddBytes(head.Root[:])
 	return b.BytesOrPanic()
 }
 
