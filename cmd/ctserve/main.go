@@ -206,7 +206,7 @@ func logHead(s *settings, of log.Log, lines *eventlog.Lines) {
 		return
 	}
 	lines.Info("serving", "origin", s.node.origin, "entries", head.TreeSize,
-		"root_hash", hex.EncodeToString(head.RootHash[:]),
+		"root_hash", hex.EncodeToString(head.Root[:]),
 		"head_of", time.UnixMilli(int64(head.Timestamp)).UTC().Format(time.RFC3339))
 }
 

@@ -20,6 +20,7 @@ import (
 	"golang.org/x/mod/sumdb/note"
 
 	"wagtenib/internal/blob"
+	"wagtenib/internal/ct"
 	"wagtenib/internal/log/signer"
 	"wagtenib/internal/testkit"
 	"wagtenib/internal/witness"
@@ -39,7 +40,7 @@ func (p *place) aWitness(name string, with ...func(log *witness.Log)) (one strin
 	p.t.Cleanup(func() { state.Close() })
 	of, err := signer.OpenKey(p.path("log.pem"))
 	must(err)
-	log := witness.Log{Origin: "log.example/test", Keys: []note.Verifier{witness.OfRFC6962("log.example/test",
+	log := witness.Log{Origin: "log.example/test", Keys: []note.Verifier{ct.LogVerifier("log.example/test",
 		of.Key())}, State: state}
 	must(log.Create(context.Background()))
 	for _, more := range with {

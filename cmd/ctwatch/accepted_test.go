@@ -12,6 +12,7 @@ import (
 
 	"wagtenib/bindings/go/wagtenib"
 	"wagtenib/internal/command/eventlog"
+	"wagtenib/internal/ct"
 	"wagtenib/internal/watch"
 	"wagtenib/internal/witness"
 )
@@ -35,7 +36,7 @@ func TestWritesAcceptedHead(t *testing.T) {
 	if string(content) != string(accepted) {
 		t.Errorf("the file has %q, and the log's checkpoint is %q", content, accepted)
 	}
-	keys := []note.Verifier{witness.OfRFC6962(log.Origin, log.PublicKey())}
+	keys := []note.Verifier{ct.LogVerifier(log.Origin, log.PublicKey())}
 	size, root, err := witness.AcceptedBy(path, log.Origin, keys)
 	if err != nil || size != 300 || root != log.Root(300) {
 		t.Errorf("%d leaves with the root %x: %v", size, root, err)

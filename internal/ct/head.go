@@ -10,6 +10,17 @@ import (
 // is the type of the proved library, so a head is passed to the library as it is.
 type TreeHead = wagtenib.TreeHead
 
+// SignedHead is a tree head with the log's signature.
+type SignedHead struct {
+	TreeHead
+	// Signed shows to others that the log signed the head: the signed note of a tiled log (C2SP tlog-checkpoint,
+	// static-ct-api), or the answer to get-sth (RFC 6962, section 4.3).
+	Signed []byte
+	// Signature is the DigitallySigned over the TreeHeadSignature (RFC 6962, section 3.5), in the form of SCT.Signature.
+	// It is in Signed, too, so it is not stored beside it.
+	Signature []byte `json:"-"`
+}
+
 // HeadJSON is a tree head in JSON, with the field names of get-sth (RFC 6962, section 4.3) in byte order.
 type HeadJSON struct {
 	Root      []byte `json:"sha256_root_hash"`

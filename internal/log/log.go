@@ -28,19 +28,6 @@ var (
 	ErrStore = errors.New("log: a store failed or is damaged")
 )
 
-// Head is a published tree head.
-type Head struct {
-	// Note is the signed note (C2SP tlog-checkpoint and static-ct-api), with its signature lines.
-	Note []byte
-	// TreeSize is the number of entries, Timestamp in milliseconds since 1970.
-	TreeSize, Timestamp uint64
-	// RootHash is the Merkle Tree Hash of the entries (RFC 6962, section 2.1).
-	RootHash [32]byte
-	// Signature is the DigitallySigned over the TreeHeadSignature (RFC 6962, section 3.5), in the form of
-	// Place.Signature.
-	Signature []byte
-}
-
 // Metrics are the log's values for an operator. Counters count since the start of the process.
 type Metrics struct {
 	// Queue is the number of waiting submissions, and MaxQueue the number at which the log refuses more.
@@ -158,10 +145,10 @@ type Log interface {
 	// ErrEnded, ErrClock, ErrStore, and the context's. After an error the entry may be in the log anyway.
 	Submit(ctx context.Context, entry ct.Entry) (ct.SCT, error)
 	// Checkpoint returns the newest published head.
-	Checkpoint(ctx context.Context) (Head, error)
+	Checkpoint(ctx context.Context) (ct.SignedHead, error)
 	// HeadOf returns a published head of at least so many entries. It returns the newest known head if that has them.
 	// Otherwise it reads the newest one, which may have fewer.
-	HeadOf(ctx context.Context, entries uint64) (Head, error)
+	HeadOf(ctx context.Context, entries uint64) (ct.SignedHead, error)
 	// Object reads a published object by its name (tile/.., issuer/..). It returns blob.TooLong without reading if
 	// the object is longer than maxBytes, blob.ErrAbsent if there is none, and blob.ErrName if the name is
 	// invalid. A full tile is compared with the newest head's tree. If it differs, or is missing although the tree has

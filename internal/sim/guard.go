@@ -15,10 +15,10 @@ import (
 
 	"golang.org/x/mod/sumdb/note"
 
+	"wagtenib/bindings/go/wagtenib"
 	"wagtenib/internal/blob"
 	"wagtenib/internal/ct"
 	"wagtenib/internal/log/signer"
-	"wagtenib/internal/witness"
 )
 
 // keyDER is the SubjectPublicKeyInfo of the log's key in all histories. logKey signs instead of this key.
@@ -61,13 +61,13 @@ type verifier struct {
 func (v verifier) Verify(text, signature []byte) bool { return v.isSigned(text, signature) }
 
 // ownVerifier verifies the log's signatures of notes (C2SP static-ct-api, signatures of type 5).
-var ownVerifier = verifier{witness.OfRFC6962(Origin, keyDER), func(text, signature []byte) bool {
-	size, root, err := witness.TreeOf(string(text))
-	if err != nil || !bytes.HasPrefix(text, []byte(Origin+"\n")) || len(signature) <= 8 {
+var ownVerifier = verifier{ct.LogVerifier(Origin, keyDER), func(text, signature []byte) bool {
+	of, err := wagtenib.ReadCheckpoint(string(text))
+	if err != nil || of.Origin != Origin || len(signature) <= 8 {
 		return false
 	}
-	return isSigned(headMessage(ct.TreeHead{TreeSize: size, Timestamp: binary.BigEndian.Uint64(signature),
-		Root: root}), signature[8:])
+	return isSigned(headMessage(ct.TreeHead{TreeSize: of.TreeSize, Timestamp: binary.BigEndian.Uint64(signature),
+		Root: of.Root}), signature[8:])
 }}
 
 // Verifier returns the verifier with which a node verifies the log's signatures of notes.

@@ -81,7 +81,7 @@ var all = []planted{
 		},
 	}},
 	{"a head is published without cosignatures", []edit{
-		{"witnesses.go", "	head.Note = append(bytes.Clone(head.Note), lines...)", "	_ = lines"},
+		{"witnesses.go", "	head.Signed = append(bytes.Clone(head.Signed), lines...)", "	_ = lines"},
 	}},
 	{"one witness too few is enough", []edit{
 		{"witnesses.go", "min: quorums.Publish}", "min: quorums.Publish - 1}"},
@@ -225,30 +225,38 @@ var all = []planted{
 	}},
 	{"the head is not put", []edit{
 		{"heads.go",
-			"		return l.config.Stores.Objects.Put(ctx, headName(k.TreeSize, k.Timestamp), made.Note)",
+			"		return l.config.Stores.Objects.Put(ctx, headName(k.TreeSize, k.Timestamp), made.Signed)",
 			"		return nil",
 		},
 	}},
 	{"nothing says that the head is published", []edit{
 		{"heads.go",
-			"		if err := l.config.Stores.Lock.Raise(ctx, head.published()); err != nil {",
+			"		if err := l.config.Stores.Lock.Raise(ctx, publishedBy(head.TreeHead)); err != nil {",
 			"		if err := error(nil); err != nil {",
 		},
 	}},
 	{"a head's signature is not checked", []edit{
 		{"heads.go", "foreign != nil {", "foreign != nil && false {"},
 		{"heads.go",
-			"	if err != nil || !strings.HasPrefix(string(content[len(opened.Text):]), \"\\n\"+n.signatureLine()) {",
-			"	var unverified *note.UnverifiedNoteError\n	if errors.As(err, &unverified) {\n" +
-				"		opened, err = unverified.Note, nil\n		opened.Sigs = opened.UnverifiedSigs\n	}\n" +
-				"	if invalid := (*note.InvalidSignatureError)(nil); errors.As(err, &invalid) {\n" +
-				"		opened, err = note.Open(content, note.VerifierList(unchecked{n.verifier}))\n	}\n" +
-				"	if err != nil || !strings.HasPrefix(string(content), n.config.Origin) {",
+			"	head, err := ct.OpenNote(content, n.verifier)\n",
+			"	head, err := ct.OpenNote(content, uncheckedIn(content, n.verifier))\n",
 		},
 		{"heads.go",
-			"func (n *Node) signatureLine()",
-			"type unchecked struct{ note.Verifier }\n\n" +
-				"func (unchecked) Verify(msg, sig []byte) bool { return true }\n\nfunc (n *Node) signatureLine()",
+			"	if err != nil || !strings.HasPrefix(lines, \"— \"+n.config.Origin+\" \") {",
+			"	if err != nil || lines == \"\" || !strings.HasPrefix(string(content), n.config.Origin) {",
+		},
+		{"heads.go",
+			"// parseNote reads a head's note.",
+			"type unchecked struct {\n	note.Verifier\n	name string\n	id   uint32\n}\n\n" +
+				"func (u unchecked) Name() string { return u.name }\n\n" +
+				"func (u unchecked) KeyHash() uint32 { return u.id }\n\n" +
+				"func (unchecked) Verify(msg, sig []byte) bool { return true }\n\n" +
+				"func uncheckedIn(content []byte, of note.Verifier) note.Verifier {\n" +
+				"	var unverified *note.UnverifiedNoteError\n" +
+				"	if _, err := note.Open(content, nil); errors.As(err, &unverified) {\n" +
+				"		first := unverified.Note.UnverifiedSigs[0]\n" +
+				"		return unchecked{of, first.Name, first.Hash}\n	}\n	return of\n}\n\n" +
+				"// parseNote reads a head's note.",
 		},
 	}},
 	{"a head is not compared with its state", []edit{
@@ -302,7 +310,7 @@ var all = []planted{
 		},
 	}},
 	{"a submission is not looked up", []edit{
-		{"requests.go", "	if now == nil || now.Head.TreeSize == 0 {", "	if true {"},
+		{"requests.go", "	if now == nil || now.TreeSize == 0 {", "	if true {"},
 	}},
 	{"the index is believed", []edit{
 		{"requests.go",
@@ -410,7 +418,7 @@ var all = []planted{
 		{"swap.go", "	if err := p.descends(ctx, k, p.made.objects, p.heads.after); err != nil {", "	if false {"},
 	}},
 	{"an older checkpoint wins", []edit{
-		{"checkpoint.go", "		if stored.Note != nil && !stored.before(head) {", "		if false {"},
+		{"checkpoint.go", "		if stored.Signed != nil && !isBefore(*stored, head) {", "		if false {"},
 	}},
 	{"the checkpoint is put before the tiles", []edit{
 		{"pass.go",

@@ -7,7 +7,7 @@ var mistakes = []planted{
 		{"heads.go",
 			"	for _, object := range resumed.Objects {\n" +
 				"		if err := l.putRight(ctx, object.Name, object.Content); err != nil {\n" +
-				"			return Head{}, fmt.Errorf(\"node: %w\", err)\n		}\n	}\n	head, err := l.headOf(ctx, k)\n" +
+				"			return ct.SignedHead{}, fmt.Errorf(\"node: %w\", err)\n		}\n	}\n	head, err := l.headOf(ctx, k)\n" +
 				"	if !errors.Is(err, blob.ErrAbsent) && !errors.Is(err, errOtherHead) {\n		return head, err\n	}\n",
 			"	putObjects := func() (err error) {\n		for _, object := range resumed.Objects {\n" +
 				"			err = errors.Join(err, l.putRight(ctx, object.Name, object.Content))\n		}\n		return err\n	}\n" +
@@ -46,15 +46,15 @@ var mistakes = []planted{
 	}},
 	{"the newest head counts as cosigned before the witnesses answer", []edit{
 		{"witnesses.go",
-			"	if _, err := l.gather(ctx, &asking{k: k, note: ownNote(head.Note),",
-			"	l.seen.isVouched = true\n	if _, err := l.gather(ctx, &asking{k: k, note: ownNote(head.Note),",
+			"	if _, err := l.gather(ctx, &asking{k: k, note: ownNote(head.Signed),",
+			"	l.seen.isVouched = true\n	if _, err := l.gather(ctx, &asking{k: k, note: ownNote(head.Signed),",
 		},
 	}},
 	{"a request is looked up under a head that is looked at after the index", []edit{
 		{"requests.go", "	place, ok := places[r.identity]\n", "	now = n.Snapshot()\n	place, ok := places[r.identity]\n"},
 	}},
 	{"a state is restored that is not the lock's any more", []edit{
-		{"heads.go", "	if newest.text != k.text {\n		return Head{}, errMoves\n	}\n	l.edge", "	_ = newest\n	l.edge"},
+		{"heads.go", "	if newest.text != k.text {\n		return ct.SignedHead{}, errMoves\n	}\n	l.edge", "	_ = newest\n	l.edge"},
 	}},
 	{"answered submissions are given back, too", []edit{
 		{"pool.go", "		if !t.isAnswered() {\n			left", "		{\n			left"},
@@ -82,7 +82,7 @@ var mistakes = []planted{
 	}},
 	{"an older head that a reader read replaces a later one", []edit{
 		{"newest.go",
-			"		if before != nil && !before.before(head) || n.read.CompareAndSwap(before, &head) {",
+			"		if before != nil && !isBefore(*before, head) || n.read.CompareAndSwap(before, &head) {",
 			"		if n.read.CompareAndSwap(before, &head) {",
 		},
 	}},
@@ -119,8 +119,8 @@ var mistakes = []planted{
 	}},
 	{"the checkpoint is replaced by an equal one", []edit{
 		{"checkpoint.go",
-			"		if stored.Note != nil && !stored.before(head) {",
-			"		if stored.Note != nil && head.before(*stored) {",
+			"		if stored.Signed != nil && !isBefore(*stored, head) {",
+			"		if stored.Signed != nil && isBefore(head, *stored) {",
 		},
 	}},
 	{"the edge has its tiles in the order in which they are answered", []edit{

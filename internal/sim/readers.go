@@ -54,17 +54,17 @@ func (w *world) reader() {
 
 // looksAt judges the head that a machine shows.
 func (w *world) looksAt(m *machine, now node.Snapshot, last *reading) {
-	w.judgeTree(m, now.Head.TreeHead)
-	if now.Head.TreeHead == last.shown {
+	w.judgeTree(m, now.TreeHead)
+	if now.TreeHead == last.shown {
 		return
 	}
 	if line := cells(now.Line + "\nnode -\nsalt " + strings.Repeat("0", 32) + "\n"); line == nil ||
-		line.size != now.Head.TreeSize || line.timestamp != now.Head.Timestamp {
+		line.size != now.TreeSize || line.timestamp != now.Timestamp {
 		w.judge.breaks("a reader sees a head with its state", "%s shows the head of %d entries at %d ms with another state",
-			m.name, now.Head.TreeSize, now.Head.Timestamp)
+			m.name, now.TreeSize, now.Timestamp)
 	}
-	w.judge.read(m, now.Head.TreeHead, string(now.Head.Note), last.shown)
-	last.shown = now.Head.TreeHead
+	w.judge.read(m, now.TreeHead, string(now.Signed), last.shown)
+	last.shown = now.TreeHead
 }
 
 // asksNewest asks a machine for the newest head, as a reader of the checkpoint over HTTP does, and judges the answer.
@@ -83,7 +83,7 @@ func (w *world) asksNewest(m *machine, last *reading) {
 			return
 		}
 		w.judgeTree(m, head.TreeHead)
-		w.judge.read(m, head.TreeHead, string(head.Note), before)
+		w.judge.read(m, head.TreeHead, string(head.Signed), before)
 		if head.Timestamp > last.newest.Timestamp {
 			last.newest = head.TreeHead
 		}

@@ -32,7 +32,7 @@ func (m *machine) tidies() {
 			if s == nil || n.Fault() != nil {
 				return janitor.Newest{}, false
 			}
-			return janitor.Newest{Head: s.Head.TreeHead, Stepping: n.Stepping()}, true
+			return janitor.Newest{Head: s.TreeHead, Stepping: n.Stepping()}, true
 		},
 		Random: func() (uint64, error) { return w.random.Uint64(), nil },
 	})

@@ -19,7 +19,7 @@ const maxTreeSize = 1 << 48
 // openHead reads a signed head of a log of either kind, and verifies its signature. The returned head holds the bytes
 // even if there is an error.
 func openHead(log Log, signed []byte) (Head, error) {
-	var head wagtenib.TreeHead
+	var head Head
 	var err error
 	if log.IsTiled() {
 		head, err = ct.OpenCheckpoint(signed, log.Origin, log.PublicKey)
@@ -30,7 +30,8 @@ func openHead(log Log, signed []byte) (Head, error) {
 		err = fmt.Errorf("%w: %d leaves, and a log can have at most %d", ct.ErrForm, head.TreeSize,
 			uint64(maxTreeSize))
 	}
-	return Head{TreeHead: head, Signed: signed}, err
+	head.Signed = signed
+	return head, err
 }
 
 // tiles reads a tiled log (C2SP static-ct-api, tlog-tiles).

@@ -10,6 +10,7 @@ import (
 	"time"
 
 	"wagtenib/bindings/go/wagtenib"
+	"wagtenib/internal/ct"
 )
 
 // LogID is the SHA-256 hash of the public key of a log (RFC 6962, section 3.2).
@@ -29,11 +30,8 @@ type Log struct {
 // IsTiled reports whether the log is read by tiles (C2SP static-ct-api). Otherwise it is read by the calls of RFC 6962.
 func (l Log) IsTiled() bool { return l.Origin != "" }
 
-// Head is a tree head with the bytes that prove to others that the log signed it.
-type Head struct {
-	wagtenib.TreeHead
-	Signed []byte // the signed note of a tiled log, or the JSON answer of get-sth, as received
-}
+// Head is a tree head with the bytes that prove to others that the log signed it, as received.
+type Head = ct.SignedHead
 
 // Tree holds the signed heads of one tree, which has one size and one root.
 type Tree struct {

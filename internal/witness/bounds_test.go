@@ -50,14 +50,13 @@ func TestRequestHasAnEnd(t *testing.T) {
 func TestFromOneEntry(t *testing.T) {
 	one, other := leavesOf(t, "a", "b", "c"), leavesOf(t, "x", "b", "c")
 	last := wagtenib.WitnessedTree{Root: one.root(t, 1), TreeSize: 1}
-	if err := checkConsistent(last, Request{Old: 1, Proof: one.proof(t, 1, 3)}, 3, one.root(t, 3)); err != nil {
+	if err := checkConsistent(last, Request{Old: 1, Proof: one.proof(t, 1, 3)}, wagtenib.Checkpoint{TreeSize: 3, Root: one.root(t, 3)}); err != nil {
 		t.Error(err)
 	}
 	for what, err := range map[string]error{
-		"a fork": checkConsistent(last, Request{Old: 1, Proof: other.proof(t, 1, 3)}, 3,
-			other.root(t, 3)),
-		"no proof":                   checkConsistent(last, Request{Old: 1}, 3, one.root(t, 3)),
-		"another entry in its place": checkConsistent(last, Request{Old: 1}, 1, other.root(t, 1)),
+		"a fork":                     checkConsistent(last, Request{Old: 1, Proof: other.proof(t, 1, 3)}, wagtenib.Checkpoint{TreeSize: 3, Root: other.root(t, 3)}),
+		"no proof":                   checkConsistent(last, Request{Old: 1}, wagtenib.Checkpoint{TreeSize: 3, Root: one.root(t, 3)}),
+		"another entry in its place": checkConsistent(last, Request{Old: 1}, wagtenib.Checkpoint{TreeSize: 1, Root: other.root(t, 1)}),
 	} {
 		if err == nil {
 			t.Errorf("%s follows", what)

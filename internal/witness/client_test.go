@@ -14,6 +14,8 @@ import (
 	"time"
 
 	"golang.org/x/mod/sumdb/note"
+
+	"wagtenib/internal/ct"
 )
 
 // TestClientAsksOnce checks that each call of a client sends one request: for a size that the witness did not see, for
@@ -100,7 +102,7 @@ func TestTimestamps(t *testing.T) {
 		t.Errorf("%q: %s at %v, %v", line, name, at, ok)
 	}
 	public := key.Public().(ed25519.PublicKey)
-	line = strings.TrimSuffix(cosignatureLine("w.example", public, 1234567890, ed25519.Sign(key, []byte("x"))), "\n")
+	line = strings.TrimSuffix(ct.SignatureLine(OfCosigner("w.example", public), 1234567890, ed25519.Sign(key, []byte("x"))), "\n")
 	if name, at, ok := TimestampOf(line); !ok || name != "w.example" || at.Unix() != 1234567890 {
 		t.Errorf("%s at %v, %v", name, at, ok)
 	}

@@ -61,35 +61,35 @@ func (s *Server) next(last state, r Request, now uint64) (next state, err error)
 	wrong := func(why string) (state, error) {
 		return state{}, fmt.Errorf("%w: %s: %.200q", ErrDecision, why, message)
 	}
-	size, root, err := TreeOf(r.Text)
-	if err != nil || r.Origin() != last.origin {
+	of, err := wagtenib.ReadCheckpoint(r.Text)
+	if err != nil || of.Origin != last.origin {
 		return wrong("the request has no checkpoint of the log")
 	}
 	if !bytes.Equal(message, Message(now, r.Text)) {
 		return wrong("the message is not that of this checkpoint and time")
 	}
-	if err := checkConsistent(last.tree, r, size, root); err != nil {
+	if err := checkConsistent(last.tree, r, of); err != nil {
 		return wrong(err.Error())
 	}
-	return state{origin: last.origin, message: message, tree: wagtenib.WitnessedTree{TreeSize: size, Time: now,
-		Root: root}}, nil
+	return state{origin: last.origin, message: message, tree: wagtenib.WitnessedTree{TreeSize: of.TreeSize, Time: now,
+		Root: of.Root}}, nil
 }
 
 // checkConsistent returns an error if a request does not lead from the last tree to the checkpoint's tree.
-func checkConsistent(last wagtenib.WitnessedTree, r Request, size uint64, root [32]byte) error {
+func checkConsistent(last wagtenib.WitnessedTree, r Request, of wagtenib.Checkpoint) error {
 	switch {
-	case r.Old != last.TreeSize || size < last.TreeSize:
+	case r.Old != last.TreeSize || of.TreeSize < last.TreeSize:
 		return errors.New("the request's old size is not that of the last tree")
-	case size == last.TreeSize && last.Root != root:
+	case of.TreeSize == last.TreeSize && last.Root != of.Root:
 		return errors.New("the checkpoint is a fork of the last tree")
-	case size == last.TreeSize || last.TreeSize == 0:
+	case of.TreeSize == last.TreeSize || last.TreeSize == 0:
 		return nil
 	}
 	proof := make(tlog.TreeProof, len(r.Proof))
 	for i := range r.Proof {
 		proof[i] = r.Proof[i]
 	}
-	return tlog.CheckTree(proof, int64(size), root, int64(last.TreeSize), last.Root)
+	return tlog.CheckTree(proof, int64(of.TreeSize), of.Root, int64(last.TreeSize), last.Root)
 }
 
 // refused returns the answer to an error of a decision.

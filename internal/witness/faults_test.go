@@ -23,6 +23,7 @@ import (
 
 	"wagtenib/bindings/go/wagtenib"
 	"wagtenib/internal/blob"
+	"wagtenib/internal/ct"
 )
 
 var errTried = errors.New("tried")
@@ -218,15 +219,6 @@ func TestTexts(t *testing.T) {
 			t.Errorf("%q is a hash", wrong)
 		}
 	}
-	if size, _, err := TreeOf("o\n5\n" + right + "\n"); err != nil || size != 5 {
-		t.Error(err)
-	}
-	for _, wrong := range []string{"", "\n5\n" + right + "\n", "o\n5\n" + right, "o\n5\n" + right + "\nmore\n",
-		"o\n05\n" + right + "\n", "o\n5\n\n", "o\n5\n" + right + "\n\n", "o\n\n" + right + "\n"} {
-		if _, _, err := TreeOf(wrong); !errors.Is(err, ErrRequest) {
-			t.Errorf("%q is a checkpoint", wrong)
-		}
-	}
 }
 
 // TestOtherKeys checks that keys of another kind or with another name are refused, and that zero bytes of any length
@@ -264,7 +256,7 @@ func TestOtherKeys(t *testing.T) {
 		t.Errorf("a private key of P-384: %v", err)
 	}
 	public := key.Public().(ed25519.PublicKey)
-	id := keyID("w.example", algCosignature, public)
+	id := OfCosigner("w.example", public).KeyHash()
 	written := func(name string, kind byte) string {
 		return fmt.Sprintf("%s+%08x+%s", name, id, base64.StdEncoding.EncodeToString(append([]byte{kind}, public...)))
 	}
@@ -282,7 +274,7 @@ func TestOtherKeys(t *testing.T) {
 	der, err = publicOf(&wide.PublicKey)
 	must(t, err)
 	for length := 0; length < 80; length++ {
-		for _, of := range []note.Verifier{OfCosigner("w.example", public), OfRFC6962(origin, der),
+		for _, of := range []note.Verifier{OfCosigner("w.example", public), ct.LogVerifier(origin, der),
 			headKey(t, origin).key} {
 			if of.Verify(text, make([]byte, length)) {
 				t.Errorf("%d bytes of 0 are a signature", length)
@@ -307,15 +299,15 @@ func TestCheckConsistent(t *testing.T) {
 		return wagtenib.WitnessedTree{TreeSize: uint64(n), Root: one.root(t, n)}
 	}
 	for old, right := range map[uint64]bool{3: true, 2: false, 4: false} {
-		err := checkConsistent(of(3), Request{Old: old, Proof: one.proof(t, 3, 5)}, 5, one.root(t, 5))
+		err := checkConsistent(of(3), Request{Old: old, Proof: one.proof(t, 3, 5)}, wagtenib.Checkpoint{TreeSize: 5, Root: one.root(t, 5)})
 		if (err == nil) != right {
 			t.Errorf("from %d: %v", old, err)
 		}
 	}
-	if err := checkConsistent(of(3), Request{Old: 3}, 4, one.root(t, 4)); err == nil {
+	if err := checkConsistent(of(3), Request{Old: 3}, wagtenib.Checkpoint{TreeSize: 4, Root: one.root(t, 4)}); err == nil {
 		t.Error("one more entry needs no proof")
 	}
-	if err := checkConsistent(of(5), Request{Old: 5}, 4, one.root(t, 4)); err == nil {
+	if err := checkConsistent(of(5), Request{Old: 5}, wagtenib.Checkpoint{TreeSize: 4, Root: one.root(t, 4)}); err == nil {
 		t.Error("a smaller tree follows")
 	}
 }

@@ -7,7 +7,6 @@ import (
 	"crypto/ecdsa"
 	"crypto/ed25519"
 	"crypto/elliptic"
-	"crypto/sha256"
 	"crypto/x509"
 	"encoding/base64"
 	"encoding/binary"
@@ -22,7 +21,6 @@ import (
 	"golang.org/x/mod/sumdb/note"
 
 	"wagtenib/internal/ct"
-	"wagtenib/internal/log/signer"
 )
 
 // The limits of a request, and the types of keys in signature lines (C2SP signed-note, tlog-cosignature,
@@ -34,7 +32,6 @@ const (
 	MaxProof = 63
 
 	algCosignature = 4
-	algRFC6962     = 5
 )
 
 // The kinds of errors in notes. Use errors.Is.
@@ -102,8 +99,10 @@ func ParseRequest(body []byte) (r Request, err error) {
 		r.Proof = append(r.Proof, h)
 	}
 	r.Note = signed
-	r.Text, err = TextOf(signed)
-	return r, err
+	if r.Text, err = ct.NoteText(signed); err != nil {
+		return r, fmt.Errorf("%w: %w", ErrRequest, err)
+	}
+	return r, nil
 }
 
 // Body returns the bytes of a request.
@@ -113,60 +112,6 @@ func (r Request) Body() []byte {
 		body = append(body, base64.StdEncoding.EncodeToString(r.Proof[i][:])+"\n"...)
 	}
 	return append(append(body, '\n'), r.Note...)
-}
-
-// TextOf returns the text of a signed note. It verifies no signature.
-func TextOf(signed []byte) (string, error) {
-	var unknown *note.UnverifiedNoteError
-	if _, err := note.Open(signed, nil); !errors.As(err, &unknown) {
-		return "", fmt.Errorf("%w: there is no signed note", ErrRequest)
-	}
-	return unknown.Note.Text, nil
-}
-
-// TreeOf returns the size and the root in a checkpoint of three lines (C2SP tlog-checkpoint, without extension lines).
-func TreeOf(text string) (size uint64, root [32]byte, err error) {
-	lines := strings.Split(text, "\n")
-	if len(lines) != 4 || lines[0] == "" || lines[3] != "" {
-		return 0, root, fmt.Errorf("%w: the note is not a checkpoint of three lines", ErrRequest)
-	}
-	if size, err = parseNumber(lines[1]); err != nil {
-		return 0, root, err
-	}
-	root, err = parseHash(lines[2])
-	return size, root, err
-}
-
-// keyID returns the ID of a key, which is a hash of its name, its type and its bytes (C2SP signed-note).
-func keyID(name string, kind byte, key []byte) uint32 {
-	sum := sha256.Sum256(append(append([]byte(name+"\n"), kind), key...))
-	return binary.BigEndian.Uint32(sum[:4])
-}
-
-// verifier is a key of a type that x/mod's note package does not know.
-type verifier struct {
-	name   string
-	id     uint32
-	verify func(text, signature []byte) bool
-}
-
-func (v verifier) Name() string                       { return v.name }
-func (v verifier) KeyHash() uint32                    { return v.id }
-func (v verifier) Verify(text, signature []byte) bool { return v.verify(text, signature) }
-
-// OfRFC6962 returns the key of a log of RFC 6962 (type 5), which is a SubjectPublicKeyInfo of P-256 in DER. Such a
-// signature is over the tree head at the timestamp in the signature line. It covers neither the origin nor extension
-// lines, so Verify compares the origin and refuses extension lines.
-func OfRFC6962(origin string, der []byte) note.Verifier {
-	logID := sha256.Sum256(der)
-	return verifier{origin, keyID(origin, algRFC6962, logID[:]), func(text, signature []byte) bool {
-		size, root, err := TreeOf(string(text))
-		if err != nil || !bytes.HasPrefix(text, []byte(origin+"\n")) || len(signature) <= 8 {
-			return false
-		}
-		head := ct.TreeHead{TreeSize: size, Timestamp: binary.BigEndian.Uint64(signature[:8]), Root: root}
-		return signer.CheckHead(der, head, signature[8:]) == nil
-	}}
 }
 
 // LogKey reads a log's public key: a verifier key of a signed note (type 1, Ed25519), or a SubjectPublicKeyInfo in PEM,
@@ -193,7 +138,7 @@ func LogKey(origin, text string) (note.Verifier, error) {
 		return note.NewVerifier(written)
 	case *ecdsa.PublicKey:
 		if key.Curve == elliptic.P256() {
-			return OfRFC6962(origin, block.Bytes), nil
+			return ct.LogVerifier(origin, block.Bytes), nil
 		}
 	}
 	return nil, fmt.Errorf("%w: it is neither an Ed25519 nor a P-256 key", ErrKey)
@@ -208,17 +153,10 @@ func Message(seconds uint64, text string) []byte {
 // OfCosigner returns the key of a witness (type 4). The signature line contains the timestamp, and the signature is
 // over Message.
 func OfCosigner(name string, key ed25519.PublicKey) note.Verifier {
-	return verifier{name, keyID(name, algCosignature, key), func(text, signature []byte) bool {
+	return ct.NewVerifier(name, algCosignature, key, func(text, signature []byte) bool {
 		return len(signature) == 8+ed25519.SignatureSize && ed25519.Verify(key,
 			Message(binary.BigEndian.Uint64(signature[:8]), string(text)), signature[8:])
-	}}
-}
-
-// cosignatureLine returns a cosignature as a line of a note.
-func cosignatureLine(name string, key ed25519.PublicKey, seconds uint64, signature []byte) string {
-	blob := binary.BigEndian.AppendUint32(nil, keyID(name, algCosignature, key))
-	blob = append(binary.BigEndian.AppendUint64(blob, seconds), signature...)
-	return "— " + name + " " + base64.StdEncoding.EncodeToString(blob) + "\n"
+	})
 }
 
 // TimestampOf returns the name of the witness and the timestamp in a cosignature line. ok is false for any other line.
@@ -234,7 +172,7 @@ func TimestampOf(line string) (name string, at time.Time, ok bool) {
 // VerifierKey returns a witness's key as text: its name, the four bytes of its key ID in hexadecimal, and base64 of the
 // type and the key.
 func VerifierKey(name string, key ed25519.PublicKey) string {
-	return fmt.Sprintf("%s+%08x+%s", name, keyID(name, algCosignature, key),
+	return fmt.Sprintf("%s+%08x+%s", name, OfCosigner(name, key).KeyHash(),
 		base64.StdEncoding.EncodeToString(append([]byte{algCosignature}, key...)))
 }
 
@@ -247,7 +185,7 @@ func ReadVerifierKey(text string) (name string, key ed25519.PublicKey, err error
 		return "", nil, fmt.Errorf("%w: it is not a verifier key of a witness", ErrKey)
 	}
 	if given, err := hex.DecodeString(id); err != nil || len(given) != 4 ||
-		binary.BigEndian.Uint32(given) != keyID(name, algCosignature, raw[1:]) {
+		binary.BigEndian.Uint32(given) != OfCosigner(name, raw[1:]).KeyHash() {
 		return "", nil, fmt.Errorf("%w: the ID in the verifier key is not that of its name and key", ErrKey)
 	}
 	return name, raw[1:], nil

@@ -14,6 +14,7 @@ import (
 	"golang.org/x/mod/sumdb/note"
 
 	"wagtenib/internal/blob"
+	"wagtenib/internal/ct"
 )
 
 const (
@@ -228,7 +229,7 @@ func (s *Server) decide(ctx context.Context, log *Log, text string, before state
 	s.remember(next)
 	s.metrics.stored(next)
 	s.metrics.cosigned(log.Origin)
-	return plain(http.StatusOK, cosignatureLine(s.options.Name, s.public, now,
+	return plain(http.StatusOK, ct.SignatureLine(OfCosigner(s.options.Name, s.public), now,
 		ed25519.Sign(s.options.Key, next.message))), false
 }
 

@@ -22,6 +22,7 @@ import (
 	"golang.org/x/mod/sumdb/note"
 	"golang.org/x/mod/sumdb/tlog"
 
+	"wagtenib/bindings/go/wagtenib"
 	"wagtenib/internal/blob"
 	"wagtenib/internal/ct"
 	"wagtenib/internal/log/signer"
@@ -109,16 +110,15 @@ func headKey(t testing.TB, origin string) signing {
 	must(t, err)
 	key, err := signer.FromKey(private)
 	must(t, err)
-	of := OfRFC6962(origin, key.Key())
+	of := ct.LogVerifier(origin, key.Key())
 	return signing{of, "", func(text string) []byte {
-		size, root, err := TreeOf(text)
+		read, err := wagtenib.ReadCheckpoint(text)
 		must(t, err)
 		const timestamp = 1_700_000_000_000
-		signed, err := key.SignHead(context.Background(), ct.TreeHead{TreeSize: size, Timestamp: timestamp,
-			Root: root}, nil)
+		signed, err := key.SignHead(context.Background(), ct.TreeHead{TreeSize: read.TreeSize, Timestamp: timestamp,
+			Root: read.Root}, nil)
 		must(t, err)
-		blob := binary.BigEndian.AppendUint64(binary.BigEndian.AppendUint32(nil, of.KeyHash()), timestamp)
-		return []byte(text + "\n— " + origin + " " + base64.StdEncoding.EncodeToString(append(blob, signed...)) + "\n")
+		return []byte(text + "\n" + ct.SignatureLine(of, timestamp, signed))
 	}}
 }
 

@@ -19,7 +19,6 @@ import (
 	"strings"
 	"syscall"
 
-	"wagtenib/bindings/go/wagtenib"
 	"wagtenib/internal/blob"
 	"wagtenib/internal/ct"
 )
@@ -233,21 +232,15 @@ func (f *folder) progress() (uint64, error) {
 	return entries, nil
 }
 
-// head is a tree head of the log, with the answer to get-sth that contains it.
-type head struct {
-	wagtenib.TreeHead
-	answer []byte
-}
-
 // readHead reads the head in a file of an archive's folder. The error wraps blob.ErrAbsent or ErrDamaged.
-func readHead(path, name string, of Log) (head, error) {
+func readHead(path, name string, of Log) (ct.SignedHead, error) {
 	answer, err := blob.KeptFile(filepath.Join(path, name))
 	if err != nil {
-		return head{}, err
+		return ct.SignedHead{}, err
 	}
 	stored, err := ct.OpenSTH(answer, of.PublicKey)
 	if err != nil {
-		return head{}, fmt.Errorf("%w: %s: %v", ErrDamaged, filepath.Join(path, name), err)
+		return ct.SignedHead{}, fmt.Errorf("%w: %s: %v", ErrDamaged, filepath.Join(path, name), err)
 	}
-	return head{stored, answer}, nil
+	return stored, nil
 }

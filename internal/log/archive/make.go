@@ -72,35 +72,34 @@ func Make(ctx context.Context, path string, of Log, options Options) (wagtenib.T
 
 // chooseHead returns the head to archive, which is the newest one of the log. It must continue the head that is being
 // archived.
-func (m *maker) chooseHead(ctx context.Context) (head, error) {
+func (m *maker) chooseHead(ctx context.Context) (ct.SignedHead, error) {
 	answer, err := m.client.STH(ctx)
 	if err != nil {
-		return head{}, err
+		return ct.SignedHead{}, err
 	}
-	opened, err := ct.OpenSTH(answer, m.of.PublicKey)
+	answered, err := ct.OpenSTH(answer, m.of.PublicKey)
 	if err != nil {
-		return head{}, fmt.Errorf("archive: get-sth: %w", err)
+		return ct.SignedHead{}, fmt.Errorf("archive: get-sth: %w", err)
 	}
-	answered := head{opened, answer}
 	if answered.TreeSize == 0 {
-		return head{}, ErrEmpty
+		return ct.SignedHead{}, ErrEmpty
 	}
 	wanted, err := m.wanted()
 	switch {
 	case errors.Is(err, blob.ErrAbsent):
 		return answered, m.replaceFile(wantedName, answer)
 	case err != nil:
-		return head{}, err
+		return ct.SignedHead{}, err
 	case answered.TreeSize == wanted.TreeSize && answered.Root != wanted.Root:
-		return head{}, m.accuse(ErrFork, answered, wanted, nil)
+		return ct.SignedHead{}, m.accuse(ErrFork, answered, wanted, nil)
 	case answered.TreeSize < wanted.TreeSize:
-		return head{}, m.olderError(ctx, answered, wanted)
+		return ct.SignedHead{}, m.olderError(ctx, answered, wanted)
 	case answered.TreeSize > wanted.TreeSize:
 		if err := m.prove(ctx, wanted.TreeSize, wanted.Root, answered.TreeHead); err != nil {
 			if errors.Is(err, ErrUnproved) {
 				err = m.accuse(ErrInconsistent, answered, wanted, err)
 			}
-			return head{}, err
+			return ct.SignedHead{}, err
 		}
 	case answered.Timestamp <= wanted.Timestamp:
 		return wanted, nil
@@ -110,30 +109,30 @@ func (m *maker) chooseHead(ctx context.Context) (head, error) {
 
 // wanted returns the head that is being archived. If an operator deleted that, it returns the head of which the archive
 // has all entries. The error wraps blob.ErrAbsent if there is neither.
-func (m *maker) wanted() (head, error) {
+func (m *maker) wanted() (ct.SignedHead, error) {
 	wanted, err := readHead(m.path, wantedName, m.of)
 	if !errors.Is(err, blob.ErrAbsent) {
 		return wanted, err
 	}
 	if wanted, err = readHead(m.path, signedName, m.of); err != nil {
-		return head{}, err
+		return ct.SignedHead{}, err
 	}
-	return wanted, m.replaceFile(wantedName, wanted.answer)
+	return wanted, m.replaceFile(wantedName, wanted.Signed)
 }
 
 // accuse stores a head that contradicts the one that is being archived, and returns the error.
-func (m *maker) accuse(kind error, answered, wanted head, why error) error {
+func (m *maker) accuse(kind error, answered, wanted ct.SignedHead, why error) error {
 	err := fmt.Errorf("%w: %s has its head of %d entries, and %s the one of %d", kind,
 		filepath.Join(m.path, wantedName), wanted.TreeSize, filepath.Join(m.path, otherName), answered.TreeSize)
 	if why != nil {
 		err = fmt.Errorf("%w: %v", err, why)
 	}
-	return errors.Join(err, m.replaceFile(otherName, answered.answer))
+	return errors.Join(err, m.replaceFile(otherName, answered.Signed))
 }
 
 // olderError returns the error of a head with fewer entries than the one that is being archived. It is a fork if the
 // folder has the tree of that size, with another root.
-func (m *maker) olderError(ctx context.Context, answered, wanted head) error {
+func (m *maker) olderError(ctx context.Context, answered, wanted ct.SignedHead) error {
 	signed, err := readHead(m.path, signedName, m.of)
 	if err == nil && answered.TreeSize <= signed.TreeSize {
 		prover := tiles.NewProver(m.objects.Get, 1)
@@ -256,7 +255,7 @@ func (m *maker) checkRoot(ctx context.Context, of wagtenib.TreeHead) error {
 
 // finish publishes the head, after all its tiles are stored. It deletes the partial tiles that only the previous head
 // needs after that, because until then a server that opens the archive needs them.
-func (m *maker) finish(ctx context.Context, of head) error {
+func (m *maker) finish(ctx context.Context, of ct.SignedHead) error {
 	if err := m.checkRoot(ctx, of.TreeHead); err != nil {
 		return err
 	}
@@ -264,7 +263,7 @@ func (m *maker) finish(ctx context.Context, of head) error {
 	if err != nil && !errors.Is(err, blob.ErrAbsent) {
 		return err
 	}
-	checkpoint, err := ct.CheckpointOfSTH(of.answer, m.of.Origin, m.of.PublicKey)
+	checkpoint, err := ct.CheckpointOfSTH(of.Signed, m.of.Origin, m.of.PublicKey)
 	if err != nil {
 		return fmt.Errorf("archive: %w", err)
 	}
@@ -277,10 +276,10 @@ func (m *maker) finish(ctx context.Context, of head) error {
 			return err
 		}
 	}
-	if err := m.replaceFile(checkpointName, checkpoint); err != nil {
+	if err := m.replaceFile(checkpointName, checkpoint.Signed); err != nil {
 		return err
 	}
-	if err := m.replaceFile(signedName, of.answer); err != nil {
+	if err := m.replaceFile(signedName, of.Signed); err != nil {
 		return err
 	}
 	return m.dropObsolete(ctx, of.TreeSize)

@@ -20,8 +20,7 @@ import (
 // what it reads from its objects and its index. Its methods may be called concurrently.
 type Served struct {
 	log      Log
-	head     log.Head
-	tree     ct.TreeHead
+	head     ct.SignedHead
 	objects  blob.Objects
 	index    *leafIndex
 	comparer *tiles.Comparer
@@ -55,10 +54,9 @@ func Open(ctx context.Context, path string) (s *Served, err error) {
 	if err != nil {
 		return nil, err
 	}
-	s = &Served{log: of, tree: ct.TreeHead{TreeSize: signed.TreeSize, Timestamp: signed.Timestamp, Root: signed.Root},
-		edge: map[string][]byte{}}
-	if s.head, err = headOf(signed, of); err != nil {
-		return nil, err
+	s = &Served{log: of, edge: map[string][]byte{}}
+	if s.head, err = ct.CheckpointOfSTH(signed.Signed, of.Origin, of.PublicKey); err != nil {
+		return nil, fmt.Errorf("%w: %w", ErrDamaged, err)
 	}
 	if err := blob.CheckObjectsExist("folder:" + filepath.Join(path, objectsName)); err != nil {
 		return nil, fmt.Errorf("%w: %w", ErrDamaged, err)
@@ -81,23 +79,9 @@ func Open(ctx context.Context, path string) (s *Served, err error) {
 	return s, nil
 }
 
-// headOf returns a signed head as a log.Head.
-func headOf(signed head, of Log) (log.Head, error) {
-	sth, err := ct.ReadSTH(signed.answer)
-	if err != nil {
-		return log.Head{}, fmt.Errorf("%w: %w", ErrDamaged, err)
-	}
-	note, err := ct.CheckpointOfSTH(signed.answer, of.Origin, of.PublicKey)
-	if err != nil {
-		return log.Head{}, fmt.Errorf("%w: %w", ErrDamaged, err)
-	}
-	return log.Head{Note: note, TreeSize: signed.TreeSize, Timestamp: signed.Timestamp, RootHash: signed.Root,
-		Signature: sth.Signature}, nil
-}
-
 // keepEdge reads the partial tiles of the tree into memory.
 func (s *Served) keepEdge(ctx context.Context) error {
-	for _, name := range tiles.PartialOnly(s.tree.TreeSize, 0) {
+	for _, name := range tiles.PartialOnly(s.head.TreeSize, 0) {
 		content, err := s.read(ctx, name)
 		if err != nil {
 			return fmt.Errorf("%w: %w", ErrDamaged, err)
@@ -109,14 +93,14 @@ func (s *Served) keepEdge(ctx context.Context) error {
 
 // checkWhole returns ErrDamaged unless the hash tiles have the root of the head, and the index has the last entry.
 func (s *Served) checkWhole(ctx context.Context) error {
-	root, err := tiles.NewProver(s.Object, 1).Root(ctx, s.tree.TreeSize, s.tree.TreeSize)
+	root, err := tiles.NewProver(s.Object, 1).Root(ctx, s.head.TreeSize, s.head.TreeSize)
 	if err != nil {
 		return fmt.Errorf("%w: %w", ErrDamaged, err)
 	}
-	if root != s.tree.Root {
+	if root != s.head.Root {
 		return fmt.Errorf("%w: the tiles and the head have different roots", ErrDamaged)
 	}
-	last := ct.DataTile(s.tree.TreeSize-1, s.tree.TreeSize)
+	last := ct.DataTile(s.head.TreeSize-1, s.head.TreeSize)
 	last.L = 0
 	content, err := s.read(ctx, ct.TileName(last))
 	if err != nil {
@@ -165,10 +149,10 @@ func (s *Served) Submit(context.Context, ct.Entry) (ct.SCT, error) {
 }
 
 // Checkpoint implements log.Log. It returns the last head of the log.
-func (s *Served) Checkpoint(context.Context) (log.Head, error) { return s.head, nil }
+func (s *Served) Checkpoint(context.Context) (ct.SignedHead, error) { return s.head, nil }
 
 // HeadOf implements log.Log.
-func (s *Served) HeadOf(context.Context, uint64) (log.Head, error) { return s.head, nil }
+func (s *Served) HeadOf(context.Context, uint64) (ct.SignedHead, error) { return s.head, nil }
 
 // Object implements log.Log. It compares each tile with the tree of the head.
 func (s *Served) Object(ctx context.Context, name string, maxBytes int64) ([]byte, error) {
@@ -176,7 +160,7 @@ func (s *Served) Object(ctx context.Context, name string, maxBytes int64) ([]byt
 	if !isTile && !strings.HasPrefix(name, "issuer/") {
 		return nil, fmt.Errorf("%w: %.80q is not published", blob.ErrName, name)
 	}
-	if isTile && tiles.WidthIn(of, s.tree.TreeSize) != of.W {
+	if isTile && tiles.WidthIn(of, s.head.TreeSize) != of.W {
 		return nil, fmt.Errorf("archive: %s: %w", name, blob.ErrAbsent)
 	}
 	content, err := s.get(ctx, name, maxBytes)
@@ -187,7 +171,7 @@ func (s *Served) Object(ctx context.Context, name string, maxBytes int64) ([]byt
 		err = fmt.Errorf("%w: %s is missing", ErrDamaged, name)
 	}
 	if err == nil {
-		err = s.comparer.Compare(ctx, s.tree, of, content)
+		err = s.comparer.Compare(ctx, s.head.TreeHead, of, content)
 	}
 	if err != nil {
 		return nil, fmt.Errorf("%w: %w", log.ErrStore, err)

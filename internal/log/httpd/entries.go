@@ -27,13 +27,12 @@ func (f *Front) getSTH(w http.ResponseWriter, r *http.Request) error {
 	if err != nil {
 		return err
 	}
+	answer, err := ct.WriteSTH(head)
+	if err != nil {
+		return fmt.Errorf("%w: %v", log.ErrStore, err)
+	}
 	w.Header().Set("Cache-Control", forASecond)
-	writeJSON(w, http.StatusOK, struct {
-		TreeSize  uint64 `json:"tree_size"`
-		Timestamp uint64 `json:"timestamp"`
-		RootHash  []byte `json:"sha256_root_hash"`
-		Signature []byte `json:"tree_head_signature"`
-	}{head.TreeSize, head.Timestamp, head.RootHash[:], head.Signature})
+	writeJSON(w, http.StatusOK, answer)
 	return nil
 }
 

@@ -12,6 +12,7 @@ import (
 	"testing"
 	"time"
 
+	"wagtenib/internal/ct"
 	"wagtenib/internal/log"
 	"wagtenib/internal/testkit"
 )
@@ -19,18 +20,18 @@ import (
 // late is a log that returns an older head so many times.
 type late struct {
 	log.Log
-	head  log.Head
+	head  ct.SignedHead
 	times int
 }
 
-func (l *late) Checkpoint(ctx context.Context) (log.Head, error) {
+func (l *late) Checkpoint(ctx context.Context) (ct.SignedHead, error) {
 	if l.times--; l.times >= 0 {
 		return l.head, nil
 	}
 	return l.Log.Checkpoint(ctx)
 }
 
-func (l *late) HeadOf(ctx context.Context, _ uint64) (log.Head, error) {
+func (l *late) HeadOf(ctx context.Context, _ uint64) (ct.SignedHead, error) {
 	return l.Checkpoint(ctx)
 }
 
@@ -53,17 +54,17 @@ func TestReadsFullTileAfterPartialWasDeleted(t *testing.T) {
 // unasked is a log that knows a head, but never returns its newest one.
 type unasked struct {
 	log.Log
-	head  log.Head
+	head  ct.SignedHead
 	asked atomic.Int64
 }
 
-func (u *unasked) Checkpoint(ctx context.Context) (log.Head, error) {
+func (u *unasked) Checkpoint(ctx context.Context) (ct.SignedHead, error) {
 	u.asked.Add(1)
 	<-ctx.Done()
-	return log.Head{}, ctx.Err()
+	return ct.SignedHead{}, ctx.Err()
 }
 
-func (u *unasked) HeadOf(ctx context.Context, entries uint64) (log.Head, error) {
+func (u *unasked) HeadOf(ctx context.Context, entries uint64) (ct.SignedHead, error) {
 	if entries <= u.head.TreeSize {
 		return u.head, nil
 	}

@@ -30,7 +30,7 @@ func (f *Front) getSTHConsistency(w http.ResponseWriter, r *http.Request) error 
 		return badParameter("first is after second")
 	}
 	var proof [][32]byte
-	err = f.underHead(r, second, func(ctx context.Context, head log.Head) error {
+	err = f.underHead(r, second, func(ctx context.Context, head ct.SignedHead) error {
 		if first == 0 || first == second {
 			return nil
 		}
@@ -69,7 +69,7 @@ func (f *Front) getProofByHash(w http.ResponseWriter, r *http.Request) error {
 	}
 	size, index := numbers[0], uint64(0)
 	var path [][32]byte
-	err = f.underHead(r, size, func(ctx context.Context, head log.Head) error {
+	err = f.underHead(r, size, func(ctx context.Context, head ct.SignedHead) error {
 		if index, err = f.log.IndexOf(ctx, leaf); errors.Is(err, blob.ErrAbsent) {
 			return noSuchLeaf
 		}
@@ -104,7 +104,7 @@ func (f *Front) getEntryAndProof(w http.ResponseWriter, r *http.Request) error {
 	}
 	var entry entryOf
 	var path [][32]byte
-	err = f.underHead(r, size, func(ctx context.Context, head log.Head) error {
+	err = f.underHead(r, size, func(ctx context.Context, head ct.SignedHead) error {
 		entries, err := f.entries(ctx, index, index)
 		if err != nil {
 			return err
@@ -136,7 +136,7 @@ func numbersOf(r *http.Request, names ...string) (query url.Values, numbers []ui
 
 // underHead makes a proof from the tiles of a head that has at least size leaves. A partial tile may be deleted in
 // between, after the full tile was stored. Then underHead makes the proof again, under the newest head.
-func (f *Front) underHead(r *http.Request, size uint64, prove func(context.Context, log.Head) error) error {
+func (f *Front) underHead(r *http.Request, size uint64, prove func(context.Context, ct.SignedHead) error) error {
 	client := f.clientOf(r)
 	if !f.uses.proofsByClient.take(client) {
 		return tooMany
@@ -159,7 +159,7 @@ func (f *Front) underHead(r *http.Request, size uint64, prove func(context.Conte
 }
 
 // headOf returns a head with so many entries if there is one. If newest is true, it always reads the newest head.
-func (f *Front) headOf(ctx context.Context, entries uint64, newest bool) (log.Head, error) {
+func (f *Front) headOf(ctx context.Context, entries uint64, newest bool) (ct.SignedHead, error) {
 	if newest {
 		return f.log.Checkpoint(ctx)
 	}
@@ -189,9 +189,9 @@ func orElse(err, other error) error {
 
 // rootAt returns the root of the first size leaves; size is at least 1. It checks that the root is consistent with the
 // head's root.
-func (f *Front) rootAt(ctx context.Context, head log.Head, size uint64) ([32]byte, error) {
+func (f *Front) rootAt(ctx context.Context, head ct.SignedHead, size uint64) ([32]byte, error) {
 	if size == head.TreeSize {
-		return head.RootHash, nil
+		return head.Root, nil
 	}
 	root, err := f.reader.Root(ctx, size, head.TreeSize)
 	if err != nil {
@@ -201,12 +201,12 @@ func (f *Front) rootAt(ctx context.Context, head log.Head, size uint64) ([32]byt
 	if err != nil {
 		return root, err
 	}
-	return root, tiles.CheckProof(proof, head.TreeSize, head.RootHash, size, root)
+	return root, tiles.CheckProof(proof, head.TreeSize, head.Root, size, root)
 }
 
 // path returns the audit path from a leaf's hash to the root of the first size leaves, after checking it.
 func (f *Front) path(
-	ctx context.Context, head log.Head, index, size uint64, leaf [32]byte,
+	ctx context.Context, head ct.SignedHead, index, size uint64, leaf [32]byte,
 ) ([][32]byte, error) {
 	root, err := f.rootAt(ctx, head, size)
 	if err != nil {
@@ -220,7 +220,7 @@ func (f *Front) path(
 }
 
 // leafAt returns the hash of a leaf as its tile has it.
-func (f *Front) leafAt(ctx context.Context, head log.Head, index uint64) (leaf [32]byte, err error) {
+func (f *Front) leafAt(ctx context.Context, head ct.SignedHead, index uint64) (leaf [32]byte, err error) {
 	of := ct.LeafTile(index, head.TreeSize)
 	name := ct.TileName(of)
 	content, err := f.read(ctx, name)

@@ -84,7 +84,7 @@ func (f *Front) checkpoint(w http.ResponseWriter, r *http.Request) error {
 	if err != nil {
 		return err
 	}
-	hash := sha256.Sum256(head.Note)
+	hash := sha256.Sum256(head.Signed)
 	tag := `"` + hex.EncodeToString(hash[:]) + `"`
 	w.Header().Set("ETag", tag)
 	if r.Header.Get("If-None-Match") != "" && hasTag(r.Header.Values("If-None-Match"), tag) {
@@ -93,7 +93,7 @@ func (f *Front) checkpoint(w http.ResponseWriter, r *http.Request) error {
 		return nil
 	}
 	w.Header().Set("Cache-Control", forASecond)
-	write(w, http.StatusOK, "text/plain; charset=utf-8", head.Note)
+	write(w, http.StatusOK, "text/plain; charset=utf-8", head.Signed)
 	return nil
 }
 

@@ -148,8 +148,8 @@ func TestTreeHead(t *testing.T) {
 		t.Fatal(w.Code, err)
 	}
 	head, _ := f.log.Checkpoint(httptest.NewRequest("GET", "/", nil).Context())
-	if reply.Size != 3 || reply.Timestamp != head.Timestamp || !bytes.Equal(reply.Root, head.RootHash[:]) ||
-		!f.verifies(testkit.TreeHeadSignature(head.TreeSize, head.Timestamp, head.RootHash), reply.Signature) {
+	if reply.Size != 3 || reply.Timestamp != head.Timestamp || !bytes.Equal(reply.Root, head.Root[:]) ||
+		!f.verifies(testkit.TreeHeadSignature(head.TreeSize, head.Timestamp, head.Root), reply.Signature) {
 		t.Errorf("get-sth: %s", w.Body)
 	}
 }
@@ -197,7 +197,7 @@ func TestEntriesHaveTheHeadsRoot(t *testing.T) {
 		}
 	}
 	head, _ := f.log.Checkpoint(httptest.NewRequest("GET", "/", nil).Context())
-	if testkit.MerkleTreeHash(hashes) != head.RootHash {
+	if testkit.MerkleTreeHash(hashes) != head.Root {
 		t.Error("the entries do not have the head's root")
 	}
 	for _, test := range []struct{ start, end, count uint64 }{{0, 0, 1}, {7, 9, 3}, {255, 256, 1}, {256, 1 << 62, 256},

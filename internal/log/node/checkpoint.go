@@ -6,6 +6,7 @@ import (
 	"fmt"
 
 	"wagtenib/internal/blob"
+	"wagtenib/internal/ct"
 )
 
 // putCheckpoint makes a head the object checkpoint, from which readers follow the log without a node, unless that is
@@ -18,7 +19,7 @@ import (
 //
 // All of the head's tree is in the store by then: it is called only after the tiles and the head itself were put, or
 // were found.
-func (l *Loop) putCheckpoint(ctx context.Context, head Head) error {
+func (l *Loop) putCheckpoint(ctx context.Context, head ct.SignedHead) error {
 	if l.config.Stores.Current == nil {
 		return nil
 	}
@@ -30,11 +31,11 @@ func (l *Loop) putCheckpoint(ctx context.Context, head Head) error {
 				return err
 			}
 		}
-		if stored.Note != nil && !stored.before(head) {
+		if stored.Signed != nil && !isBefore(*stored, head) {
 			l.last.checkpoint = stored
 			return nil
 		}
-		err := l.config.Stores.Current.Swap(ctx, checkpointName, stored.Note, head.Note)
+		err := l.config.Stores.Current.Swap(ctx, checkpointName, stored.Signed, head.Signed)
 		if err == nil {
 			l.last.checkpoint = &head
 			return nil
@@ -48,10 +49,10 @@ func (l *Loop) putCheckpoint(ctx context.Context, head Head) error {
 }
 
 // readCheckpoint reads the object checkpoint. Its note is nil if there is none.
-func (l *Loop) readCheckpoint(ctx context.Context) (*Head, error) {
+func (l *Loop) readCheckpoint(ctx context.Context) (*ct.SignedHead, error) {
 	content, err := l.config.Stores.Objects.Get(ctx, checkpointName, maxNote)
 	if errors.Is(err, blob.ErrAbsent) {
-		return &Head{}, nil
+		return &ct.SignedHead{}, nil
 	}
 	if err != nil {
 		return nil, fmt.Errorf("node: %s: %w", checkpointName, err)

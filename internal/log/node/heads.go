@@ -2,8 +2,6 @@ package node
 
 import (
 	"context"
-	"encoding/base64"
-	"encoding/binary"
 	"errors"
 	"fmt"
 	"strings"
@@ -14,20 +12,17 @@ import (
 	"wagtenib/internal/ct"
 	"wagtenib/internal/log/node/step"
 	"wagtenib/internal/log/signer"
-	"wagtenib/internal/witness"
 )
 
-// Head is a signed tree head, with its note (C2SP tlog-checkpoint).
-type Head struct {
-	ct.TreeHead
-	Note []byte
+// publishedBy returns how far a log is published once it has published a head.
+func publishedBy(head ct.TreeHead) blob.Published {
+	return blob.Published{Size: head.TreeSize, Timestamp: head.Timestamp}
 }
 
-func (h Head) published() blob.Published {
-	return blob.Published{Size: h.TreeSize, Timestamp: h.Timestamp}
+// isBefore reports whether a head comes before another one of the same history.
+func isBefore(head, other ct.SignedHead) bool {
+	return publishedBy(head.TreeHead).Before(publishedBy(other.TreeHead))
 }
-
-func (h Head) before(other Head) bool { return h.published().Before(other.published()) }
 
 var (
 	// errOtherHead: the object under a head's name is not that head.
@@ -50,7 +45,7 @@ func (l *Loop) isPublished(ctx context.Context, k *state) (bool, error) {
 		return false, nil
 	}
 	head, err := l.headOf(ctx, k)
-	if !published.Before(k.published()) && (errors.Is(err, blob.ErrAbsent) || errors.Is(err, errOtherHead)) {
+	if !published.Before(publishedBy(k.TreeHead)) && (errors.Is(err, blob.ErrAbsent) || errors.Is(err, errOtherHead)) {
 		// It was published, so all of the state was in the store.
 		restored, failed := l.restore(ctx, k)
 		if !errors.Is(failed, errNoBatch) {
@@ -77,16 +72,16 @@ func (l *Loop) isPublished(ctx context.Context, k *state) (bool, error) {
 }
 
 // headOf reads the head of a state. A head that is not the state's is an error.
-func (l *Loop) headOf(ctx context.Context, k *state) (Head, error) {
+func (l *Loop) headOf(ctx context.Context, k *state) (ct.SignedHead, error) {
 	head, err := l.readHead(ctx, headName(k.TreeSize, k.Timestamp))
 	if err != nil {
-		return Head{}, err
+		return ct.SignedHead{}, err
 	}
 	return head, matches(head, k)
 }
 
 // matches returns an error unless a head is a state's.
-func matches(head Head, k *state) error {
+func matches(head ct.SignedHead, k *state) error {
 	name := headName(k.TreeSize, k.Timestamp)
 	if head.TreeSize != k.TreeSize || head.Timestamp != k.Timestamp {
 		return fmt.Errorf("%w: %w: %s has the head of %d entries at %d ms", ErrDamaged, errOtherHead, name, head.TreeSize,
@@ -100,12 +95,12 @@ func matches(head Head, k *state) error {
 
 // raise says that a head is published, all of which is in the store, and shows it to readers. The checkpoint comes
 // first: a head that is published is one that readers without a node can fetch.
-func (l *Loop) raise(ctx context.Context, published blob.Published, head Head, line string) error {
+func (l *Loop) raise(ctx context.Context, published blob.Published, head ct.SignedHead, line string) error {
 	if err := l.putCheckpoint(ctx, head); err != nil {
 		return err
 	}
-	if published.Before(head.published()) {
-		if err := l.config.Stores.Lock.Raise(ctx, head.published()); err != nil {
+	if published.Before(publishedBy(head.TreeHead)) {
+		if err := l.config.Stores.Lock.Raise(ctx, publishedBy(head.TreeHead)); err != nil {
 			return fmt.Errorf("node: the lock: %w", err)
 		}
 	}
@@ -115,25 +110,25 @@ func (l *Loop) raise(ctx context.Context, published blob.Published, head Head, l
 
 // restore repairs the newest state as far as its staged batch allows: it puts objects that are missing or have another
 // content, and the state's head.
-func (l *Loop) restore(ctx context.Context, k *state) (Head, error) {
+func (l *Loop) restore(ctx context.Context, k *state) (ct.SignedHead, error) {
 	newest, err := l.learn(ctx)
 	if err != nil {
-		return Head{}, err
+		return ct.SignedHead{}, err
 	}
 	if newest.text != k.text {
-		return Head{}, errMoves
+		return ct.SignedHead{}, errMoves
 	}
 	l.edge = map[string][]byte{}
 	resumed, err := l.resume(ctx, k)
 	if err != nil {
-		return Head{}, err
+		return ct.SignedHead{}, err
 	}
 	if err := l.accept(ctx, k, resumed.Objects); err != nil {
-		return Head{}, err
+		return ct.SignedHead{}, err
 	}
 	for _, object := range resumed.Objects {
 		if err := l.putRight(ctx, object.Name, object.Content); err != nil {
-			return Head{}, fmt.Errorf("node: %w", err)
+			return ct.SignedHead{}, fmt.Errorf("node: %w", err)
 		}
 	}
 	head, err := l.headOf(ctx, k)
@@ -145,13 +140,13 @@ func (l *Loop) restore(ctx context.Context, k *state) (Head, error) {
 		err = l.whyRefused(ctx, k, err)
 	}
 	if err != nil {
-		return Head{}, err
+		return ct.SignedHead{}, err
 	}
 	if err := l.cosign(ctx, k, &head, resumed.Objects); err != nil {
-		return Head{}, err
+		return ct.SignedHead{}, err
 	}
 	if head, err = l.putRestored(ctx, k, head); err != nil {
-		return Head{}, fmt.Errorf("node: %w", err)
+		return ct.SignedHead{}, fmt.Errorf("node: %w", err)
 	}
 	return head, nil
 }
@@ -161,7 +156,7 @@ func (l *Loop) restore(ctx context.Context, k *state) (Head, error) {
 // node's head is in the store, or a later one.
 func (l *Loop) putHead(
 	ctx context.Context, k *state, checkpoint string, objects []step.Object, beside func(context.Context) error,
-) (Head, error) {
+) (ct.SignedHead, error) {
 	made, err := l.signedHead(ctx, k, checkpoint, objects)
 	if errors.Is(err, signer.ErrRefused) {
 		if stored, absent := l.headOf(ctx, k); absent == nil {
@@ -170,20 +165,20 @@ func (l *Loop) putHead(
 		err = l.whyRefused(ctx, k, err)
 	}
 	if err != nil {
-		return Head{}, err
+		return ct.SignedHead{}, err
 	}
 	if err := l.cosign(ctx, k, &made, objects); err != nil {
-		return Head{}, err
+		return ct.SignedHead{}, err
 	}
 	put := func(ctx context.Context) error {
-		return l.config.Stores.Objects.Put(ctx, headName(k.TreeSize, k.Timestamp), made.Note)
+		return l.config.Stores.Objects.Put(ctx, headName(k.TreeSize, k.Timestamp), made.Signed)
 	}
 	err = l.config.Machine.Parallel(ctx, put, beside)
 	if errors.Is(err, blob.ErrOther) {
 		return l.headOf(ctx, k)
 	}
 	if err != nil {
-		return Head{}, fmt.Errorf("node: the head: %w", err)
+		return ct.SignedHead{}, fmt.Errorf("node: the head: %w", err)
 	}
 	return made, nil
 }
@@ -203,16 +198,16 @@ func (l *Loop) whyRefused(ctx context.Context, k *state, refused error) error {
 
 // putRestored puts a state's head over anything else under its name, but not over one that another node restored
 // meanwhile. The signatures of one head differ, so its object may have several contents, and no right one is deleted.
-func (l *Loop) putRestored(ctx context.Context, k *state, head Head) (Head, error) {
+func (l *Loop) putRestored(ctx context.Context, k *state, head ct.SignedHead) (ct.SignedHead, error) {
 	name := headName(k.TreeSize, k.Timestamp)
-	err := l.config.Stores.Objects.Put(ctx, name, head.Note)
+	err := l.config.Stores.Objects.Put(ctx, name, head.Signed)
 	if errors.Is(err, blob.ErrOther) {
 		stored, wrong := l.headOf(ctx, k)
 		if !errors.Is(wrong, errOtherHead) {
 			return stored, wrong
 		}
 		if err = l.config.Stores.Objects.Delete(ctx, name); err == nil {
-			err = l.config.Stores.Objects.Put(ctx, name, head.Note)
+			err = l.config.Stores.Objects.Put(ctx, name, head.Signed)
 		}
 	}
 	if err == nil {
@@ -226,7 +221,7 @@ const maxAsked = 5
 
 // signedHead has a state's head signed, over a proof from the signer's last head. That is the one that this node had it
 // sign before, unless the signer refuses: only then it is asked, since another node may have had a later one signed.
-func (l *Loop) signedHead(ctx context.Context, k *state, checkpoint string, objects []step.Object) (Head, error) {
+func (l *Loop) signedHead(ctx context.Context, k *state, checkpoint string, objects []step.Object) (ct.SignedHead, error) {
 	lastHead, isRemembered, signed := l.last.signed, l.last.signed != nil, []byte(nil)
 	// If the signer does not answer, it may have approved the head.
 	l.last.signed = nil
@@ -234,13 +229,13 @@ func (l *Loop) signedHead(ctx context.Context, k *state, checkpoint string, obje
 		var err error
 		if lastHead == nil {
 			if lastHead, err = l.config.Signer.Last(ctx); err != nil {
-				return Head{}, fmt.Errorf("node: the signer: %w", err)
+				return ct.SignedHead{}, fmt.Errorf("node: the signer: %w", err)
 			}
 		}
 		var proof [][32]byte
 		if lastHead != nil && lastHead.TreeSize < k.TreeSize {
 			if proof, err = l.consistency(ctx, lastHead.TreeSize, k.TreeHead, l.reading(objects)); err != nil {
-				return Head{}, err
+				return ct.SignedHead{}, err
 			}
 		}
 		if signed, err = l.config.Signer.SignHead(ctx, k.TreeHead, proof); err == nil {
@@ -249,19 +244,16 @@ func (l *Loop) signedHead(ctx context.Context, k *state, checkpoint string, obje
 		// A refusal over a head that was not asked for says nothing.
 		isOlder := isRemembered && errors.Is(err, signer.ErrRefused)
 		if try+1 == maxAsked || !isOlder && !l.moved(ctx, lastHead, err) {
-			return Head{}, fmt.Errorf("node: the signer: a head of %d entries at %d ms: %w", k.TreeSize, k.Timestamp, err)
+			return ct.SignedHead{}, fmt.Errorf("node: the signer: a head of %d entries at %d ms: %w", k.TreeSize, k.Timestamp, err)
 		}
 		lastHead, isRemembered = nil, false
 	}
 	if head := k.TreeHead; l.config.Signer.IsGuarded() {
 		l.last.signed = &head
 	}
-	blob := binary.BigEndian.AppendUint32(nil, l.verifier.KeyHash())
-	blob = append(binary.BigEndian.AppendUint64(blob, k.Timestamp), signed...)
-	made, err := l.parseNote([]byte(checkpoint + "\n" + l.signatureLine() +
-		base64.StdEncoding.EncodeToString(blob) + "\n"))
+	made, err := l.parseNote([]byte(checkpoint + "\n" + ct.SignatureLine(l.verifier, k.Timestamp, signed)))
 	if err != nil || matches(made, k) != nil {
-		return Head{}, fmt.Errorf("node: the step's note is not one of %s: %w", l.config.Origin, errNote)
+		return ct.SignedHead{}, fmt.Errorf("node: the step's note is not one of %s: %w", l.config.Origin, errNote)
 	}
 	return made, nil
 }
@@ -278,17 +270,15 @@ func (n *Node) moved(ctx context.Context, last *ct.TreeHead, err error) bool {
 	return err == nil && now != nil && (last == nil || *now != *last)
 }
 
-func (n *Node) signatureLine() string { return "— " + n.config.Origin + " " }
-
 // readHead reads a head and checks its signature.
-func (n *Node) readHead(ctx context.Context, name string) (Head, error) {
+func (n *Node) readHead(ctx context.Context, name string) (ct.SignedHead, error) {
 	content, err := n.config.Stores.Objects.Get(ctx, name, maxNote)
 	if err != nil {
-		return Head{}, fmt.Errorf("node: %s: %w", name, err)
+		return ct.SignedHead{}, fmt.Errorf("node: %s: %w", name, err)
 	}
 	head, err := n.parseNote(content)
 	if err != nil {
-		return Head{}, fmt.Errorf("%w: %w: %s: %w", ErrDamaged, errOtherHead, name, err)
+		return ct.SignedHead{}, fmt.Errorf("%w: %w: %s: %w", ErrDamaged, errOtherHead, name, err)
 	}
 	return head, nil
 }
@@ -310,36 +300,15 @@ func (n *Node) foreign(err error) error {
 	return fmt.Errorf("%w: another key than the settings' signed it", errForeign)
 }
 
-// signatureOf returns the DigitallySigned of a note whose first signature is the log's (C2SP static-ct-api, signatures
-// of type 5).
-func (n *Node) signatureOf(content []byte) ([]byte, error) {
-	opened, err := note.Open(content, note.VerifierList(n.verifier))
-	if err != nil {
-		return nil, errNote
-	}
-	blob, err := base64.StdEncoding.DecodeString(opened.Sigs[0].Base64)
-	if err != nil || len(blob) < 12 {
-		return nil, errNote
-	}
-	return blob[12:], nil
-}
-
 // parseNote reads a head's note. The first signature must be the log's, and it must be right.
-func (n *Node) parseNote(content []byte) (Head, error) {
-	opened, err := note.Open(content, note.VerifierList(n.verifier))
+func (n *Node) parseNote(content []byte) (ct.SignedHead, error) {
+	head, err := ct.OpenNote(content, n.verifier)
 	if foreign := n.foreign(err); foreign != nil {
-		return Head{}, foreign
+		return ct.SignedHead{}, foreign
 	}
-	if err != nil || !strings.HasPrefix(string(content[len(opened.Text):]), "\n"+n.signatureLine()) {
-		return Head{}, errNote
+	_, lines, _ := strings.Cut(string(content), "\n\n")
+	if err != nil || !strings.HasPrefix(lines, "— "+n.config.Origin+" ") {
+		return ct.SignedHead{}, errNote
 	}
-	size, root, err := witness.TreeOf(opened.Text)
-	if err != nil {
-		return Head{}, errNote
-	}
-	blob, err := base64.StdEncoding.DecodeString(opened.Sigs[0].Base64)
-	if err != nil || len(blob) < 12 {
-		return Head{}, errNote
-	}
-	return Head{ct.TreeHead{TreeSize: size, Timestamp: binary.BigEndian.Uint64(blob[4:12]), Root: root}, content}, nil
+	return head, nil
 }

@@ -37,7 +37,7 @@ type last struct {
 	// signed is the head that the signer signed last for this node, or nil if that is not known.
 	signed *ct.TreeHead
 	// checkpoint is a head that the object checkpoint had, or nil.
-	checkpoint *Head
+	checkpoint *ct.SignedHead
 	// unneeded are the names of staged batches that this node's steps left. The decider has not said yet whether they
 	// may be deleted. deletable are the names of those that it said may be deleted.
 	unneeded, deletable []string

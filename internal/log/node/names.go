@@ -53,11 +53,6 @@ type state struct {
 	readAt time.Duration
 }
 
-// published returns how far the log is published once the state is.
-func (k *state) published() blob.Published {
-	return blob.Published{Size: k.TreeSize, Timestamp: k.Timestamp}
-}
-
 // parseText reads a text of the lock.
 func parseText(text string) (*state, error) {
 	lines := strings.Split(text, "\n")

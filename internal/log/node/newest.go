@@ -7,6 +7,7 @@ import (
 	"time"
 
 	"wagtenib/internal/blob"
+	"wagtenib/internal/ct"
 )
 
 const (
@@ -18,7 +19,7 @@ const (
 
 // Newest returns the newest published head, whichever node published it, and no other. If the lock cannot be read, it
 // returns the newest one that this node knows. The error is blob.ErrAbsent if none is published.
-func (n *Node) Newest(ctx context.Context) (Head, error) {
+func (n *Node) Newest(ctx context.Context) (ct.SignedHead, error) {
 	seen := n.seenHead()
 	for try := 0; ; try++ {
 		published, err := n.readPublished(ctx, seen != nil)
@@ -26,9 +27,9 @@ func (n *Node) Newest(ctx context.Context) (Head, error) {
 			return *seen, nil
 		}
 		if err != nil {
-			return Head{}, fmt.Errorf("node: the lock: %w", err)
+			return ct.SignedHead{}, fmt.Errorf("node: the lock: %w", err)
 		}
-		if seen = n.seenHead(); seen != nil && !seen.published().Before(published) {
+		if seen = n.seenHead(); seen != nil && !publishedBy(seen.TreeHead).Before(published) {
 			return *seen, nil
 		}
 		head, err := n.headAt(ctx, published)
@@ -46,22 +47,22 @@ func (n *Node) Newest(ctx context.Context) (Head, error) {
 }
 
 // Known returns the newest published head that this node knows, without looking for a newer one, or nil.
-func (n *Node) Known() *Head { return n.seenHead() }
+func (n *Node) Known() *ct.SignedHead { return n.seenHead() }
 
 // seenHead returns the newest published head that this node knows, or nil.
-func (n *Node) seenHead() *Head {
+func (n *Node) seenHead() *ct.SignedHead {
 	read := n.read.Load()
-	if now := n.Snapshot(); now != nil && (read == nil || read.before(now.Head)) {
-		return &now.Head
+	if now := n.Snapshot(); now != nil && (read == nil || isBefore(*read, now.SignedHead)) {
+		return &now.SignedHead
 	}
 	return read
 }
 
 // see keeps a published head that was read.
-func (n *Node) see(head Head) {
+func (n *Node) see(head ct.SignedHead) {
 	for {
 		before := n.read.Load()
-		if before != nil && !before.before(head) || n.read.CompareAndSwap(before, &head) {
+		if before != nil && !isBefore(*before, head) || n.read.CompareAndSwap(before, &head) {
 			return
 		}
 	}
@@ -78,20 +79,16 @@ func (n *Node) readPublished(ctx context.Context, isBrief bool) (blob.Published,
 }
 
 // headAt reads the head that is published. The error is blob.ErrAbsent if none is, or if it was deleted.
-func (n *Node) headAt(ctx context.Context, published blob.Published) (Head, error) {
+func (n *Node) headAt(ctx context.Context, published blob.Published) (ct.SignedHead, error) {
 	// If nothing is published yet, this is the name of no head. A later head may be in the store already.
 	name := headName(published.Size, published.Timestamp)
 	head, err := n.readHead(ctx, name)
 	if err != nil {
-		return Head{}, err
+		return ct.SignedHead{}, err
 	}
 	if headName(head.TreeSize, head.Timestamp) != name {
-		return Head{}, fmt.Errorf("%w: %s has the head of %d entries at %d ms", ErrDamaged, name, head.TreeSize,
+		return ct.SignedHead{}, fmt.Errorf("%w: %s has the head of %d entries at %d ms", ErrDamaged, name, head.TreeSize,
 			head.Timestamp)
 	}
 	return head, nil
 }
-
-// Signature returns the DigitallySigned over the TreeHeadSignature (RFC 6962, section 3.5) of a head, which its note
-// has.
-func (n *Node) Signature(head Head) ([]byte, error) { return n.signatureOf(head.Note) }

@@ -17,7 +17,6 @@ import (
 	"wagtenib/internal/log/node/step"
 	"wagtenib/internal/log/signer"
 	"wagtenib/internal/tiles"
-	"wagtenib/internal/witness"
 )
 
 // The errors of a node that cannot continue. Each is found by errors.Is.
@@ -248,7 +247,7 @@ func (p Pace) lasts() bool {
 
 // Snapshot is what readers see of a log: its newest published head that this node knows. It never changes.
 type Snapshot struct {
-	Head Head
+	ct.SignedHead
 	// Line is the state's line that the head is of.
 	Line string
 }
@@ -263,7 +262,7 @@ type Node struct {
 	stepping atomic.Pointer[decider.Command]
 	newest   atomic.Pointer[state]
 	// read is the newest published head that was read for a reader.
-	read   atomic.Pointer[Head]
+	read   atomic.Pointer[ct.SignedHead]
 	health health
 }
 
@@ -317,7 +316,7 @@ func (n *Node) IsEnding() bool { return n.pool.isEnding() }
 func (n *Node) RefuseAll(err error) int { return n.pool.refuse(err) }
 
 // show makes a head the one that readers see. It is no earlier one, since no state is accepted after a later one.
-func (n *Node) show(head Head, line string) { n.snapshot.Store(&Snapshot{Head: head, Line: line}) }
+func (n *Node) show(head ct.SignedHead, line string) { n.snapshot.Store(&Snapshot{head, line}) }
 
 // sct returns the timestamp of an entry with an index.
 func (n *Node) sct(index, timestamp uint64, signature []byte) ct.SCT {
@@ -338,5 +337,5 @@ func verifierOf(config Config) note.Verifier {
 	if own, ok := config.Signer.(interface{ Verifier() note.Verifier }); ok {
 		return own.Verifier()
 	}
-	return witness.OfRFC6962(config.Origin, config.Signer.Key())
+	return ct.LogVerifier(config.Origin, config.Signer.Key())
 }

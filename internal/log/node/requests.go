@@ -73,7 +73,7 @@ func (r *Request) Find(ctx context.Context) (*Candidate, error) {
 	n := r.node
 	now := n.Snapshot()
 	r.lookup = lookup{}
-	if now == nil || now.Head.TreeSize == 0 {
+	if now == nil || now.TreeSize == 0 {
 		return nil, nil
 	}
 	places, err := n.config.Stores.Index.Find(ctx, []blob.Identity{r.identity})
@@ -81,8 +81,8 @@ func (r *Request) Find(ctx context.Context) (*Candidate, error) {
 		return nil, fmt.Errorf("node: the index: %w", err)
 	}
 	place, ok := places[r.identity]
-	r.lookup = lookup{isAbsent: !ok, size: now.Head.TreeSize}
-	if !ok || place.Index >= now.Head.TreeSize {
+	r.lookup = lookup{isAbsent: !ok, size: now.TreeSize}
+	if !ok || place.Index >= now.TreeSize {
 		// The place of an entry that is not under the head yet becomes known by the next round.
 		return nil, nil
 	}
@@ -101,7 +101,7 @@ func (r *Request) Claim(ctx context.Context, c *Candidate) (*ct.SCT, error) {
 		r.wrong = &place
 		return nil, nil
 	}
-	signatures, err := n.signTimestamps(ctx, []wagtenib.Receipt{*receipt}, now.Head.TreeHead, n.stored)
+	signatures, err := n.signTimestamps(ctx, []wagtenib.Receipt{*receipt}, now.TreeHead, n.stored)
 	if err != nil {
 		return nil, err
 	}
@@ -121,7 +121,7 @@ func (d DamagedTile) Unwrap() error { return d.Why }
 
 // claimed returns the receipt of a request's entry at a place, or nil if another entry is there.
 func (n *Node) claimed(ctx context.Context, at *Snapshot, place blob.Place, r *Request) (*wagtenib.Receipt, error) {
-	leaf, err := tiles.LeafAt(ctx, place.Index, at.Head.TreeHead, n.stored)
+	leaf, err := tiles.LeafAt(ctx, place.Index, at.TreeHead, n.stored)
 	if errors.Is(err, ErrDamaged) {
 		return nil, DamagedTile{place.Index / ct.TileWidth, err}
 	}
@@ -131,7 +131,7 @@ func (n *Node) claimed(ctx context.Context, at *Snapshot, place blob.Place, r *R
 	if identity(leaf.Type, leaf.IssuerKeyHash, leaf.Certificate) != r.identity || leaf.Timestamp != place.Timestamp {
 		return nil, nil
 	}
-	proofs, err := paths(ctx, []uint64{place.Index}, at.Head.TreeHead, n.stored)
+	proofs, err := paths(ctx, []uint64{place.Index}, at.TreeHead, n.stored)
 	if err != nil {
 		return nil, err
 	}

@@ -236,7 +236,7 @@ func (l *Loop) looksBack(ctx context.Context, k *state) error {
 	if err != nil {
 		return fmt.Errorf("node: the lock: %w", err)
 	}
-	if !k.published().Before(published) {
+	if !publishedBy(k.TreeHead).Before(published) {
 		return nil
 	}
 	if err := l.checkCurrent(ctx, k); err != nil {

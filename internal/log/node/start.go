@@ -70,7 +70,7 @@ func (l *Loop) tryStart(ctx context.Context, remembered *ct.TreeHead) (bool, err
 		return false, l.create(ctx)
 	}
 	l.hears(f.k, l.config.Machine.Clock.Elapsed())
-	if !f.published.Before(f.k.published()) {
+	if !f.published.Before(publishedBy(f.k.TreeHead)) {
 		if err := l.knowsNewest(ctx, f.k); err != nil {
 			return false, err
 		}
@@ -285,7 +285,7 @@ func (l *Loop) create(ctx context.Context) error {
 // showNewest shows readers the head of the lock's state if the store has it, so that they need not wait for the first
 // round.
 func (l *Loop) showNewest(ctx context.Context, f found) error {
-	if f.k.IsBegin() || f.published.Before(f.k.published()) {
+	if f.k.IsBegin() || f.published.Before(publishedBy(f.k.TreeHead)) {
 		return nil
 	}
 	head, err := l.headOf(ctx, f.k)

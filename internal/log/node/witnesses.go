@@ -13,6 +13,7 @@ import (
 
 	"golang.org/x/mod/sumdb/note"
 
+	"wagtenib/internal/ct"
 	"wagtenib/internal/log/node/step"
 	"wagtenib/internal/witness"
 )
@@ -71,12 +72,12 @@ var (
 // cosign adds the lines of enough cosignatures to a head that the log signed. No head may be put before that. The first
 // head of a node that is not vouched is also the one with which it starts. It may be the first one of a log that begins
 // again from nothing, of which the witnesses saw more.
-func (l *Loop) cosign(ctx context.Context, k *state, head *Head, objects []step.Object) error {
+func (l *Loop) cosign(ctx context.Context, k *state, head *ct.SignedHead, objects []step.Object) error {
 	if len(l.config.Witnesses.All) == 0 {
 		return nil
 	}
 	quorums := l.config.Witnesses.Quorums
-	a := &asking{k: k, note: head.Note, objects: objects, min: quorums.Publish}
+	a := &asking{k: k, note: head.Signed, objects: objects, min: quorums.Publish}
 	if !l.seen.isVouched {
 		a.min, a.isWhole = max(quorums.Publish, quorums.Start), true
 	}
@@ -85,7 +86,7 @@ func (l *Loop) cosign(ctx context.Context, k *state, head *Head, objects []step.
 		return err
 	}
 	l.seen.isVouched = true
-	head.Note = append(bytes.Clone(head.Note), lines...)
+	head.Signed = append(bytes.Clone(head.Signed), lines...)
 	return nil
 }
 
@@ -100,7 +101,7 @@ func (l *Loop) vouch(ctx context.Context, k *state) error {
 		l.last.published = ""
 		return err
 	}
-	if _, err := l.gather(ctx, &asking{k: k, note: ownNote(head.Note),
+	if _, err := l.gather(ctx, &asking{k: k, note: ownNote(head.Signed),
 		min: l.config.Witnesses.Quorums.Start, isWhole: true}); err != nil {
 		return err
 	}

@@ -19,6 +19,7 @@ import (
 	"golang.org/x/mod/sumdb/note"
 
 	"wagtenib/internal/blob"
+	"wagtenib/internal/ct"
 	"wagtenib/internal/log/service"
 	"wagtenib/internal/witness"
 )
@@ -116,7 +117,7 @@ func (p *place) witnessed(config *service.Config) *asked {
 	must(p.t, err)
 	p.t.Cleanup(func() { must(p.t, state.Close()) })
 	of := witness.Log{Origin: config.Origin, State: state,
-		Keys: []note.Verifier{witness.OfRFC6962(config.Origin, p.key.Key())}}
+		Keys: []note.Verifier{ct.LogVerifier(config.Origin, p.key.Key())}}
 	must(p.t, of.Create(limited(p.t)))
 	s.SetLogs([]witness.Log{of})
 	a := &asked{Handler: s, seen: map[string]bool{}}

@@ -11,6 +11,7 @@ import (
 	"sync/atomic"
 	"testing"
 
+	"wagtenib/internal/ct"
 	"wagtenib/internal/log"
 	"wagtenib/internal/log/service"
 )
@@ -57,7 +58,7 @@ func (p *place) leads(t *testing.T, l *service.Log, address string) {
 	config := p.config()
 	config.Address, config.Machine.Files.LatestHead = address, p.path("other-latest-head")
 	other := started(t, config)
-	var before log.Head
+	var before ct.SignedHead
 	eventually(t, "the first head is published", func() bool {
 		var err error
 		before, err = l.Checkpoint(limited(t))

@@ -9,7 +9,7 @@ import (
 	"strings"
 	"testing"
 
-	"wagtenib/internal/log"
+	"wagtenib/internal/ct"
 	"wagtenib/internal/log/node"
 	"wagtenib/internal/log/service"
 )
@@ -55,9 +55,9 @@ func TestHeadWithAnotherSignatureIsNotServed(t *testing.T) {
 	again, err := service.Open(limited(t), p.config())
 	if err == nil {
 		t.Cleanup(func() { ends(t, again) })
-		var head log.Head
+		var head ct.SignedHead
 		if head, err = again.Checkpoint(limited(t)); err == nil {
-			t.Fatalf("the node serves %q", head.Note)
+			t.Fatalf("the node serves %q", head.Signed)
 		}
 	}
 	wants(t, err, node.ErrDamaged)
@@ -68,6 +68,6 @@ func TestHeadWithAnotherSignatureIsNotServed(t *testing.T) {
 	}
 	eventually(t, "the head of the store is served after it was restored", func() bool {
 		head, err := recovered.Checkpoint(limited(t))
-		return err == nil && bytes.Equal(head.Note, note)
+		return err == nil && bytes.Equal(head.Signed, note)
 	})
 }

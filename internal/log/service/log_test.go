@@ -42,8 +42,7 @@ func TestOneNode(t *testing.T) {
 		f.Fault != "" || f.Steps == 0 || f.Batches.Submissions != 300 || f.WrittenBytes == 0 {
 		t.Errorf("%+v %+v", head, f)
 	}
-	must(t, signer.CheckHead(p.key.Key(), ct.TreeHead{TreeSize: head.TreeSize, Timestamp: head.Timestamp,
-		Root: head.RootHash}, head.Signature))
+	must(t, signer.CheckHead(p.key.Key(), head.TreeHead, head.Signature))
 	for _, phase := range f.Phases {
 		if phase.Count == 0 && phase.Name != "delete" {
 			t.Errorf("no %s is counted", phase.Name)

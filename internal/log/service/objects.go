@@ -83,7 +83,7 @@ func (l *Log) headWith(ctx context.Context, of tlog.Tile) (ct.TreeHead, error) {
 		return now.TreeHead, nil
 	}
 	head, err := l.Checkpoint(ctx)
-	return ct.TreeHead{TreeSize: head.TreeSize, Timestamp: head.Timestamp, Root: head.RootHash}, err
+	return head.TreeHead, err
 }
 
 // read reads an object of the log from the store, within patience.

@@ -80,8 +80,8 @@ func TestShowsTheHeadThatIsInTheStore(t *testing.T) {
 	got.submit(t, l, 0, 3)
 	head, err := l.Checkpoint(limited(t))
 	must(t, err)
-	if _, stored := p.newestHead(); !bytes.Equal(stored, head.Note) {
-		t.Errorf("the store has\n%s\nand the node serves\n%s", stored, head.Note)
+	if _, stored := p.newestHead(); !bytes.Equal(stored, head.Signed) {
+		t.Errorf("the store has\n%s\nand the node serves\n%s", stored, head.Signed)
 	}
 	p.checkLog(got)
 }
@@ -170,8 +170,8 @@ func TestCheckpointIsReadAgainAfterALostSwap(t *testing.T) {
 	}
 	head, err := l.Checkpoint(limited(t))
 	must(t, err)
-	if stored, err := os.ReadFile(p.object("checkpoint")); err != nil || !bytes.Equal(stored, head.Note) {
-		t.Errorf("%v: the checkpoint is\n%s\nand the newest head\n%s", err, stored, head.Note)
+	if stored, err := os.ReadFile(p.object("checkpoint")); err != nil || !bytes.Equal(stored, head.Signed) {
+		t.Errorf("%v: the checkpoint is\n%s\nand the newest head\n%s", err, stored, head.Signed)
 	}
 }
 
@@ -283,7 +283,7 @@ func TestRefusesStartIfOneWitnessIsAhead(t *testing.T) {
 	seen := ct.TreeHead{TreeSize: 10, Timestamp: uint64(time.Now().UnixMilli()), Root: sha256.Sum256([]byte("ten"))}
 	signed, err := p.key.SignHead(limited(t), seen, nil)
 	must(t, err)
-	verifier := witness.OfRFC6962(config.Origin, p.key.Key())
+	verifier := ct.LogVerifier(config.Origin, p.key.Key())
 	blob := binary.BigEndian.AppendUint32(nil, verifier.KeyHash())
 	blob = append(binary.BigEndian.AppendUint64(blob, seen.Timestamp), signed...)
 	note := fmt.Sprintf("%s\n10\n%s\n\n— %[1]s %[3]s\n", config.Origin,

@@ -7,8 +7,8 @@ import (
 	"time"
 
 	"wagtenib/internal/blob"
+	"wagtenib/internal/ct"
 	"wagtenib/internal/log"
-	"wagtenib/internal/log/node"
 )
 
 const (
@@ -30,12 +30,12 @@ type readings struct {
 // reading is one reading of the newest head. Its head and error may be used after done is closed.
 type reading struct {
 	done chan struct{}
-	head log.Head
+	head ct.SignedHead
 	err  error
 }
 
 // join returns the next reading. If none is being made, it begins at once.
-func (r *readings) join(read func(context.Context) (log.Head, error)) *reading {
+func (r *readings) join(read func(context.Context) (ct.SignedHead, error)) *reading {
 	r.mu.Lock()
 	defer r.mu.Unlock()
 	if r.next == nil {
@@ -59,7 +59,7 @@ func (r *readings) startNext() *reading {
 
 // run makes readings as long as a request waits for one. It ends after a slow reading, because another goroutine makes
 // the next ones then.
-func (r *readings) run(read func(context.Context) (log.Head, error)) {
+func (r *readings) run(read func(context.Context) (ct.SignedHead, error)) {
 	for now := r.startNext(); now != nil; now = r.startNext() {
 		ctx, cancel := context.WithTimeout(context.Background(), maxReading)
 		slow := time.AfterFunc(slowReading, func() { r.runAnother(read) })
@@ -75,7 +75,7 @@ func (r *readings) run(read func(context.Context) (log.Head, error)) {
 
 // runAnother lets another goroutine make readings beside a slow one. It begins now if a request waits, and otherwise
 // with the next request.
-func (r *readings) runAnother(read func(context.Context) (log.Head, error)) {
+func (r *readings) runAnother(read func(context.Context) (ct.SignedHead, error)) {
 	r.mu.Lock()
 	defer r.mu.Unlock()
 	if r.isRunning = r.next != nil; r.isRunning {
@@ -85,43 +85,25 @@ func (r *readings) runAnother(read func(context.Context) (log.Head, error)) {
 
 // Checkpoint returns the newest head, as log.Log says. It is never older than the head that was published at
 // the time of the call.
-func (l *Log) Checkpoint(ctx context.Context) (log.Head, error) {
-	shared := l.readings.join(l.newest)
+func (l *Log) Checkpoint(ctx context.Context) (ct.SignedHead, error) {
+	shared := l.readings.join(l.node.Newest)
 	select {
 	case <-shared.done:
 	case <-ctx.Done():
-		return log.Head{}, fmt.Errorf("serve: %w", ctx.Err())
+		return ct.SignedHead{}, fmt.Errorf("serve: %w", ctx.Err())
 	}
 	if shared.err != nil {
-		return log.Head{}, fault{log.ErrStore, shared.err}
+		return ct.SignedHead{}, fault{log.ErrStore, shared.err}
 	}
 	return shared.head, nil
 }
 
-func (l *Log) newest(ctx context.Context) (log.Head, error) {
-	head, err := l.node.Newest(ctx)
-	if err != nil {
-		return log.Head{}, err
-	}
-	return l.headOf(head)
-}
-
 // HeadOf implements log.Log. A request below a head that this node knows does not wait for the lock.
-func (l *Log) HeadOf(ctx context.Context, entries uint64) (log.Head, error) {
+func (l *Log) HeadOf(ctx context.Context, entries uint64) (ct.SignedHead, error) {
 	if now := l.node.Known(); now != nil && now.TreeSize >= entries {
-		return l.headOf(*now)
+		return *now, nil
 	}
 	return l.Checkpoint(ctx)
-}
-
-// headOf returns a node's head as a log.Head.
-func (l *Log) headOf(head node.Head) (log.Head, error) {
-	signature, err := l.node.Signature(head)
-	if err != nil {
-		return log.Head{}, fault{log.ErrStore, err}
-	}
-	return log.Head{Note: head.Note, TreeSize: head.TreeSize, Timestamp: head.Timestamp, RootHash: head.Root,
-		Signature: signature}, nil
 }
 
 // IndexOf implements log.Log.

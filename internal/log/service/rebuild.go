@@ -5,7 +5,6 @@ import (
 	"crypto/sha256"
 	"errors"
 	"fmt"
-	"strings"
 	"time"
 
 	"wagtenib/bindings/go/wagtenib"
@@ -64,8 +63,11 @@ func publishedHead(ctx context.Context, of Stores) (head ct.TreeHead, err error)
 		return head, fmt.Errorf("serve: %s: %w", name, err)
 	}
 	// The head's signature is not checked, because the index only says where to look for an entry.
-	signed, _, _ := strings.Cut(string(content), "\n\n")
-	checkpoint, err := wagtenib.ReadCheckpoint(signed + "\n")
+	signed, err := ct.NoteText(content)
+	if err != nil {
+		return head, fmt.Errorf("%w: %s: %w", node.ErrDamaged, name, err)
+	}
+	checkpoint, err := wagtenib.ReadCheckpoint(signed)
 	if err != nil || checkpoint.TreeSize != published.Size {
 		return head, fmt.Errorf("%w: %s", node.ErrDamaged, name)
 	}
@@ -130,8 +132,8 @@ func (l *Log) completeIndexOnce(ctx context.Context) error {
 		return err
 	}
 	now := l.node.Snapshot()
-	if now == nil || now.Head.TreeSize < left {
+	if now == nil || now.TreeSize < left {
 		return errors.New("no head is published yet")
 	}
-	return rebuild(ctx, l.config.Stores, now.Head.TreeHead, left, func(uint64) {})
+	return rebuild(ctx, l.config.Stores, now.TreeHead, left, func(uint64) {})
 }

@@ -266,7 +266,7 @@ func (l *Log) janitorConfig() janitor.Config {
 			if now == nil || l.node.Fault() != nil {
 				return janitor.Newest{}, false
 			}
-			return janitor.Newest{Head: now.Head.TreeHead, Stepping: l.node.Stepping()}, true
+			return janitor.Newest{Head: now.TreeHead, Stepping: l.node.Stepping()}, true
 		},
 		Keep: janitor.Keep{
 			Every: keep.Interval, Tiles: tiles, Heads: keep.Heads, Staged: keep.Heads, Thin: min(thinAfter, tiles),

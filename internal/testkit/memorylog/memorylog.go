@@ -27,7 +27,7 @@ type Log struct {
 
 	mutex   sync.Mutex
 	of      *testkit.Log
-	head    log.Head
+	head    ct.SignedHead
 	waiting []waiting
 	ended   bool
 	stop    chan struct{}
@@ -139,8 +139,8 @@ func (l *Log) publish() {
 	if err := json.Unmarshal(l.of.STH(), &sth); err != nil {
 		panic(err) // The log wrote it.
 	}
-	l.head = log.Head{Note: l.of.Checkpoint(), TreeSize: size, Timestamp: now, RootHash: l.of.Root(size),
-		Signature: sth.Signature}
+	l.head = ct.SignedHead{TreeHead: ct.TreeHead{TreeSize: size, Timestamp: now, Root: l.of.Root(size)},
+		Signed: l.of.Checkpoint(), Signature: sth.Signature}
 	for i, w := range batch {
 		w.place <- places[i]
 	}
@@ -168,9 +168,9 @@ func (l *Log) take(entry testkit.Entry) ct.SCT {
 }
 
 // Checkpoint implements log.Log.
-func (l *Log) Checkpoint(ctx context.Context) (log.Head, error) {
+func (l *Log) Checkpoint(ctx context.Context) (ct.SignedHead, error) {
 	if err := l.slowly(ctx); err != nil {
-		return log.Head{}, err
+		return ct.SignedHead{}, err
 	}
 	l.mutex.Lock()
 	defer l.mutex.Unlock()
@@ -178,7 +178,7 @@ func (l *Log) Checkpoint(ctx context.Context) (log.Head, error) {
 }
 
 // HeadOf implements log.Log.
-func (l *Log) HeadOf(ctx context.Context, _ uint64) (log.Head, error) {
+func (l *Log) HeadOf(ctx context.Context, _ uint64) (ct.SignedHead, error) {
 	return l.Checkpoint(ctx)
 }
 

@@ -74,9 +74,11 @@ func Open(folder string, log watch.Log, options logclient.Options) (*Mirror, err
 	if err != nil {
 		return nil, fmt.Errorf("mirror: %w", err)
 	}
-	if m.kept, err = ct.OpenCheckpoint(checkpoint, log.Origin, log.PublicKey); err != nil {
+	kept, err := ct.OpenCheckpoint(checkpoint, log.Origin, log.PublicKey)
+	if err != nil {
 		return nil, fmt.Errorf("%s: %w: %v", folder, ErrFolder, err)
 	}
+	m.kept = kept.TreeHead
 	return m, nil
 }
 
