@@ -4,7 +4,7 @@
     proofs.py [--calls 2000] [--seed 1]
 
 The first vectors are those of the RFC 6962 tree of eight leaves that Certificate Transparency's own tests use. Random proofs, right and damaged, are compared with
-tests/merkle.py, and random certificates with tests/tiles/promises.py. Roots, audit paths and consistency proofs out of tiles are compared with the recursion over all
+tests/merkle.py, also those of subtrees, and random certificates with tests/tiles/promises.py. Roots, audit paths and consistency proofs out of tiles are compared with the recursion over all
 leaves, and the names of the tiles with tests/tiles/reading.py. Contents that are missing, too short, too long or too many, and numbers that can't be together, must be
 refused. Each fault must come at least once. Without gcc for this processor it says so.
 """
