@@ -108,6 +108,14 @@ def try_subtrees(comparison, calls):
         first, over = chance.choice((near, sorted(near), [near[0], min(near[0] + chance.randrange(5), MOST)]))
         due = merkle.cover(first, over)
         comparison.call(f"the cover of [{first}, {over})", fault_of(due) if isinstance(due, str) else due, lambda: wagtenib.cover_range(first, over))
+    # (the largest trees, whose proofs take the most steps)
+    for start, end, size in ((0, (1 << 63) + 1, MOST), (0, MOST - 1, MOST), (MOST - 1, MOST, MOST), (1 << 63, MOST, MOST), (0, 1 << 63, 1 << 63)):
+        for count in range(66):
+            proof, index = [bytes(32)] * count, end - 1
+            due = fault_of(merkle.fault_of_subtree(start, end, size, bytes(32), bytes(32), proof))
+            comparison.call(f"a proof of {count} for [{start}, {end}) in {size}", due, lambda: wagtenib.verify_subtree(start, end, size, bytes(32), bytes(32), proof))
+            found = fault_of(merkle.fault_of_subtree_path(index, start, end, proof)) or merkle.root_by_path(bytes(32), index - start, end - start, proof)
+            comparison.call(f"a path of {count} in [{start}, {end})", found, lambda: wagtenib.evaluate_subtree_path(bytes(32), index, start, end, proof))
 
 
 def extension(chance, name, value):
