@@ -2,6 +2,10 @@ package logflags_test
 
 import (
 	"context"
+	"crypto/ecdsa"
+	"crypto/elliptic"
+	"crypto/rand"
+	"crypto/x509"
 	"encoding/base64"
 	"errors"
 	"flag"
@@ -13,7 +17,6 @@ import (
 
 	"wagtenib/internal/logclient"
 	"wagtenib/internal/testkit"
-	"wagtenib/internal/testkit/testlog"
 	"wagtenib/internal/watch/logflags"
 )
 
@@ -28,9 +31,11 @@ func parse(arguments ...string) (*logflags.Logs, error) {
 // TestReadsLogs checks the values of --log, and that a log list that is not there is only read if it is named or if
 // there is no --log.
 func TestReadsLogs(t *testing.T) {
-	log, err := testlog.New("log.example/2027")
+	private, err := ecdsa.GenerateKey(elliptic.P256(), rand.Reader)
 	testkit.Must(t, err)
-	key := base64.StdEncoding.EncodeToString(log.PublicKey())
+	public, err := x509.MarshalPKIXPublicKey(&private.PublicKey)
+	testkit.Must(t, err)
+	key := base64.StdEncoding.EncodeToString(public)
 	for value, expected := range map[string]struct{ url, origin string }{
 		"https://a.example/b/ " + key:                 {"https://a.example/b", ""},
 		"tiled+https://a.example/b " + key:            {"https://a.example/b", "a.example/b"},
@@ -40,7 +45,7 @@ func TestReadsLogs(t *testing.T) {
 		testkit.Must(t, err)
 		all, err := logs.All(context.Background(), logclient.Options{})
 		if err != nil || len(all) != 1 || all[0].URL != expected.url || all[0].Origin != expected.origin ||
-			string(all[0].PublicKey) != string(log.PublicKey()) {
+			string(all[0].PublicKey) != string(public) {
 			t.Errorf("%s: %+v, %v", value, all, err)
 		}
 	}
