@@ -22,7 +22,7 @@ export GOFLAGS="$trimmed -buildvcs=false -tags=$tags -p=${PROCESSORS:-$(nproc)}"
 case $what in
   test)
     # (the words of go test begin with -)
-    packages=(./bindings/... ./cmd/... ./internal/...)
+    packages=(./bindings/... ./cmd/... ./internal/... ./tests/clients/tlog)
     [[ ${1:--} == -* ]] || { packages=("./$1"); shift; }
     go test -count=1 "$@" "${packages[@]}"
     ;;

@@ -167,7 +167,10 @@ func (r *reader) entries(ctx context.Context, tree tlog.Tree, index int64, hashe
 			return nil, fmt.Errorf("%w: entry %d: %v", errWrong, i, err)
 		}
 		if i < r.size {
-			continue // The hash of this entry is there already, and compared with the root.
+			if tlog.RecordHash(leaf) != hashes[tlog.StoredHashIndex(0, i)] {
+				return nil, fmt.Errorf("%w: entry %d is not the one that was read before", errWrong, i)
+			}
+			continue
 		}
 		more, err := tlog.StoredHashes(i, leaf, hashes)
 		if err != nil {
