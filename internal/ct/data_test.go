@@ -132,7 +132,8 @@ func TestIndex(t *testing.T) {
 	}
 }
 
-// FuzzReadDataTile checks that a data tile is read completely or not at all, and that its entries contain all of its bytes.
+// FuzzReadDataTile checks that a data tile is read completely or not at all, and that its entries contain all of its
+// bytes.
 func FuzzReadDataTile(f *testing.F) {
 	whole := unhex(f, plain+pre)
 	f.Add(whole)

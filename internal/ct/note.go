@@ -85,8 +85,8 @@ func OpenNote(signed []byte, key note.Verifier) (SignedHead, error) {
 		return SignedHead{}, fmt.Errorf("%w: checkpoint of %q: %w", ErrSigner, key.Name(), err)
 	case errors.As(err, &unverified):
 		found, _, _ := strings.Cut(unverified.Note.Text, "\n")
-		if _, err := wagtenib.ReadCheckpoint(unverified.Note.Text); err != nil {
-			return SignedHead{}, fmt.Errorf("%w: %v", ErrForm, err)
+		if _, wrong := wagtenib.ReadCheckpoint(unverified.Note.Text); wrong != nil {
+			return SignedHead{}, fmt.Errorf("%w: %v: %w", ErrForm, wrong, err)
 		}
 		return SignedHead{}, fmt.Errorf("%w: checkpoint of %.100q, and %q is expected: %w", ErrSigner, found, key.Name(), err)
 	case err != nil:

@@ -49,7 +49,8 @@ func TestCodesSCTs(t *testing.T) {
 	}
 }
 
-// FuzzReadSCTs checks that ReadSCTs reads timestamps of any form completely or not at all. Each of them is the same when it is parsed again.
+// FuzzReadSCTs checks that ReadSCTs reads timestamps of any form completely or not at all. Each of them is the same when
+// it is parsed again.
 func FuzzReadSCTs(f *testing.F) {
 	sct := unhex(f, sctInTLS)
 	f.Add(sct)

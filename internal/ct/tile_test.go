@@ -8,7 +8,8 @@ import (
 	"wagtenib/internal/ct"
 )
 
-// TestTileNames checks names that C2SP tlog-tiles and static-ct-api give as examples, and some more, in both directions.
+// TestTileNames checks names that C2SP tlog-tiles and static-ct-api give as examples, and some more, in both
+// directions.
 func TestTileNames(t *testing.T) {
 	for name, of := range map[string]tlog.Tile{
 		"tile/3/x001/x234/067":      {H: 8, L: 3, N: 1234067, W: 256},

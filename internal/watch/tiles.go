@@ -72,7 +72,7 @@ func (t *tiles) entries(ctx context.Context, start, size uint64, use func(b batc
 }
 
 // readDataTile reads a data tile. otherIndex is the first index from next on whose entry names another index in its
-// extensions; nil if there is none. A log may answer with a full tile for a partial one, so only the first ct.TileWidth
+// extensions; nil if there is none. A log may answer with a full tile for a partial one, so only the first tile.Width
 // entries are read.
 func readDataTile(tile logclient.DataTile, next uint64) (entries []wagtenib.TileEntry, otherIndex *uint64, err error) {
 	content, ok := ct.FirstEntries(tile.Bytes, tile.Width)
