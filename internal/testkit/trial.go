@@ -1,4 +1,5 @@
-// Package testkit contains helpers for the tests of several packages.
+// Package testkit contains what the tests of several packages share: a CA, a log that can lie, a bucket in memory, a
+// PKCS#11 token, the tested program in a process of its own, and waiting.
 package testkit
 
 import (

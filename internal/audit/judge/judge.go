@@ -1,7 +1,7 @@
 // Package judge checks a log by the objects that it published in a folder and by the SCTs that it returned. It needs
 // only the log's public key. It is independent of the log's code: it uses no other package of this repository. The log
 // must be at rest, because a node that died after a swap leaves tiles that no head covers until another node continues.
-// Package judge holds the whole log in memory, so it is for tests.
+// It holds the whole log in memory.
 package judge
 
 import (
