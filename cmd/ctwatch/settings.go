@@ -18,11 +18,16 @@ import (
 	"wagtenib/internal/watch/watchstore"
 )
 
-// fileRules holds the rules for the config file.
+// byProgram says how alerts get to a mail server that needs a login.
+const byProgram = "write sendmail with the path of a program that logs in to the mail server, such as msmtp, or use " +
+	"webhook or command"
+
+// fileRules holds the rules for the config file, and what replaces the settings of earlier builds.
 var fileRules = settingsfile.Rules{
 	Only: []string{"config", "once"},
 	Several: []string{"name", "names", "certspotter-watchlist", "log", "mail", "webhook", "command", "expect-key",
 		"expect-issuer", "page-host"},
+	Removed: map[string]string{"mail-user": byProgram, "mail-password-file": byProgram, "mail-roots": byProgram},
 }
 
 // settings holds the values of the command line and of the config file.
