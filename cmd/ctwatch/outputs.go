@@ -18,7 +18,6 @@ type outputSettings struct {
 	sendmail           string
 	webhooks, commands []string
 	json               string
-	quiet              bool
 }
 
 // define defines the flags of the outputs.
@@ -33,7 +32,6 @@ func (o *outputSettings) define(flags *flag.FlagSet) {
 		"shell. May be given several times", appendTo(&o.commands))
 	flags.StringVar(&o.json, "json", "",
 		"`file` to which each alert is appended as a line of JSON; - is standard output")
-	flags.BoolVar(&o.quiet, "quiet", false, "write no alert to standard output")
 }
 
 // open opens the outputs. The caller must call close, also after an error.
@@ -49,7 +47,7 @@ func (o outputSettings) open(out io.Writer, contact string) (outputs []alert.Out
 		close = file.Close
 		outputs = append(outputs, lines)
 	}
-	if !o.quiet && o.json != "-" {
+	if o.json != "-" {
 		outputs = append(outputs, alert.NewTerminal(out))
 	}
 	add := func(output alert.Output, err error) error {

@@ -16,6 +16,7 @@ func TestRefusesRemovedSettings(t *testing.T) {
 		"mail-user you":             "write sendmail with the path of a program that logs in",
 		"mail-password-file secret": "or use webhook or command",
 		"mail-roots roots.pem":      "such as msmtp",
+		"quiet true":                "redirect standard output to /dev/null",
 	} {
 		name, value, _ := strings.Cut(setting, " ")
 		must(t, os.WriteFile(path, []byte("name example.org\n"+setting+"\n"), 0o600))

@@ -27,7 +27,8 @@ var fileRules = settingsfile.Rules{
 	Only: []string{"config", "once"},
 	Several: []string{"name", "names", "certspotter-watchlist", "log", "mail", "webhook", "command", "expect-key",
 		"expect-issuer", "page-host"},
-	Removed: map[string]string{"mail-user": byProgram, "mail-password-file": byProgram, "mail-roots": byProgram},
+	Removed: map[string]string{"mail-user": byProgram, "mail-password-file": byProgram, "mail-roots": byProgram,
+		"quiet": "redirect standard output to /dev/null, or write StandardOutput=null into the unit"},
 }
 
 // settings holds the values of the command line and of the config file.
