@@ -17,6 +17,7 @@ func TestRefusesRemovedSettings(t *testing.T) {
 		"mail-password-file secret": "or use webhook or command",
 		"mail-roots roots.pem":      "such as msmtp",
 		"quiet true":                "redirect standard output to /dev/null",
+		"search-bytes true":         "leave it out",
 	} {
 		name, value, _ := strings.Cut(setting, " ")
 		must(t, os.WriteFile(path, []byte("name example.org\n"+setting+"\n"), 0o600))

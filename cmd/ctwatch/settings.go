@@ -28,7 +28,9 @@ var fileRules = settingsfile.Rules{
 	Several: []string{"name", "names", "certspotter-watchlist", "log", "mail", "webhook", "command", "expect-key",
 		"expect-issuer", "page-host"},
 	Removed: map[string]string{"mail-user": byProgram, "mail-password-file": byProgram, "mail-roots": byProgram,
-		"quiet": "redirect standard output to /dev/null, or write StandardOutput=null into the unit"},
+		"quiet": "redirect standard output to /dev/null, or write StandardOutput=null into the unit",
+		"search-bytes": "leave it out, or have a program of command search each certificate: the line . of a file of " +
+			"certspotter-watchlist covers them all"},
 }
 
 // settings holds the values of the command line and of the config file.
@@ -39,7 +41,6 @@ type settings struct {
 	outputs  outputSettings
 	expected watchstore.Expected
 	unread   string
-	inBytes  bool
 	keepAll  bool
 	times    timeSettings
 	serve    serveSettings
@@ -118,8 +119,6 @@ func (s *settings) define(flags *flag.FlagSet) {
 	flags.StringVar(&s.unread, "unread", "all",
 		"certificates whose names cannot be read that cause an alert: all, `mentioned` (their bytes have a watched "+
 			"name) or none")
-	flags.BoolVar(&s.inBytes, "search-bytes", false,
-		"search the bytes of each certificate too, and not only its names. It finds many certificates of others")
 	flags.BoolVar(&s.keepAll, "keep-all", false,
 		"store every certificate of the logs, so that a name that is added later is found in all of them. For small "+
 			"logs")
