@@ -18,6 +18,7 @@ func TestRefusesRemovedSettings(t *testing.T) {
 		"mail-roots roots.pem":      "such as msmtp",
 		"quiet true":                "redirect standard output to /dev/null",
 		"search-bytes true":         "leave it out",
+		"keep-all true":             "write keep FOLDER",
 	} {
 		name, value, _ := strings.Cut(setting, " ")
 		must(t, os.WriteFile(path, []byte("name example.org\n"+setting+"\n"), 0o600))

@@ -136,7 +136,7 @@ func (s *settings) watch(ctx context.Context, out io.Writer, lines *eventlog.Lin
 
 func (s *settings) storeOptions(wake func()) watchstore.Options {
 	return watchstore.Options{Searcher: namesearch.NewSearcher(s.names), Expected: s.expected,
-		Unread: watchstore.Unread(s.unread), KeepAll: s.keepAll, Wake: wake}
+		Unread: watchstore.Unread(s.unread), Wake: wake}
 }
 
 // wake wakes each output, so that it looks for new alerts.
