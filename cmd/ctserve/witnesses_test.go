@@ -166,7 +166,7 @@ func TestWatchedWitness(t *testing.T) {
 	watches := func(keys string) (status int, text string) {
 		t.Helper()
 		at.write("witnesses", []byte(keys))
-		return runs("ctwatch", "run", "--once", "--quiet", "--listen=", "--from-start", "--name", "a.example", "--unread", "none",
+		return runs("ctwatch", "run", "--once", "--listen=", "--from-start", "--name", "a.example", "--unread", "none",
 			"--accepted-folder", at.path("accepted"),
 			"--witnesses", at.path("witnesses"), "--quorum", "2")
 	}

@@ -23,7 +23,7 @@ func TestWritesAcceptedHead(t *testing.T) {
 	log := serveLog(t, "log.example/2027")
 	log.fill(300)
 	folder := t.TempDir()
-	run := []string{"run", "--once", "--quiet", "--listen=", "--from-start", "--unread", "none",
+	run := []string{"run", "--once", "--listen=", "--from-start", "--unread", "none",
 		"--folder", filepath.Join(folder, "store"), "--accepted-folder", filepath.Join(folder, "accepted"),
 		"--name", "a.example", "--log", log.setting(true)}
 	if status, out, faults := ctwatch(t, run...); status != 0 {

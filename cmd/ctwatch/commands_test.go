@@ -99,8 +99,9 @@ func TestReadsAConfigFile(t *testing.T) {
 // what to write.
 func TestSaysWhatToWriteInTheFile(t *testing.T) {
 	path := filepath.Join(t.TempDir(), "settings")
-	for line, remedy := range map[string]string{"from-start": "write from-start true", "quiet yes": "write quiet true",
-		"pause 2 seconds": "a duration such as 2s", "silent-after": "a duration such as 2s"} {
+	for line, remedy := range map[string]string{"from-start": "write from-start true",
+		"from-start yes": "write from-start true", "pause 2 seconds": "a duration such as 2s",
+		"silent-after": "a duration such as 2s"} {
 		must(t, os.WriteFile(path, []byte("name example.org\n"+line+"\n"), 0o600))
 		status, _, faults := ctwatch(t, "run", "--config", path)
 		if status != statusUsage || !strings.Contains(faults, "line 2") || !strings.Contains(faults, remedy) {
@@ -308,7 +309,7 @@ func TestRunsUntilASignal(t *testing.T) {
 	ended := make(chan int, 1)
 	alerts := filepath.Join(folder, "alerts")
 	arguments := []string{"run", "--name", "example.org", "--folder", folder, "--log", log.setting(true), "--pause",
-		"1s", "--listen", "127.0.0.1:0", "--json", alerts, "--quiet"}
+		"1s", "--listen", "127.0.0.1:0", "--json", alerts}
 	go func() { ended <- program().Run(ctx, arguments, &faults, &faults) }()
 	testkit.Eventually(t, "the log is read to its end", func() bool {
 		status, out, _ := ctwatch(t, "health", "--folder", folder)
@@ -349,7 +350,7 @@ func TestSendsAtTheEnd(t *testing.T) {
 	ctx, stop := context.WithCancel(context.Background())
 	ended := make(chan int, 1)
 	arguments := []string{"run", "--from-start", "--name", "example.org", "--folder", t.TempDir(), "--log",
-		log.setting(true), "--listen=", "--webhook", hook.URL, "--quiet"}
+		log.setting(true), "--listen=", "--webhook", hook.URL}
 	go func() { ended <- program().Run(ctx, arguments, io.Discard, io.Discard) }()
 	if first := <-posted; first.Again {
 		t.Errorf("Again is set in the first alert: %+v", first)

@@ -42,7 +42,7 @@ func runFull(t *testing.T, folder, expected string, isLimited bool, makeRoom fun
 	}
 	log.add(testkit.NewAuthority("Test CA 1"), testkit.NewAuthority("Test CA 1").Issue("other.net"))
 	alerts := filepath.Join(t.TempDir(), "alerts")
-	arguments := []string{"run", "--once", "--from-start", "--quiet", "--name", "example.org", "--folder",
+	arguments := []string{"run", "--once", "--from-start", "--name", "example.org", "--folder",
 		filepath.Join(folder, "store"), "--json", alerts, "--log", log.setting(true)}
 	var out bytes.Buffer
 	program := testkit.Program(t, arguments...)

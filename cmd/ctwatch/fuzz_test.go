@@ -26,7 +26,7 @@ func FuzzSettings(f *testing.F) {
 	f.Add([]byte("name example.org\nname =www.example.org # exact\nname 192.0.2.7\npause 2s\nsilent-after 2h\n"))
 	f.Add([]byte("name bücher.example\nlog https://log.example/a " + key + "\nunread mentioned\n"))
 	f.Add([]byte("name a.b\nlog tiled+https://log.example/a " + key + " other.example\nexpect-issuer A CA\nquorum 2"))
-	f.Add([]byte("name a.b\nmail a@b.c\ncommand /bin/true x\nwebhook https://a.b\nlisten\nkeep-all true"))
+	f.Add([]byte("name a.b\nmail a@b.c\ncommand /bin/true x\nwebhook https://a.b\nlisten\nfrom-start true"))
 	f.Fuzz(func(t *testing.T, content []byte) {
 		path := filepath.Join(t.TempDir(), "settings")
 		must(t, os.WriteFile(path, content, 0o600))

@@ -21,7 +21,7 @@ func TestPageRefusesOtherHosts(t *testing.T) {
 	ctx, stop := context.WithCancel(context.Background())
 	var faults bytes.Buffer
 	ended := make(chan int, 1)
-	arguments := []string{"run", "--name", "example.org", "--folder", t.TempDir(), "--log", log.setting(true), "--quiet",
+	arguments := []string{"run", "--name", "example.org", "--folder", t.TempDir(), "--log", log.setting(true),
 		"--listen", address, "--page-host", "Watch.Example.org"}
 	go func() { ended <- program().Run(ctx, arguments, &faults, &faults) }()
 	ask := func(host, path string) int {

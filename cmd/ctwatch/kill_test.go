@@ -61,7 +61,7 @@ func TestKillsLoseNoAlert(t *testing.T) {
 	}
 	alerts := filepath.Join(folder, "alerts")
 	arguments := []string{"run", "--from-start", "--name", "example.org", "--folder", folder, "--pause", "1s", "--listen",
-		"", "--quiet", "--json", alerts, "--log", first.setting(true), "--log", second.setting(false)}
+		"", "--json", alerts, "--log", first.setting(true), "--log", second.setting(false)}
 	for round := range *kills {
 		if round == *kills/2 {
 			<-turn

@@ -221,7 +221,7 @@ func newWatchingList(t *testing.T) watchingList {
 	w := watchingList{filepath.Join(folder, "list.json"), filepath.Join(folder, "store"), filepath.Join(folder, "config"),
 		filepath.Join(folder, "alerts"), testkit.NewAuthority("Test CA 1"), serveLog(t, "a.example")}
 	must(t, os.WriteFile(w.config, []byte("name example.org\nfolder "+w.store+"\nlog-list "+w.list+
-		"\nlisten 127.0.0.1:0\npause 1s\nquiet true\njson "+w.alerts+"\n"), 0o600))
+		"\nlisten 127.0.0.1:0\npause 1s\njson "+w.alerts+"\n"), 0o600))
 	w.add("other.net")
 	return w
 }

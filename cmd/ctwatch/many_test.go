@@ -72,7 +72,7 @@ func TestReportsManyFindingsToACommand(t *testing.T) {
 // reportAll lets the program read a log with this number of issuances, and report them to an output.
 func reportAll(t *testing.T, count int, output ...string) {
 	t.Helper()
-	arguments := []string{"run", "--once", "--from-start", "--quiet", "--name", "example.org", "--folder", t.TempDir(),
+	arguments := []string{"run", "--once", "--from-start", "--name", "example.org", "--folder", t.TempDir(),
 		"--log", manyIssuances(t, count).setting(true)}
 	program := testkit.Program(t, append(arguments, output...)...)
 	began := time.Now()

@@ -15,32 +15,23 @@ import (
 type outputSettings struct {
 	mail               []string
 	mailFrom           string
-	carrier            alert.Carrier
+	sendmail           string
 	webhooks, commands []string
 	json               string
-	quiet              bool
 }
 
 // define defines the flags of the outputs.
 func (o *outputSettings) define(flags *flag.FlagSet) {
 	flags.Func("mail", "mail `address` for alerts. May be given several times", appendTo(&o.mail))
 	flags.StringVar(&o.mailFrom, "mail-from", "", "mail `address` of the sender; by default the first --mail")
-	flags.StringVar(&o.carrier.Place, "sendmail", "/usr/sbin/sendmail",
-		"`program` with the interface of sendmail, smtp://HOST:PORT (with TLS if the server offers STARTTLS), or "+
-			"smtps://HOST:PORT")
-	flags.StringVar(&o.carrier.User, "mail-user", "",
-		"`user` of the mail server. The password is only sent over TLS")
-	flags.StringVar(&o.carrier.PasswordFile, "mail-password-file", "",
-		"`file` with the password of the mail server, which only its owner may read")
-	flags.StringVar(&o.carrier.RootsFile, "mail-roots", "",
-		"`file` with the CAs, in PEM, of the mail server's certificate; by default those of the system")
+	flags.StringVar(&o.sendmail, "sendmail", "/usr/sbin/sendmail",
+		"`program` with the interface of sendmail, or smtp://127.0.0.1:25 for a mail server of this machine")
 	flags.Func("webhook", "`URL` to which each alert is posted as JSON. May be given several times",
 		appendTo(&o.webhooks))
 	flags.Func("command", "`program` and its arguments, separated by spaces, that is run for each alert without a "+
 		"shell. May be given several times", appendTo(&o.commands))
 	flags.StringVar(&o.json, "json", "",
 		"`file` to which each alert is appended as a line of JSON; - is standard output")
-	flags.BoolVar(&o.quiet, "quiet", false, "write no alert to standard output")
 }
 
 // open opens the outputs. The caller must call close, also after an error.
@@ -56,7 +47,7 @@ func (o outputSettings) open(out io.Writer, contact string) (outputs []alert.Out
 		close = file.Close
 		outputs = append(outputs, lines)
 	}
-	if !o.quiet && o.json != "-" {
+	if o.json != "-" {
 		outputs = append(outputs, alert.NewTerminal(out))
 	}
 	add := func(output alert.Output, err error) error {
@@ -71,7 +62,7 @@ func (o outputSettings) open(out io.Writer, contact string) (outputs []alert.Out
 		if from == "" {
 			from = o.mail[0]
 		}
-		if err := add(alert.NewMail(from, o.mail, o.carrier)); err != nil {
+		if err := add(alert.NewMail(from, o.mail, o.sendmail)); err != nil {
 			return nil, close, err
 		}
 	}

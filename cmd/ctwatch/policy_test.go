@@ -25,7 +25,7 @@ func TestRequiresCosignatures(t *testing.T) {
 	folder, keys := t.TempDir(), filepath.Join(t.TempDir(), "witnesses")
 	must(t, os.WriteFile(keys, []byte(verifier+"\n"), 0o600))
 	run := func(store string, more ...string) []string {
-		return append([]string{"run", "--once", "--quiet", "--listen=", "--folder", filepath.Join(folder, store), "--name",
+		return append([]string{"run", "--once", "--listen=", "--folder", filepath.Join(folder, store), "--name",
 			"a.example", "--log", log.setting(true)}, more...)
 	}
 	policy := []string{"--witnesses", keys, "--quorum", "1"}

@@ -22,7 +22,7 @@ func TestReloadsSettings(t *testing.T) {
 	log.add(authority, authority.Issue("other.net"))
 	config, first, second := filepath.Join(folder, "settings"), filepath.Join(folder, "1"), filepath.Join(folder, "2")
 	write := func(alerts string, names ...string) {
-		must(t, os.WriteFile(config, []byte(fmt.Sprintf("name %s\nlog %s\nfolder %s\npause 1s\nlisten\njson %s\nquiet true\n",
+		must(t, os.WriteFile(config, []byte(fmt.Sprintf("name %s\nlog %s\nfolder %s\npause 1s\nlisten\njson %s\n",
 			strings.Join(names, "\nname "), log.setting(true), folder, alerts)), 0o600))
 	}
 	write(first, "example.org")

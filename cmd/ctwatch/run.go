@@ -135,13 +135,8 @@ func (s *settings) watch(ctx context.Context, out io.Writer, lines *eventlog.Lin
 }
 
 func (s *settings) storeOptions(wake func()) watchstore.Options {
-	var options []namesearch.Option
-	if s.inBytes {
-		options = append(options, namesearch.WithBytes())
-	}
-	return watchstore.Options{Searcher: namesearch.NewSearcher(s.names, options...), Expected: s.expected,
-		Unread:  watchstore.Unread(s.unread),
-		KeepAll: s.keepAll, Wake: wake}
+	return watchstore.Options{Searcher: namesearch.NewSearcher(s.names), Expected: s.expected,
+		Unread: watchstore.Unread(s.unread), Wake: wake}
 }
 
 // wake wakes each output, so that it looks for new alerts.

@@ -140,7 +140,7 @@ func TestOnceSendsWhileALogIsSlow(t *testing.T) {
 		}
 		return false
 	})
-	status, out, faults := ctwatch(t, "run", "--once", "--from-start", "--name", "example.org", "--quiet", "--webhook",
+	status, out, faults := ctwatch(t, "run", "--once", "--from-start", "--name", "example.org", "--webhook",
 		hook.URL, "--folder", t.TempDir(), "--log", quick.setting(true), "--log", slow.setting(false))
 	if status != statusFoundByOnce || first != "quick.example.org" || <-received != "slow.example.org" {
 		t.Errorf("status %d, first %q: %s%s", status, first, out, faults)
@@ -164,7 +164,7 @@ func TestOnceSendsWaitingAlerts(t *testing.T) {
 	defer hook.Close()
 	log := serveLog(t, "a.example")
 	log.add(authority, authority.Issue("shop.example.org"))
-	arguments := []string{"run", "--once", "--from-start", "--name", "example.org", "--quiet", "--webhook", hook.URL,
+	arguments := []string{"run", "--once", "--from-start", "--name", "example.org", "--webhook", hook.URL,
 		"--folder", t.TempDir(), "--log", log.setting(true)}
 	for len(posted) < 2 {
 		if status, out, faults := ctwatch(t, arguments...); status != statusFault {

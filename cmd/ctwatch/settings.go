@@ -18,11 +18,20 @@ import (
 	"wagtenib/internal/watch/watchstore"
 )
 
-// fileRules holds the rules for the config file.
+// byProgram says how alerts get to a mail server that needs a login.
+const byProgram = "write sendmail with the path of a program that logs in to the mail server, such as msmtp, or use " +
+	"webhook or command"
+
+// fileRules holds the rules for the config file, and what replaces the settings of earlier builds.
 var fileRules = settingsfile.Rules{
 	Only: []string{"config", "once"},
 	Several: []string{"name", "names", "certspotter-watchlist", "log", "mail", "webhook", "command", "expect-key",
 		"expect-issuer", "page-host"},
+	Removed: map[string]string{"mail-user": byProgram, "mail-password-file": byProgram, "mail-roots": byProgram,
+		"quiet": "redirect standard output to /dev/null, or write StandardOutput=null into the unit",
+		"search-bytes": "leave it out, or have a program of command search each certificate: the line . of a file of " +
+			"certspotter-watchlist covers them all",
+		"keep-all": "write keep FOLDER for a mirror of each tiled log, which another run can search from its start"},
 }
 
 // settings holds the values of the command line and of the config file.
@@ -33,8 +42,6 @@ type settings struct {
 	outputs  outputSettings
 	expected watchstore.Expected
 	unread   string
-	inBytes  bool
-	keepAll  bool
 	times    timeSettings
 	serve    serveSettings
 }
@@ -112,11 +119,6 @@ func (s *settings) define(flags *flag.FlagSet) {
 	flags.StringVar(&s.unread, "unread", "all",
 		"certificates whose names cannot be read that cause an alert: all, `mentioned` (their bytes have a watched "+
 			"name) or none")
-	flags.BoolVar(&s.inBytes, "search-bytes", false,
-		"search the bytes of each certificate too, and not only its names. It finds many certificates of others")
-	flags.BoolVar(&s.keepAll, "keep-all", false,
-		"store every certificate of the logs, so that a name that is added later is found in all of them. For small "+
-			"logs")
 	flags.DurationVar(&s.times.silent, "silent-after", 24*time.Hour,
 		"time after which a log or a log list that cannot be read causes an alert; at least 1m")
 	flags.Func("renewals", "`time`, such as 7d or 36h, before the end of a certificate for an exactly watched name "+

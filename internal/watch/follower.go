@@ -81,17 +81,14 @@ const maxAccusations = 16
 // NewFollower returns a follower of a log. It returns an error if the log's address or key is wrong, or if its mirror
 // cannot be opened.
 func NewFollower(log Log, keeper Keeper, options Options) (*Follower, error) {
-	if _, err := ct.ParseKey(log.PublicKey); err != nil {
-		return nil, fmt.Errorf("watch: %s: %w", log.Name, err)
+	reader, err := NewReader(log, options.Client)
+	if err != nil {
+		return nil, err
 	}
 	if LogID(wagtenib.LogID(log.PublicKey)) != log.ID {
 		return nil, fmt.Errorf("watch: %s: the log's ID is not the hash of its key (RFC 6962, section 3.2)", log.Name)
 	}
-	client, err := logclient.New(log.URL, options.Client)
-	if err != nil {
-		return nil, fmt.Errorf("watch: %s: %w", log.Name, err)
-	}
-	f := &Follower{log: log, source: newSource(log, client), keeper: keeper, options: options, clock: options.Client.Clock,
+	f := &Follower{log: log, source: reader.source, keeper: keeper, options: options, clock: options.Client.Clock,
 		memory: memory{accused: map[[sha256.Size]byte]bool{}, count: map[string]int{}, placed: map[[sha256.Size]byte]Head{},
 			foreign: map[[sha256.Size]byte]bool{}},
 		progress: progress{Status: Status{Log: log}}}

@@ -257,7 +257,7 @@ class Trial:
     def watch(self):
         """ctwatch reads the log to its end, and puts the accepted head where the witness reads it."""
         self.bare.run("mkdir -p /var/lib/ctwatch", quiet=True)
-        self.bare.run(f'ctwatch run --once --from-start --quiet --listen= --name example.net --unread none --folder /var/lib/ctwatch --accepted-folder /var/lib/ctwatch/accepted --log "tiled+{SITE} 2027h1.pem"')
+        self.bare.run(f'ctwatch run --once --from-start --listen= --name example.net --unread none --folder /var/lib/ctwatch --accepted-folder /var/lib/ctwatch/accepted --log "tiled+{SITE} 2027h1.pem"')
 
     def cosigned(self, said):
         kept = (self.bare.folder / "root/cosigned").read_text()

@@ -151,7 +151,7 @@ def spot(program, lists, folder, names, sizes):
 def watch(program, folder, names, logs, urls):
     """The reports of ctwatch: its alerts."""
     (folder / "names").write_text("".join(f"{name}\n" for name in names))
-    words = [program, "run", "--once", "--from-start", "--quiet", "--folder", folder / "ctwatch", "--json", folder / "alerts", "--certspotter-watchlist", folder / "names"]
+    words = [program, "run", "--once", "--from-start", "--folder", folder / "ctwatch", "--json", folder / "alerts", "--certspotter-watchlist", folder / "names"]
     for log, url in zip(logs, urls):
         words += ["--log", f"{url} {base64.b64encode(log.public).decode()}"]
     ran = subprocess.run(words, capture_output=True, text=True, timeout=patience(sum(len(log.leaves) for log in logs)))

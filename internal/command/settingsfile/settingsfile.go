@@ -23,6 +23,8 @@ type Rules struct {
 	Only []string
 	// Several has the flags that may be in several lines of the file, and on the command line as well.
 	Several []string
+	// Removed has the flags of earlier builds, each with what the user can write or do in its place.
+	Removed map[string]string
 }
 
 // Flags returns the flags of a program or of one of its commands, which has this name. Errors in the arguments are
@@ -74,10 +76,16 @@ func ParseArguments(flags *flag.FlagSet, arguments []string) error {
 // reason.
 var refusal = regexp.MustCompile(`(?s)^invalid (?:boolean )?value ("(?:[^"\\]|\\.)*") for (?:flag )?-([^:]*): (.*)$`)
 
+// unknownFlag is the text with which package flag refuses a flag that is not defined. The flag's name follows.
+const unknownFlag = "flag provided but not defined: -"
+
 // Parse sets flags from the arguments of a command line, which must have nothing else. It sets the other flags from the
 // file that the flag config names, if there is one. If help was requested it returns flag.ErrHelp.
 func (r Rules) Parse(flags *flag.FlagSet, arguments []string) error {
 	if err := ParseArguments(flags, arguments); err != nil {
+		if name, isUnknown := strings.CutPrefix(err.Error(), unknownFlag); isUnknown && r.Removed[name] != "" {
+			return fmt.Errorf("there is no setting --%s any more (%s)", name, r.Removed[name])
+		}
 		return err
 	}
 	if flags.NArg() > 0 {
@@ -127,6 +135,8 @@ func (r Rules) read(flags *flag.FlagSet, path string) error {
 		switch {
 		case name == "":
 			continue
+		case r.Removed[name] != "":
+			return fmt.Errorf("%s, line %d: there is no setting %s any more (%s)", path, number, name, r.Removed[name])
 		case flags.Lookup(name) == nil || has(r.Only, name):
 			return fmt.Errorf("%s, line %d: there is no setting %q", path, number, name)
 		case seen[name] > 0 && !several:

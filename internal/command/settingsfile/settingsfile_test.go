@@ -16,7 +16,8 @@ import (
 // TestParse checks that the command line counts before the file, that lines of a flag that may have several add up, and
 // that the error for a wrong line names it.
 func TestParse(t *testing.T) {
-	rules := Rules{Only: []string{"config"}, Several: []string{"log"}}
+	rules := Rules{Only: []string{"config"}, Several: []string{"log"},
+		Removed: map[string]string{"weight": "write size"}}
 	for _, c := range []struct{ text, arguments, size, logs, fault string }{
 		{"size 3 # three\n\n# a comment\nlog a\nlog  b c ", "", "3", "[a b c]", ""},
 		{"size 3\nlog a", "--size 4 --log z", "4", "[z a]", ""},
@@ -24,6 +25,10 @@ func TestParse(t *testing.T) {
 		{"size 3\nother 4", "", "3", "[]", `line 2: there is no setting "other"`},
 		{"size 3\n\nsize 4", "", "3", "[]", "line 3: size is in line 1 already"},
 		{"size three", "", "0", "[]", "line 1: size: "},
+		{"size 3\nweight 4", "", "3", "[]", "line 2: there is no setting weight any more (write size)"},
+		{"weight 4", "--size 4", "4", "[]", "line 1: there is no setting weight any more (write size)"},
+		{"size 3", "--weight=4", "0", "[]", "there is no setting --weight any more (write size)"},
+		{"size 3", "-weight 4", "0", "[]", "there is no setting --weight any more (write size)"},
 		{"size 3\n" + strings.Repeat("x", 1<<17), "", "3", "[]", "token too long"},
 		{"size 3", "--size 4 more", "4", "[]", `"more" is not expected`},
 		{"size 3", "--other", "0", "[]", "not defined: -other"},

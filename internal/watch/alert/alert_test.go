@@ -102,7 +102,7 @@ func TestMailIsPlainText(t *testing.T) {
 		folder := t.TempDir()
 		path := program(t, folder, "sendmail", `echo "$@" > "`+folder+`/arguments"; cat > "`+folder+`/mail"`)
 		output, err := alert.NewMail("owner@example.org", []string{"owner@example.org", "other@example.org"},
-			alert.Carrier{Place: path})
+			path)
 		must(t, err)
 		if sent, _, err := output.Send(context.Background(), []alert.Alert{certificateOf(text),
 			certificateOf(text)}); sent != 2 || err != nil {
@@ -156,14 +156,14 @@ func checkMail(t *testing.T, content string) {
 func TestRefusesMailAddresses(t *testing.T) {
 	for _, address := range []string{"", "owner", "-oQ@example.org", "a@example.org\nBcc: b@example.org",
 		"A <a@example.org>", "a@example.org, b@example.org"} {
-		if _, err := alert.NewMail("owner@example.org", []string{address}, alert.Carrier{Place: "/bin/true"}); err == nil ||
+		if _, err := alert.NewMail("owner@example.org", []string{address}, "/bin/true"); err == nil ||
 			!strings.Contains(err.Error(), "write NAME@HOST") {
 			t.Errorf("%q: %v", address, err)
 		}
 	}
 	if _, err := alert.NewMail("owner@example.org", []string{"owner@example.org"},
-		alert.Carrier{Place: "/does/not/exist"}); err == nil ||
-		!strings.Contains(err.Error(), "write smtp://HOST:25") {
+		"/does/not/exist"); err == nil ||
+		!strings.Contains(err.Error(), "smtp://127.0.0.1:25") {
 		t.Error(err)
 	}
 }

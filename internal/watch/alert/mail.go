@@ -30,19 +30,9 @@ type Mail struct {
 	now   func() time.Time
 }
 
-// Carrier describes how mail leaves this machine.
-type Carrier struct {
-	// Place is the path of a program with the interface of sendmail, smtp://HOST:PORT or smtps://HOST:PORT.
-	Place string
-	// User and PasswordFile are for the mail server. Both are empty if it requires no authentication.
-	User, PasswordFile string
-	// RootsFile contains the certificates of the CAs, in PEM, that may issue the mail server's certificate. If RootsFile
-	// is empty, the CAs of the system may.
-	RootsFile string
-}
-
-// NewMail returns an output that sends mail from an address to others.
-func NewMail(from string, to []string, carrier Carrier) (*Mail, error) {
+// NewMail returns an output that sends mail from an address to others. sendmail is the path of a program with the
+// interface of sendmail, or smtp://HOST:PORT for a mail server of this machine.
+func NewMail(from string, to []string, sendmail string) (*Mail, error) {
 	for _, address := range append([]string{from}, to...) {
 		if parsed, err := mail.ParseAddress(address); err != nil || parsed.Address != address ||
 			strings.HasPrefix(address, "-") {
@@ -53,18 +43,18 @@ func NewMail(from string, to []string, carrier Carrier) (*Mail, error) {
 		return nil, errors.New("mail has no address (write NAME@HOST)")
 	}
 	m := &Mail{from: from, to: to, now: time.Now}
-	server, found, err := newServer(carrier)
+	address, isServer, err := loopbackServer(sendmail)
 	if err != nil {
 		return nil, err
 	}
-	if found {
-		m.carry = server.carry
+	if isServer {
+		m.carry = bySMTP(address)
 		return m, nil
 	}
-	path, err := exec.LookPath(carrier.Place)
+	path, err := exec.LookPath(sendmail)
 	if err != nil {
-		return nil, fmt.Errorf("sendmail %q cannot be run: %w (install a mail server, or write smtp://HOST:25)",
-			carrier.Place, err)
+		return nil, fmt.Errorf("sendmail %q cannot be run: %w (install a program with the interface of sendmail, or write "+
+			"smtp://127.0.0.1:25 for a mail server of this machine)", sendmail, err)
 	}
 	m.carry = bySendmail(path)
 	return m, nil
@@ -148,6 +138,6 @@ func sandboxHint() string {
 	if err != nil || !bytes.Contains(status, []byte("\nNoNewPrivs:\t1\n")) {
 		return ""
 	}
-	return " (the sandbox keeps sendmail from its group or user: write sendmail smtp://HOST:25, or add the drop-in of " +
+	return " (the sandbox keeps sendmail from its group or user: write sendmail smtp://127.0.0.1:25, or add the drop-in of " +
 		"docs/WATCH.md)"
 }

@@ -67,7 +67,7 @@ func talk(connection net.Conn, refuses string) []string {
 func TestSendsMailBySMTP(t *testing.T) {
 	address, got := mailServer(t, "")
 	output, err := alert.NewMail("owner@example.org", []string{"owner@example.org", "other@example.org"},
-		alert.Carrier{Place: "smtp://" + address})
+		"smtp://"+address)
 	must(t, err)
 	if sent, _, err := output.Send(context.Background(),
 		[]alert.Alert{certificateOf("\r\n.\r\nRCPT TO:<victim@example.net>")}); sent != 1 || err != nil {
@@ -91,15 +91,25 @@ func TestReportsRefusedMail(t *testing.T) {
 	for _, refuses := range []string{"MAIL", "RCPT", "DATA", "."} {
 		address, _ := mailServer(t, refuses)
 		output, err := alert.NewMail("owner@example.org", []string{"owner@example.org"},
-			alert.Carrier{Place: "smtp://" + address})
+			"smtp://"+address)
 		must(t, err)
 		if sent, _, err := output.Send(context.Background(), []alert.Alert{certificateOf("a")}); sent != 0 ||
 			err == nil || !strings.Contains(err.Error(), "550") {
 			t.Errorf("%s is refused: %d sent: %v", refuses, sent, err)
 		}
 	}
-	if _, err := alert.NewMail("owner@example.org", []string{"owner@example.org"},
-		alert.Carrier{Place: "smtp://mail.example"}); err == nil || !strings.Contains(err.Error(), "smtp://HOST:25") {
-		t.Error(err)
+}
+
+// TestRefusesMailServersElsewhere: NewMail refuses a mail server that is not this machine, TLS, and an address without a
+// port. The error says what to write.
+func TestRefusesMailServersElsewhere(t *testing.T) {
+	for place, isRight := range map[string]bool{"smtp://127.0.0.1:25": true, "smtp://[::1]:25": true,
+		"smtp://localhost:587": true, "smtp://mail.example:25": false, "smtp://192.0.2.7:25": false,
+		"smtp://localhost.example:25": false, "smtp://127.0.0.1": false, "smtp://127.0.0.1:": false, "smtp://:25": false, "smtp://": false,
+		"smtps://127.0.0.1:465": false} {
+		_, err := alert.NewMail("owner@example.org", []string{"owner@example.org"}, place)
+		if (err == nil) != isRight || err != nil && !strings.Contains(err.Error(), "write smtp://127.0.0.1:25, or") {
+			t.Errorf("%s: %v", place, err)
+		}
 	}
 }

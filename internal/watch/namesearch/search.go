@@ -16,7 +16,7 @@ const (
 	InCommonName Place = "cn"         // the library finds that the watched name covers a common name
 	LikeAltName  Place = "like-san"   // this package finds that a name of subjectAltName may match
 	LikeCommon   Place = "like-cn"    // this package finds that a common name may match
-	InBytes      Place = "bytes"      // the library finds the watched name only in the bytes of the certificate
+	InBytes      Place = "bytes"      // the library finds the watched name in bytes whose names cannot be read
 	Everywhere   Place = "everything" // the watch list selects every certificate
 )
 
@@ -42,18 +42,10 @@ type Searcher struct {
 	list    wagtenib.WatchList
 	indexes []int      // the index in names of each name of list
 	labels  [][]string // the labels of the domain of each of names
-	inBytes bool
 }
 
-// Option changes how a Searcher searches.
-type Option func(*Searcher)
-
-// WithBytes lets a Searcher search the bytes of every certificate. Without it, only the bytes of a certificate whose
-// names cannot be read are searched. The bytes of many other certificates contain a short name, or the host of a CA.
-func WithBytes() Option { return func(s *Searcher) { s.inBytes = true } }
-
 // NewSearcher returns a searcher for these names.
-func NewSearcher(names []Name, options ...Option) *Searcher {
+func NewSearcher(names []Name) *Searcher {
 	s := &Searcher{names: names}
 	var patterns []string
 	for i, name := range names {
@@ -63,9 +55,6 @@ func NewSearcher(names []Name, options ...Option) *Searcher {
 		s.labels = append(s.labels, strings.Split(name.domain, "."))
 	}
 	s.list = wagtenib.NewWatchList(patterns)
-	for _, option := range options {
-		option(s)
-	}
 	return s
 }
 
@@ -74,7 +63,8 @@ func (s *Searcher) Names() []Name { return s.names }
 
 // Search searches a certificate (wagtenib.X509Entry), or the TBSCertificate of a precertificate
 // (wagtenib.PrecertEntry), both in DER. The error is nil or wagtenib.ErrMemory. If the certificate cannot be read, the
-// Result has a Fault.
+// Result has a Fault, and the bytes are searched: those of many other certificates contain a short name, or the host of
+// a CA.
 func (s *Searcher) Search(entryType wagtenib.EntryType, certificate []byte) (Result, error) {
 	names, err := wagtenib.CertificateNames(entryType, certificate)
 	if errors.Is(err, wagtenib.ErrMemory) {
@@ -101,11 +91,6 @@ func (s *Searcher) Search(entryType wagtenib.EntryType, certificate []byte) (Res
 		}
 	}
 	s.addReadings(places, names)
-	if s.inBytes {
-		if err := s.addBytes(places, certificate); err != nil {
-			return Result{}, err
-		}
-	}
 	return Result{Names: names, Matches: s.matches(places)}, nil
 }
 

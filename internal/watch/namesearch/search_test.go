@@ -184,23 +184,14 @@ func TestFindsAddresses(t *testing.T) {
 	}
 }
 
-// TestSearchesBytesOnlyWithTheOption: a watched name in the organization is found only with the option WithBytes.
-func TestSearchesBytesOnlyWithTheOption(t *testing.T) {
+// TestSearchesNoBytesOfReadableNames: a watched name that is only in the organization of a certificate whose names can
+// be read is not found.
+func TestSearchesNoBytesOfReadableNames(t *testing.T) {
 	one := testkit.NewAuthority("Test CA 1").IssueNames(pkix.Name{Organization: []string{"Friends of EXAMPLE.org"}},
 		dns("other.net")...)
-	watched := parseAll(t, "example.org", "absent.example")
-	for _, test := range []struct {
-		searcher *namesearch.Searcher
-		want     []namesearch.Match
-	}{
-		{namesearch.NewSearcher(watched), nil},
-		{namesearch.NewSearcher(watched, namesearch.WithBytes()), []namesearch.Match{{Name: watched[0],
-			Place: namesearch.InBytes}}},
-	} {
-		result, err := test.searcher.Search(wagtenib.X509Entry, one.Certificate.Raw)
-		if err != nil || !slices.Equal(result.Matches, test.want) {
-			t.Errorf("%v %v", result.Matches, err)
-		}
+	result, err := namesearch.NewSearcher(parseAll(t, "example.org")).Search(wagtenib.X509Entry, one.Certificate.Raw)
+	if err != nil || result.Fault != nil || len(result.Matches) != 0 {
+		t.Errorf("%+v %v", result, err)
 	}
 }
 

@@ -35,6 +35,12 @@ func TestFindsNamesThatAreAddedLater(t *testing.T) {
 	authority, folder := testkit.NewAuthority("Test CA 1"), t.TempDir()
 	both, only, neither := authority.Issue("a.example.org", "b.example.net"), authority.Issue("c.example.net"),
 		authority.Issue("d.example.com")
+	earlier, err := watchstore.Open(folder, watchstore.Options{Searcher: everything()})
+	must(t, err)
+	must(t, earlier.Keep(logOf(0), watch.State{}, entriesOf(only, 0)))
+	must(t, earlier.Keep(logOf(0), watch.State{}, entriesOf(neither, 2)))
+	must(t, earlier.Close())
+	forgetWatched(t, folder)
 	for run, test := range []struct {
 		names  []string
 		alerts []string
@@ -44,13 +50,11 @@ func TestFindsNamesThatAreAddedLater(t *testing.T) {
 		{[]string{"example.net"}, []string{"a.example.org", "c.example.net"}},
 		{[]string{"example.net", "example.com"}, []string{"a.example.org", "c.example.net", "d.example.com"}},
 	} {
-		store, err := watchstore.Open(folder, watchstore.Options{Searcher: searcher(test.names...), KeepAll: true})
+		store, err := watchstore.Open(folder, watchstore.Options{Searcher: searcher(test.names...)})
 		must(t, err)
 		must(t, store.UseOutputs([]string{"test"}))
 		if run == 0 {
-			for i, one := range []testkit.Issued{both, only, neither} {
-				must(t, store.Keep(logOf(0), watch.State{}, entriesOf(one, uint64(2*i))))
-			}
+			must(t, store.Keep(logOf(0), watch.State{}, entriesOf(both, 4)))
 		}
 		var names []string
 		for _, one := range next(t, store) {
@@ -77,12 +81,13 @@ func TestFindsAddedNamesInEveryCertificate(t *testing.T) {
 		entries = append(entries, watch.Entry{Index: uint64(i), Type: wagtenib.X509Entry,
 			Certificate: bytes.ReplaceAll(der, []byte("h0000.example.org"), []byte(host))})
 	}
-	store, err := watchstore.Open(folder, watchstore.Options{KeepAll: true})
+	store, err := watchstore.Open(folder, watchstore.Options{Searcher: everything()})
 	must(t, err)
 	must(t, store.UseOutputs([]string{"test"}))
 	must(t, store.Keep(logOf(0), watch.State{}, entries))
 	must(t, store.Close())
-	store = open(t, folder, watchstore.Options{Searcher: searcher("example.org"), KeepAll: true})
+	forgetWatched(t, folder)
+	store = open(t, folder, watchstore.Options{Searcher: searcher("example.org")})
 	alerts, err := store.Next("test", 2*many)
 	must(t, err)
 	for i, one := range alerts {
@@ -346,7 +351,7 @@ func TestKeepsACertificateWithManyNames(t *testing.T) {
 // name finds only itself and wildcards over it. Both find only certificates that are valid at the time of the query.
 func TestFindsByNameAndTime(t *testing.T) {
 	authority := testkit.NewAuthority("Test CA 1")
-	store := open(t, t.TempDir(), watchstore.Options{KeepAll: true})
+	store := open(t, t.TempDir(), watchstore.Options{Searcher: everything()})
 	for i, host := range []string{"example.org", "www.example.org", "*.example.org", "*.org", "notexample.org",
 		"example.org.evil.net", "a.b.example.org", "exampleXorg", "*.www.example.org"} {
 		must(t, store.Keep(logOf(0), watch.State{}, entriesOf(authority.Issue(host), uint64(2*i))))

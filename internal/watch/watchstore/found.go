@@ -42,8 +42,7 @@ type found struct {
 	tbs      []byte // the TBSCertificate of a precertificate, from which the names are read; nil for a certificate
 }
 
-// search returns the entries that must be stored: those with a watched name, those that cannot be read, and with the
-// option KeepAll all others.
+// search returns the entries that must be stored: those with a watched name, and those that cannot be read.
 func (s *Store) search(entries []watch.Entry) ([]found, error) {
 	var all []found
 	for i := range entries {
@@ -57,7 +56,7 @@ func (s *Store) search(entries []watch.Entry) ([]found, error) {
 		if err != nil {
 			return nil, err
 		}
-		if len(result.Matches) > 0 || result.Fault != nil || s.options.KeepAll {
+		if len(result.Matches) > 0 || result.Fault != nil {
 			all = append(all, foundIn(entry, result))
 		}
 	}

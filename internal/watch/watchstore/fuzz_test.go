@@ -28,7 +28,7 @@ func FuzzKeep(f *testing.F) {
 		f.Add(false, false, "a log\x1b", one.Certificate.Raw, []byte(nil))
 		f.Add(false, true, "", one.Certificate.Raw[:100], []byte(nil))
 	}
-	store := open(f, f.TempDir(), watchstore.Options{Searcher: searcher("example.org"), KeepAll: true})
+	store := open(f, f.TempDir(), watchstore.Options{Searcher: everything()})
 	must(f, store.UseOutputs([]string{"test"}))
 	index := uint64(0)
 	f.Fuzz(func(t *testing.T, isPrecertificate, isFaulty bool, name string, certificate, precertificate []byte) {

@@ -66,7 +66,6 @@ type Options struct {
 	Searcher *namesearch.Searcher
 	Expected Expected
 	Unread   Unread           // UnreadAll if it is empty
-	KeepAll  bool             // certificates without a watched name are stored too
 	Wake     func()           // called after an alert was stored; must return at once; may be nil
 	Now      func() time.Time // time.Now if it is nil
 }

@@ -2,8 +2,12 @@ package watchstore_test
 
 import (
 	"crypto/sha256"
+	"database/sql"
 	"encoding/hex"
+	"errors"
+	"path/filepath"
 	"slices"
+	"strings"
 	"testing"
 
 	"wagtenib/bindings/go/wagtenib"
@@ -46,6 +50,25 @@ func searcher(names ...string) *namesearch.Searcher {
 		watched = append(watched, one)
 	}
 	return namesearch.NewSearcher(watched)
+}
+
+// everything returns a searcher that finds example.org and the names below it, and matches every certificate.
+func everything() *namesearch.Searcher {
+	watched, err := namesearch.ParseCertspotterList(strings.NewReader(".\n.example.org\n"))
+	if err != nil {
+		panic(err)
+	}
+	return namesearch.NewSearcher(watched)
+}
+
+// forgetWatched deletes the watched names, their matches and the alerts from a store, which must be closed. It then has
+// certificates without a watched name, as the store of an earlier build with the setting keep-all.
+func forgetWatched(t testing.TB, folder string) {
+	t.Helper()
+	db, err := sql.Open("sqlite3", filepath.Join(folder, watchstore.FileName))
+	must(t, err)
+	_, err = db.Exec("delete from alerts; delete from matches; delete from watched")
+	must(t, errors.Join(err, db.Close()))
 }
 
 func open(t testing.TB, folder string, options watchstore.Options) *watchstore.Store {
@@ -123,7 +146,7 @@ func TestKeepsAPrecertificateForEachIssuance(t *testing.T) {
 	authority, folder := testkit.NewAuthority("Test CA 1"), t.TempDir()
 	first, second := entriesOf(authority.Issue("a.other.net"), 0)[:1], entriesOf(authority.Issue("b.example.org"), 1)[:1]
 	first[0].Precertificate = second[0].Precertificate
-	store, err := watchstore.Open(folder, watchstore.Options{KeepAll: true})
+	store, err := watchstore.Open(folder, watchstore.Options{Searcher: everything()})
 	must(t, err)
 	must(t, store.UseOutputs([]string{"test"}))
 	must(t, store.Keep(logOf(0), watch.State{Read: 1}, first))
@@ -135,7 +158,8 @@ func TestKeepsAPrecertificateForEachIssuance(t *testing.T) {
 		t.Errorf("%+v", found)
 	}
 	must(t, store.Close())
-	store = open(t, folder, watchstore.Options{Searcher: searcher("example.org"), KeepAll: true})
+	forgetWatched(t, folder)
+	store = open(t, folder, watchstore.Options{Searcher: searcher("example.org")})
 	if alerts, err := store.Next("test", 9); err != nil || len(alerts) != 1 ||
 		alerts[0].Certificate.Names[0] != "b.example.org" || alerts[0].Certificate.SHA256 != hex.EncodeToString(kept[:]) {
 		t.Errorf("%+v %v", alerts, err)
