@@ -6,6 +6,7 @@ import (
 	"fmt"
 	"io"
 	"slices"
+	"strings"
 
 	"wagtenib/internal/audit"
 	"wagtenib/internal/logclient"
@@ -28,13 +29,22 @@ func runCompare(ctx context.Context, arguments []string, out io.Writer) error {
 	if err != nil {
 		return err
 	}
+	isURL := strings.HasPrefix(arguments[0], "https://") || strings.HasPrefix(arguments[0], "http://")
+	if err := checkExists(arguments[0]); !isURL && err != nil {
+		return err
+	}
 	client, logs, err := a.open(ctx)
 	if err != nil {
 		return err
 	}
 	seen, err := audit.ReadHeads(ctx, arguments[0], client)
-	if err != nil {
+	switch {
+	case err != nil && isURL:
+		return &statusError{statusUnread, fmt.Sprintf("ctaudit: %s: %v", arguments[0], err)}
+	case err != nil:
 		return err
+	case !hasHead(seen):
+		return fmt.Errorf("%w: %s has no tree head (give checkpoints, or answers to get-sth)", errUsage, arguments[0])
 	}
 	c := comparison{asking: a, client: client, out: out, left: seen}
 	for _, log := range logs {
@@ -43,6 +53,16 @@ func runCompare(ctx context.Context, arguments []string, out io.Writer) error {
 		}
 	}
 	return c.end()
+}
+
+// hasHead reports whether a place has a head.
+func hasHead(seen map[string][][]byte) bool {
+	for _, heads := range seen {
+		if len(heads) > 0 {
+			return true
+		}
+	}
+	return false
 }
 
 // comparison holds the state of a run of ctaudit compare.
@@ -122,7 +142,8 @@ func (c *comparison) end() error {
 	case len(c.faults) > 0:
 		return &statusError{statusUnread, errors.Join(c.faults...).Error()}
 	case c.consistent == 0:
-		return &statusError{statusUnknownLog, "ctaudit: no log that was given signed any of these heads"}
+		return &statusError{statusUnknownLog, "ctaudit: no log that was given signed any of these heads (name a " +
+			"log that has checkpoints as tiled+ADDRESS, with its origin, and one that has get-sth without tiled+)"}
 	}
 	return nil
 }

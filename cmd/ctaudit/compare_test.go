@@ -56,3 +56,33 @@ func TestWritesNoEvidenceToAnOldFolder(t *testing.T) {
 		}
 	}
 }
+
+// TestRefusesPlacesWithoutHeads checks that a place that does not exist or has no tree head is refused with its name. A
+// checkpoint of a log that was named by its calls of RFC 6962 has no signer, and the message says how to name the log.
+func TestRefusesPlacesWithoutHeads(t *testing.T) {
+	log := newTestLog(t, 3)
+	folder := t.TempDir()
+	heads, nonsense, empty := filepath.Join(folder, "heads"), filepath.Join(folder, "nonsense"), t.TempDir()
+	must(t, os.WriteFile(heads, log.Checkpoint(), 0o600))
+	must(t, os.WriteFile(nonsense, []byte("hello\n"), 0o600))
+	named := logArguments(t, log)
+	address, rest, _ := strings.Cut(strings.TrimPrefix(named[1], "tiled+"), " ")
+	key, _, _ := strings.Cut(rest, " ")
+	for _, of := range []struct {
+		place  string
+		named  []string
+		status int
+		text   string
+	}{
+		{filepath.Join(folder, "absent"), named, statusUsage, "ctaudit: stat " + filepath.Join(folder, "absent") + ": "},
+		{nonsense, named, statusUsage, "ctaudit: " + nonsense + " has no tree head (give "},
+		{empty, named, statusUsage, "ctaudit: " + empty + " has no tree head (give "},
+		{address + "/absent", named, statusUnread, "ctaudit: " + address + "/absent: "},
+		{heads, []string{"--log", address + " " + key}, statusUnknownLog, "(name a log that has checkpoints as tiled+ADDRESS,"},
+	} {
+		status, out, faults := ctaudit(t, append([]string{"compare", of.place}, of.named...)...)
+		if status != of.status || !strings.Contains(faults, of.text) {
+			t.Errorf("%s: status %d: %s%s", of.place, status, out, faults)
+		}
+	}
+}

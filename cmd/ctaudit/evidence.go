@@ -4,6 +4,7 @@ import (
 	"context"
 	"fmt"
 	"io"
+	"path/filepath"
 
 	"wagtenib/internal/audit/judge"
 )
@@ -25,6 +26,10 @@ func runEvidence(ctx context.Context, arguments []string, out io.Writer) error {
 	}
 	if err := checkExists(arguments[0]); err != nil {
 		return err
+	}
+	if err := checkExists(filepath.Join(arguments[0], "evidence.json")); err != nil {
+		return fmt.Errorf("%w (give the folder of one piece of evidence; --evidence FOLDER writes each piece into a folder "+
+			"below FOLDER)", err)
 	}
 	key, err := readKey(arguments[1])
 	if err != nil {

@@ -56,6 +56,10 @@ func TestEvidence(t *testing.T) {
 			t.Errorf("%q: status %d: %s", arguments, status, problem)
 		}
 	}
+	if status, _, problem := ctaudit(t, "evidence", t.TempDir(), own); status != statusUsage ||
+		!strings.Contains(problem, "evidence.json: no such file or directory (give the folder of one piece of evidence; ") {
+		t.Errorf("a folder without evidence: status %d: %s", status, problem)
+	}
 	write(folder, "head-2", log.Checkpoint()[:60])
 	if status, out, problem := ctaudit(t, "evidence", folder, own); status != 1 ||
 		!strings.Contains(problem, "head-2") {

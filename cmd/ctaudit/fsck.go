@@ -20,7 +20,8 @@ const fsckPage = `ctaudit fsck FOLDER|s3://.. KEY.PEM [ANSWERS..]
 
 Checks a log by what it published. It prints what it saw, or what is wrong, with status 1.
 
-  FOLDER|s3://..  the log's objects: FOLDER/objects of the log's folder, a copy of it, or the address of its bucket
+  FOLDER|s3://..  the log's objects: FOLDER/objects of the log's folder, a copy of it, a mirror that ctwatch run --keep
+                  keeps (a folder of the log's ID), or the address of its bucket
   KEY.PEM         the file with the log's public key in PEM
   ANSWERS         a file that ctload --answers wrote. Each timestamp in it must be that of the log, and have its entry
 
@@ -32,8 +33,14 @@ func runFsck(ctx context.Context, arguments []string, out io.Writer) error {
 	if err != nil {
 		return err
 	}
-	if err := checkExists(arguments[0]); !isBucket(arguments[0]) && err != nil {
-		return err
+	if !isBucket(arguments[0]) {
+		if strings.Contains(arguments[0], "://") {
+			return fmt.Errorf("%w: %s is not a folder or a bucket (keep a copy of the log by ctwatch run --keep, or ask the "+
+				"log by ctaudit probe)", errUsage, arguments[0])
+		}
+		if err := checkExists(arguments[0]); err != nil {
+			return err
+		}
 	}
 	copied, err := os.MkdirTemp("", "ctaudit")
 	if err != nil {
@@ -110,23 +117,31 @@ func judgeLog(ctx context.Context, folder, keyFile string, answerFiles []string,
 			return judge.Report{}, err
 		}
 	}
+	objects := folder
 	if isBucket(folder) {
 		if err := fetch(ctx, folder, copied); err != nil {
 			return judge.Report{}, err
 		}
-		folder = copied
+		objects = copied
 	}
-	report, err := judge.Folder(folder, key, answers)
+	report, err := judge.Folder(objects, key, answers)
+	if errors.Is(err, judge.ErrNoHead) {
+		return report, fmt.Errorf("%w: %s: %w, neither in heads/ nor as checkpoint (give the folder objects of a log, a "+
+			"mirror that ctwatch run --keep keeps, or a log's bucket)", errUsage, folder, judge.ErrNoHead)
+	}
 	if err != nil {
 		return report, err
 	}
-	_, err = judge.Precertificates(folder)
+	_, err = judge.Precertificates(objects)
 	return report, err
 }
 
 // fetch copies a bucket into a folder, except its staged batches.
 func fetch(ctx context.Context, address, folder string) error {
 	objects, err := blob.ObjectsAt(ctx, address)
+	if errors.Is(err, blob.ErrAddress) {
+		return fmt.Errorf("%w: %w", errUsage, err)
+	}
 	if err != nil {
 		return err
 	}

@@ -192,12 +192,26 @@ func TestRefusesOtherAnswers(t *testing.T) {
 	}
 }
 
+// newMirror returns a copy of a log's folder as a mirror keeps it: with a checkpoint in place of the tree heads.
+func newMirror(t testing.TB, l log) string {
+	folder := t.TempDir()
+	must(t, os.CopyFS(folder, os.DirFS(l.folder)))
+	heads, err := filepath.Glob(filepath.Join(folder, "heads", "*"))
+	must(t, err)
+	if len(heads) != 1 {
+		t.Fatalf("the log has the heads %q", heads)
+	}
+	must(t, os.Rename(heads[0], filepath.Join(folder, "checkpoint")))
+	return folder
+}
+
 // TestStatus checks that a correct log has status 0, that a wrong one has status 1 and the reason on standard error,
 // and that wrong arguments have status 2.
 func TestStatus(t *testing.T) {
 	l := newLog(t)
 	wrong := l.answer
 	wrong.LogID = make([]byte, 32)
+	empty := t.TempDir()
 	for _, of := range []struct {
 		arguments    []string
 		status       int
@@ -206,7 +220,12 @@ func TestStatus(t *testing.T) {
 		{[]string{l.folder, l.key, file(t, l.answer)}, 0,
 			"1 heads, 1 leaves (0 repeats), 2 tiles, 0 issuers, 1 timestamps: all as they have to be\n", ""},
 		{[]string{l.folder, l.key, file(t, wrong)}, statusFault, "", "a timestamp of another log"},
-		{[]string{t.TempDir(), l.key}, statusFault, "", "there is no head"},
+		{[]string{newMirror(t, l), l.key, file(t, l.answer)}, 0,
+			"1 heads, 1 leaves (0 repeats), 2 tiles, 0 issuers, 1 timestamps: all as they have to be\n", ""},
+		{[]string{empty, l.key}, statusUsage, "", "ctaudit: " + empty + ": there is no head, neither in heads/ nor as checkpoint ("},
+		{[]string{"https://log.example", l.key}, statusUsage, "",
+			"ctaudit: https://log.example is not a folder or a bucket (keep a copy of the log by ctwatch run --keep, or "},
+		{[]string{"s3://bucket.example", l.key}, statusUsage, "", "ctaudit: stores: invalid address: "},
 		{[]string{"/absent", l.key}, statusUsage, "", "no such file"},
 		{[]string{l.folder, "/absent"}, statusUsage, "", "no such file"},
 		{[]string{l.folder, l.key, "/absent"}, statusUsage, "", "no such file"},

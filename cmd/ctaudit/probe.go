@@ -58,7 +58,7 @@ func (p *probeFlags) add(to *flag.FlagSet) {
 	to.StringVar(&p.report, "report", "", "`file` for the report as text, and with .json after its name for the "+
 		"one in JSON")
 	to.DurationVar(&p.schedule.For, "for", 10*time.Minute,
-		"for how `long` chains are submitted. The last SCT is followed after that until its merge delay ends")
+		"`time` for which chains are submitted. The last SCT is followed after that until its merge delay ends")
 	to.DurationVar(&p.schedule.Poll, "poll-interval", 5*time.Second, "`time` between two looks at the tree heads")
 	to.DurationVar(&p.schedule.Submit, "submit-interval", 30*time.Second, "`time` between two chains")
 	to.Float64Var(&p.availability, "min-availability", 99,

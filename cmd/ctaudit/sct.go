@@ -52,7 +52,7 @@ func runSCT(ctx context.Context, arguments []string, out io.Writer) error {
 			scts, err = ct.ReadSCTs(content)
 		}
 		if err != nil {
-			return fmt.Errorf("%s: %w", *sctFile, err)
+			return fmt.Errorf("%w: --sct %s: %w", errUsage, *sctFile, err)
 		}
 	}
 	client, logs, err := a.open(ctx)
@@ -66,8 +66,11 @@ func runSCT(ctx context.Context, arguments []string, out io.Writer) error {
 	} else {
 		results, err = auditor.Certificate(ctx, certificate, issuer)
 	}
-	if err != nil {
-		return fmt.Errorf("%s: %w", arguments[0], err)
+	switch {
+	case errors.Is(err, audit.ErrNoSCTs):
+		return fmt.Errorf("%w: %s: %w (give timestamps that you hold for it by --sct)", errUsage, arguments[0], err)
+	case err != nil:
+		return fmt.Errorf("ctaudit: %s: %w", arguments[0], err)
 	}
 	return a.printResults(results, out)
 }
@@ -80,7 +83,7 @@ func readPair(certificateFile, issuerFile string) (certificate, issuer []byte, e
 	}
 	chain, err := audit.Certificates(content)
 	if err != nil {
-		return nil, nil, fmt.Errorf("%s: %w", certificateFile, err)
+		return nil, nil, unreadable(certificateFile, err)
 	}
 	if issuerFile != "" {
 		if content, err = readSmall(issuerFile); err != nil {
@@ -88,7 +91,7 @@ func readPair(certificateFile, issuerFile string) (certificate, issuer []byte, e
 		}
 		issuers, err := audit.Certificates(content)
 		if err != nil {
-			return nil, nil, fmt.Errorf("%s: %w", issuerFile, err)
+			return nil, nil, unreadable(issuerFile, err)
 		}
 		return chain[0], issuers[0], nil
 	}
@@ -96,6 +99,11 @@ func readPair(certificateFile, issuerFile string) (certificate, issuer []byte, e
 		issuer = chain[1]
 	}
 	return chain[0], issuer, nil
+}
+
+// unreadable returns the error for a file without a certificate.
+func unreadable(file string, err error) error {
+	return fmt.Errorf("%w: %s: %w (give a file with the certificate, and that of its issuer after it, in PEM)", errUsage, file, err)
 }
 
 // readSmall returns the bytes of a file, or an error if it is too long.

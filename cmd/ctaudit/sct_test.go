@@ -134,7 +134,7 @@ func TestRefusesToAudit(t *testing.T) {
 	for file, expected := range map[string]struct {
 		status int
 		text   string
-	}{plain: {statusFault, "has no timestamps"}, nonsense: {statusFault, "cannot be read"}, "/absent": {statusUsage,
+	}{plain: {statusUsage, "has no timestamps (SCTs) (give "}, nonsense: {statusUsage, "cannot be read (give a file "}, "/absent": {statusUsage,
 		"no such file"}} {
 		status, _, faults := ctaudit(t, append([]string{"sct", file}, logArguments(t, log)...)...)
 		if status != expected.status || !strings.Contains(faults, expected.text) {

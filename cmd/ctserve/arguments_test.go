@@ -37,7 +37,7 @@ func TestSettings(t *testing.T) {
 		{[]string{"--roots", "a", "--origin", "b", "--signer-socket", "c", "--guard"}, "replaces --signing-key"},
 		{[]string{"--roots", "a", "--origin", "b", "--signer-socket", "c", "--guard=false"}, "replaces --signing-key"},
 		{[]string{"--roots", "a", "--origin", "b", "--signing-key", "c", "--guard=none"}, "neither true nor false"},
-		{[]string{"--nothing"}, "not defined"},
+		{[]string{"--nothing"}, "there is no flag --nothing (see --help)"},
 		{[]string{"word"}, `"word" is not expected`},
 		{[]string{"--config", at.path("missing")}, "no such file"},
 		{file("nothing 7"), `line 1: there is no setting "nothing"`},

@@ -56,7 +56,7 @@ func TestRefusesSettings(t *testing.T) {
 		"--name =a.example --renewals 1h2d":                "no time from 1h to 365d",
 		"--name a.example --log=https://a.b":               "write [tiled+]https://HOST/PATH KEY-FILE",
 		"--name a.example --contact a\x01b":                "printable ASCII",
-		"--name a.example --no-such-setting":               "not defined",
+		"--name a.example --no-such-setting":               "there is no flag --no-such-setting (see --help)",
 		"--name a.example --expect-issuer= ":               "it is empty",
 		"--name a.example --certspotter-watchlist /absent": "no such file",
 	} {

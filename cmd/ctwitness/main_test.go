@@ -299,7 +299,7 @@ func TestArguments(t *testing.T) {
 		why       string
 	}{
 		{"", []string{"word"}, 2, `"word" is not expected`},
-		{"", []string{"--nothing"}, 2, "not defined"},
+		{"", []string{"--nothing"}, 2, "there is no flag --nothing (see --help)"},
 		{"", []string{"--help"}, 0, "is a witness"},
 		{"nothing 7", nil, 2, `there is no setting "nothing"`},
 		{"create a", nil, 2, `there is no setting "create"`},

@@ -101,7 +101,7 @@ func UserAgent(program, version, contact string) (string, error) {
 func New(address string, options Options) (*Client, error) {
 	base, err := url.Parse(address)
 	if err != nil {
-		return nil, fmt.Errorf("%w: %v", ErrAddress, err)
+		return nil, fmt.Errorf("%w: %v (write https://HOST/PATH)", ErrAddress, err)
 	}
 	if base.Scheme != "https" && base.Scheme != "http" || base.Host == "" || base.RawQuery != "" || base.Fragment != "" ||
 		base.User != nil {

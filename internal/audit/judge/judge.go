@@ -46,6 +46,9 @@ type Report struct {
 // errWrong is the error that every verdict wraps.
 var errWrong = errors.New("check")
 
+// ErrNoHead means that a folder has no signed tree head, so it does not contain what a log published.
+var ErrNoHead = errors.New("there is no head")
+
 func wrong(format string, arguments ...any) error {
 	return fmt.Errorf("%w: "+format, append([]any{errWrong}, arguments...)...)
 }
@@ -71,7 +74,8 @@ type leaf struct {
 	issuers          []hash
 }
 
-// Folder checks the objects below a folder by a log's key, a SubjectPublicKeyInfo in DER.
+// Folder checks the objects below a folder by a log's key, a SubjectPublicKeyInfo in DER. The error wraps ErrNoHead if
+// the folder has no tree head.
 func Folder(path string, key []byte, answers []Answer) (Report, error) {
 	parsed, err := x509.ParsePKIXPublicKey(key)
 	if err != nil {
@@ -90,7 +94,7 @@ func Folder(path string, key []byte, answers []Answer) (Report, error) {
 		return Report{}, err
 	}
 	if len(heads) == 0 {
-		return Report{}, wrong("there is no head")
+		return Report{}, fmt.Errorf("%w: %w", errWrong, ErrNoHead)
 	}
 	top := heads[len(heads)-1].size
 	if err := f.readLeaves(top); err != nil {
@@ -158,7 +162,8 @@ var furtherLine = regexp.MustCompile(`^— [^ +]+ [A-Za-z0-9+/]{7,}=*$`)
 
 var headForm = regexp.MustCompile(`^heads/(\d{20})-(\d{20})$`)
 
-// heads reads the signed notes in the order of their names, and checks everything for which it needs no leaves.
+// heads reads the signed notes in the order of their names, and checks everything for which it needs no leaves. A
+// mirror has no heads of earlier times, so the only head there is the checkpoint.
 func (f *folder) heads() ([]head, error) {
 	var heads []head
 	for name, content := range f.objects {
@@ -177,6 +182,14 @@ func (f *folder) heads() ([]head, error) {
 			return nil, wrong("%s: it is the head of %d leaves at %d", name, h.size, h.timestamp)
 		}
 		heads = append(heads, h)
+	}
+	if content, exists := f.objects["checkpoint"]; exists && len(heads) == 0 {
+		h, err := f.note(string(content))
+		if err != nil {
+			return nil, fmt.Errorf("checkpoint: %w", err)
+		}
+		h.name = "checkpoint"
+		return []head{h}, nil
 	}
 	sort.Slice(heads, func(i, j int) bool { return heads[i].name < heads[j].name })
 	for i := 1; i < len(heads); i++ {

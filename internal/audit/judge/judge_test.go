@@ -10,6 +10,7 @@ import (
 	"crypto/x509"
 	"encoding/base64"
 	"encoding/binary"
+	"errors"
 	"fmt"
 	"os"
 	"path/filepath"
@@ -252,6 +253,39 @@ func TestRight(t *testing.T) {
 	p.objects[head] = append(p.objects[head], "— w.example AAAAAAA=\n— v.example BBBBBBBB\n"...)
 	if report, err := p.judge(t); err != nil || report != expected {
 		t.Errorf("%+v, expected %+v: %v", report, expected, err)
+	}
+}
+
+// TestMirror checks a log by its checkpoint if the folder has no other head, as in a mirror. The checkpoint must be that
+// of the leaves.
+func TestMirror(t *testing.T) {
+	p := newLog(t, nil)
+	right := p.objects[nameOfHead(300, 1003)]
+	for name := range p.objects {
+		if strings.HasPrefix(name, "heads/") {
+			delete(p.objects, name)
+		}
+	}
+	if report, err := p.judge(t); !errors.Is(err, ErrNoHead) || report != (Report{}) {
+		t.Errorf("without a checkpoint: %+v, %v", report, err)
+	}
+	note := func(size int, root tlog.Hash) string {
+		return fmt.Sprintf("%s\n%d\n%v\n\n%s", origin, size, root, p.line(t, size, 1003, root))
+	}
+	p.objects["checkpoint"] = right
+	if report, err := p.judge(t); err != nil || report.Heads != 1 || report.Leaves != 300 || report.Answers != 3 {
+		t.Errorf("%+v, %v", report, err)
+	}
+	for expected, wrong := range map[string]string{
+		"checkpoint is not the MTH of the leaves":     note(300, p.root(t, 299)),
+		"checkpoint: check: it is not a signed note":  string(right[:len(right)-1]),
+		"has more than the 257 leaves":                note(257, p.root(t, 257)),
+		"checkpoint: check: the signature is not tha": strings.Replace(string(right), "\n300\n", "\n299\n", 1),
+	} {
+		p.objects["checkpoint"] = []byte(wrong)
+		if report, err := p.judge(t); err == nil || !strings.Contains(err.Error(), expected) || report != (Report{}) {
+			t.Errorf("%+v, %v, expected: %s", report, err, expected)
+		}
 	}
 }
 

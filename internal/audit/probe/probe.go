@@ -3,7 +3,7 @@
 //
 // It submits chains, checks that the log adds the entry of each SCT, and reads the log by its tiles and by the calls of
 // RFC 6962. It compares all heads that it sees with each other, and counts and times each answer. The proved library
-// gives each verdict on a proof, a head or an entry. Package signature verifies signatures.
+// gives each verdict on a proof, a head or an entry. Package ct verifies signatures.
 package probe
 
 import (

@@ -53,13 +53,16 @@ func Ends(err error, to io.Writer) (status int, ends bool) {
 }
 
 // ParseArguments sets flags from the arguments of a command line, up to the first one that is no flag. The error of a
-// value that a flag refuses names the flag, the value and what to write. If help was requested it returns flag.ErrHelp.
+// value that a flag refuses names the flag, the value and what to write. The error of an unknown flag refers to --help. If help was requested it returns flag.ErrHelp.
 func ParseArguments(flags *flag.FlagSet, arguments []string) error {
 	err := flags.Parse(arguments)
 	if err == nil || errors.Is(err, flag.ErrHelp) {
 		return err
 	}
 	// Package flag returns the name and the value only in its text.
+	if name, isUnknown := strings.CutPrefix(err.Error(), "flag provided but not defined: -"); isUnknown {
+		return fmt.Errorf("there is no flag --%s (see --help)", name)
+	}
 	parts := refusal.FindStringSubmatch(err.Error())
 	if parts == nil {
 		return err
@@ -171,7 +174,7 @@ func Duration(text string) (time.Duration, error) {
 // Positive returns an error unless the duration of a flag is above 0.
 func Positive(name string, value time.Duration) error {
 	if value <= 0 {
-		return fmt.Errorf("--%s %v is not above 0 (write for example 30s, or leave %s out)", name, value, name)
+		return fmt.Errorf("--%s %v is not above 0 (write for example 30s, or leave --%s out)", name, value, name)
 	}
 	return nil
 }

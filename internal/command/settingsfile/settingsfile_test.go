@@ -31,7 +31,7 @@ func TestParse(t *testing.T) {
 		{"size 3", "-weight 4", "0", "[]", "there is no setting --weight any more (write size)"},
 		{"size 3\n" + strings.Repeat("x", 1<<17), "", "3", "[]", "token too long"},
 		{"size 3", "--size 4 more", "4", "[]", `"more" is not expected`},
-		{"size 3", "--other", "0", "[]", "not defined: -other"},
+		{"size 3", "--other", "0", "[]", "there is no flag --other (see --help)"},
 	} {
 		flags, size, logs := made()
 		path := filepath.Join(t.TempDir(), "settings")
@@ -107,8 +107,8 @@ func TestParseAndValidate(t *testing.T) {
 // TestPositive checks that a duration that is not above 0 is refused with the name of its flag.
 func TestPositive(t *testing.T) {
 	for value, expected := range map[time.Duration]string{
-		1: "", 0: "--pause 0s is not above 0 (write for example 30s, or leave pause out)",
-		-time.Minute: "--pause -1m0s is not above 0 (write for example 30s, or leave pause out)"} {
+		1: "", 0: "--pause 0s is not above 0 (write for example 30s, or leave --pause out)",
+		-time.Minute: "--pause -1m0s is not above 0 (write for example 30s, or leave --pause out)"} {
 		if err := Positive("pause", value); (err == nil) != (expected == "") || err != nil && err.Error() != expected {
 			t.Errorf("%v: %v", value, err)
 		}

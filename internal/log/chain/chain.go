@@ -4,7 +4,7 @@
 // The only purpose of the check is that the CA that issued a certificate is known. Every certificate must be signed by
 // the next one, which must be allowed to sign certificates, and the last one must be a root of the log or be signed by
 // one. Names, path lengths and unknown critical extensions do not matter, since a log shows what was issued and not
-// what is valid. Package chains parses the first certificate itself, and reads only the fields that it needs. So a
+// what is valid. Package chain parses the first certificate itself, and reads only the fields that it needs. So a
 // certificate with a name or a key that crypto/x509 refuses is logged too. Its issuers must be accepted by crypto/x509,
 // and all signatures must be of a kind that crypto/x509 checks.
 //

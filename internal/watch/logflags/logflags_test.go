@@ -52,6 +52,7 @@ func TestReadsLogs(t *testing.T) {
 	for arguments, remedy := range map[string]string{
 		"https://a.example":                        "write [tiled+]https://HOST/PATH KEY-FILE",
 		"ftp://a.example " + key:                   "not a log's address",
+		"127.0.0.1:8618 " + key:                    "write https://HOST/PATH",
 		"https://a.example /absent":                "write a PEM file",
 		"https://a.example " + key + " origin":     "write tiled+",
 		"https://a.example " + key + " more words": "write [tiled+]",
