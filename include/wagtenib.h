@@ -132,7 +132,10 @@ enum {
     WAGTENIB_TILE_AFTER = 147,       /* the data tile begins after the next entry */
     WAGTENIB_TILE_BEFORE = 148,      /* the data tile ends before the next entry */
     WAGTENIB_OTHER_ENTRIES = 149,    /* the data tile has another number of entries than its name says */
-    WAGTENIB_WRONG_INDEX = 150       /* an entry of the data tile does not name its own index in its extensions */
+    WAGTENIB_WRONG_INDEX = 150,      /* an entry of the data tile does not name its own index in its extensions */
+    WAGTENIB_NOT_A_SUBTREE = 160,    /* the range of leaves is not a subtree */
+    WAGTENIB_BEYOND_TREE = 161,      /* the subtree ends beyond the tree */
+    WAGTENIB_EMPTY_RANGE = 162       /* the range has no leaves */
 };
 
 /* The verdicts of a monitor (struct wagtenib_monitor_verdict). No call returns them. */
@@ -162,6 +165,30 @@ uint32_t wagtenib_verify_inclusion(const uint8_t leaf_hash[32], uint64_t leaf_in
  * all `second` leaves; else 7, 5, 2, 3, 6 or 4, the first fault in that order. */
 uint32_t wagtenib_verify_consistency(uint64_t first, uint64_t second, const uint8_t first_root[32],
                                      const uint8_t second_root[32], const uint8_t *path, size_t path_length);
+
+/* Subtrees, whose hashes Merkle Tree Certificates sign (draft-ietf-plants-merkle-tree-certs). A subtree [start, end) has the leaves of one list from index `start`, counted
+ * from 0, to end - 1. There is at least one, and `start` is a multiple of the smallest power of two that is not below their number. The hash of a subtree is MTH of its
+ * leaves (RFC 6962 section 2.1). */
+
+/* Checks a range. 0 exactly if [start, end) is a subtree; otherwise 160. */
+uint32_t wagtenib_check_subtree(uint64_t start, uint64_t end);
+
+/* Checks the consistency proof of a subtree. 0 exactly if it leads from subtree_hash, the hash of [start, end), to the root of a tree of tree_size leaves. Otherwise 160, 161,
+ * 2, 3, 6 or 4, the first fault in that order; 6 says that it leads to another hash of the subtree. The first hash of the proof is nearest the leaves. If the subtree is
+ * the whole tree, the proof has no hashes. */
+uint32_t wagtenib_verify_subtree(uint64_t start, uint64_t end, uint64_t tree_size, const uint8_t subtree_hash[32], const uint8_t root[32],
+                                 const uint8_t *proof, size_t proof_length);
+
+/* hash = the hash of the subtree [start, end) to which the path of the leaf at leaf_index leads: the audit path of leaf_index - start in the tree of the subtree's leaves
+ * (RFC 9162 section 2.1.3.2). 0: it is written. Otherwise 160, 1 (the leaf is not in the subtree), 2 or 3, the first fault in that order, and nothing is written. The
+ * caller must compare the hash with one that it trusts for the same start and end, because the path does not show which subtree it belongs to. */
+uint32_t wagtenib_evaluate_subtree_path(const uint8_t leaf_hash[32], uint64_t leaf_index, uint64_t start, uint64_t end, const uint8_t *path, size_t path_length,
+                                        uint8_t hash[32]);
+
+/* The subtrees that cover the leaves from index `start` to end - 1. 0: they are [*first, *middle) and [*middle, end), or only [start, end) if it is one leaf; then *first
+ * and *middle are `start`. The first subtree has a power of two of leaves, and may begin before `start`. Both have fewer than twice as many leaves as the range. 162:
+ * the range has no leaves, and nothing is written. */
+uint32_t wagtenib_cover_range(uint64_t start, uint64_t end, uint64_t *first, uint64_t *middle);
 
 /* out = MTH of these leaf hashes (RFC 6962 section 2.1). 8 where memory is refused, and out is as it was. Takes at most 4 KB,
  * whatever their number: below 2^58, since these are below 2^63 bytes. */

@@ -42,6 +42,17 @@ class Ranges:
             return self.proof(first, begin, half, whole) + [self.root(half, end)]
         return self.proof(first, half, end, False) + [self.root(begin, half)]
 
+    def subtree_proof(self, start, end, begin, over, known=True):
+        """SUBTREE_SUBPROOF(start - begin, end - begin, D[begin : over], known) (draft-ietf-plants-merkle-tree-certs)."""
+        if (start, end) == (begin, over):
+            return [] if known else [self.root(begin, over)]
+        half = begin + split(over - begin)
+        if end <= half:
+            return self.subtree_proof(start, end, begin, half, known) + [self.root(half, over)]
+        if half <= start:
+            return self.subtree_proof(start, end, half, over, known) + [self.root(begin, half)]
+        return self.subtree_proof(half, end, half, over, False) + [self.root(begin, half)]
+
 
 class Tree(Ranges):
     """The tree of a list of leaves with these hashes. It computes the root of each subtree once."""
@@ -144,3 +155,66 @@ def includes(leaf, m, n, hashes, wanted):
 def extends(first, second, first_root, second_root, hashes):
     """Whether the hashes prove that the tree of size second extends that of size first."""
     return fault_of_proof(first, second, first_root, second_root, hashes) is None
+
+
+def is_subtree(start, end):
+    """Whether [start, end) is a subtree: start is a multiple of the smallest power of two that is not below its length."""
+    return start < end and start % (1 << (end - start - 1).bit_length()) == 0
+
+
+def evaluate_subtree(start, end, n, found, hashes):
+    """The hash of the subtree and the root of n leaves to which the hashes lead by the draft's loop over bits, or the fault of their number. `found` is the known hash."""
+    first, second, last, hashes = start, end - 1, n - 1, list(hashes)
+    while first != second and (end == n or second & 1):
+        first, second, last = first >> 1, second >> 1, last >> 1
+    if first != second:
+        if not hashes:
+            return "path-too-short"
+        found = hashes.pop(0)
+    old = new = found
+    for one in hashes:
+        if last == 0:
+            return "path-too-long"
+        if second & 1 or second == last:
+            old, new = node_hash(one, old) if first < second else old, node_hash(one, new)
+            while not second & 1:
+                first, second, last = first >> 1, second >> 1, last >> 1
+        else:
+            new = node_hash(new, one)
+        first, second, last = first >> 1, second >> 1, last >> 1
+    return "path-too-short" if last else (old, new)
+
+
+def fault_of_subtree(start, end, n, subtree_hash, wanted, hashes):
+    """Why the consistency proof doesn't lead from the hash of the subtree [start, end) to the wanted root of n leaves, or None."""
+    if not is_subtree(start, end):
+        return "not-a-subtree"
+    if end > n:
+        return "beyond-tree"
+    found = evaluate_subtree(start, end, n, subtree_hash, hashes)
+    if isinstance(found, str):
+        return found
+    return "first-mismatch" if found[0] != subtree_hash else "root-mismatch" if found[1] != wanted else None
+
+
+def fault_of_subtree_path(index, start, end, hashes):
+    """Why the path of the leaf at the index leads to no hash of the subtree [start, end), or None."""
+    if not is_subtree(start, end):
+        return "not-a-subtree"
+    if not start <= index < end:
+        return "index-out-of-range"
+    length = path_length(index - start, end - start)
+    return None if len(hashes) == length else "path-too-long" if len(hashes) > length else "path-too-short"
+
+
+def cover(start, end):
+    """The one or two subtrees that cover the leaves from `start` to end - 1 (the draft's find_subtrees), or the fault of the range."""
+    if start >= end:
+        return "empty-range"
+    last = end - 1
+    if start == last:
+        return [(start, end)]
+    level = (start ^ last).bit_length() - 1
+    mask = (1 << level) - 1
+    middle = last & ~mask
+    return [(start & ~((1 << (~start & mask).bit_length()) - 1), middle), (middle, end)]

@@ -153,6 +153,10 @@ INPUTS = [hashes, receipts, tile, names, watched, watched_among, searched, searc
 NUMBERS = {
     "verify_inclusion": lambda call, n: call.wagtenib_verify_inclusion(bytes(32), n - 1, n, bytes(32 * 63), 63, bytes(32)),
     "verify_consistency": lambda call, n: call.wagtenib_verify_consistency(n // 2 + 1, n, bytes(32), bytes(32), bytes(32 * 64), 64),
+    "check_subtree": lambda call, n: call.wagtenib_check_subtree(0, n),
+    "verify_subtree": lambda call, n: call.wagtenib_verify_subtree(0, n // 2 + 1, n, bytes(32), bytes(32), bytes(32 * 64), 64),
+    "evaluate_subtree_path": lambda call, n: call.wagtenib_evaluate_subtree_path(bytes(32), n - 1, 0, n, bytes(32 * 63), 63, ctypes.create_string_buffer(32)),
+    "cover_range": lambda call, n: call.wagtenib_cover_range(n // 3, n, ctypes.byref(ctypes.c_uint64()), ctypes.byref(ctypes.c_uint64())),
     "root_tiles": lambda call, n: call.wagtenib_root_tiles(n, *room(2000)),
     "path_tiles": lambda call, n: call.wagtenib_path_tiles(n // 3, n, *room(2000)),
     "proof_tiles": lambda call, n: call.wagtenib_proof_tiles(n // 3 + 1, n, *room(2000)),

@@ -4,7 +4,7 @@
     proofs.py [--calls 2000] [--seed 1]
 
 The first vectors are those of the RFC 6962 tree of eight leaves that Certificate Transparency's own tests use. Random proofs, right and damaged, are compared with
-tests/merkle.py, and random certificates with tests/tiles/promises.py. Roots, audit paths and consistency proofs out of tiles are compared with the recursion over all
+tests/merkle.py, also those of subtrees, and random certificates with tests/tiles/promises.py. Roots, audit paths and consistency proofs out of tiles are compared with the recursion over all
 leaves, and the names of the tiles with tests/tiles/reading.py. Contents that are missing, too short, too long or too many, and numbers that can't be together, must be
 refused. Each fault must come at least once. Without gcc for this processor it says so.
 """
@@ -31,7 +31,7 @@ FIELDS = dict(zip(("certificate", "tbs", "outer-algorithm", "signature", "versio
 FAULTS = {
     "INDEX_OUT_OF_RANGE", "PATH_TOO_LONG", "PATH_TOO_SHORT", "ROOT_MISMATCH", "EMPTY_PATH", "FIRST_MISMATCH", "SIZES_OUT_OF_RANGE", "EMPTY_TREE", "MISSING_TILE",
     "TOO_MANY_TILES", "BAD_TILE", "DER_TRUNCATED", "DER_LONG_TAG", "DER_INDEFINITE_LENGTH", "DER_LONG_LENGTH", "DER_PADDED_LENGTH", "DER_OTHER_TAG", "DER_TRAILING",
-    "NO_EXTENSION", "SECOND_EXTENSION", "BAD_POISON", "EXTENSIONS_TOO_LONG", "OK",
+    "NO_EXTENSION", "SECOND_EXTENSION", "BAD_POISON", "EXTENSIONS_TOO_LONG", "NOT_A_SUBTREE", "BEYOND_TREE", "EMPTY_RANGE", "OK",
 }  # fmt: skip
 # Of how many leaves the logs are whose tiles are read.
 SMALL, LARGER = (*range(1, 33), *range(254, 260)), (511, 512, 513, 1025, 65_535, 65_536, 65_537, 65_793, 66_049)
@@ -85,6 +85,37 @@ def try_proofs(comparison, calls):
         proof = damaged(chance, merkle.proof(first, leaves[:size]) if first else [])
         due = fault_of(merkle.fault_of_proof(first, size, *roots, proof))
         comparison.call(f"the proof from {first} to {size}", due, lambda: wagtenib.verify_consistency(first, size, *roots, proof))
+
+
+def try_subtrees(comparison, calls):
+    """Proofs and paths of subtrees, right and damaged, also of ranges that are none; and the covers of ranges of any size."""
+    chance = comparison.chance
+    tree = merkle.Tree([chance.randbytes(32) for _ in range(70)])
+    for _ in range(calls):
+        size = chance.randrange(1, 70)
+        start, end = chance.choice(merkle.cover(*sorted(chance.sample(range(size + 1), 2))))
+        root, subtree_hash = tree.root(0, size), tree.root(start, end)
+        proof, index = damaged(chance, tree.subtree_proof(start, end, 0, size)), chance.choice((start, end - 1, chance.randrange(start, end), end))
+        path = damaged(chance, tree.path(index, start, end) if index < end else [])
+        given = chance.choice((subtree_hash, subtree_hash, subtree_hash, bytes(32)))
+        start, end, size = chance.choice(((start, end, size), (start, end, size), (start, end, end - 1), (start + 1, end + 1, size + 1), (end, start, size)))
+        due = fault_of(merkle.fault_of_subtree(start, end, size, given, root, proof))
+        comparison.call(f"the proof of [{start}, {end}) in {size}", due, lambda: wagtenib.verify_subtree(start, end, size, given, root, proof))
+        comparison.call(f"[{start}, {end})", fault_of(None if merkle.is_subtree(start, end) else "not-a-subtree"), lambda: wagtenib.check_subtree(start, end))
+        found = fault_of(merkle.fault_of_subtree_path(index, start, end, path)) or merkle.root_by_path(tree.hashes[index], index - start, end - start, path)
+        comparison.call(f"the path of {index} in [{start}, {end})", found, lambda: wagtenib.evaluate_subtree_path(tree.hashes[index], index, start, end, path))
+        near = [chance.getrandbits(chance.randint(1, 64)) for _ in range(2)]
+        first, over = chance.choice((near, sorted(near), [near[0], min(near[0] + chance.randrange(5), MOST)]))
+        due = merkle.cover(first, over)
+        comparison.call(f"the cover of [{first}, {over})", fault_of(due) if isinstance(due, str) else due, lambda: wagtenib.cover_range(first, over))
+    # (the largest trees, whose proofs take the most steps)
+    for start, end, size in ((0, (1 << 63) + 1, MOST), (0, MOST - 1, MOST), (MOST - 1, MOST, MOST), (1 << 63, MOST, MOST), (0, 1 << 63, 1 << 63)):
+        for count in range(66):
+            proof, index = [bytes(32)] * count, end - 1
+            due = fault_of(merkle.fault_of_subtree(start, end, size, bytes(32), bytes(32), proof))
+            comparison.call(f"a proof of {count} for [{start}, {end}) in {size}", due, lambda: wagtenib.verify_subtree(start, end, size, bytes(32), bytes(32), proof))
+            found = fault_of(merkle.fault_of_subtree_path(index, start, end, proof)) or merkle.root_by_path(bytes(32), index - start, end - start, proof)
+            comparison.call(f"a path of {count} in [{start}, {end})", found, lambda: wagtenib.evaluate_subtree_path(bytes(32), index, start, end, proof))
 
 
 def extension(chance, name, value):
@@ -236,6 +267,7 @@ def main():
     try_vectors(comparison)
     try_leaves(comparison)
     try_proofs(comparison, options.calls)
+    try_subtrees(comparison, options.calls)
     try_certificates(comparison, options.calls)
     try_logs(comparison)
     try_made_up(comparison, options.calls)

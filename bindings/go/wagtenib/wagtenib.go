@@ -169,6 +169,12 @@ const (
 	ErrOtherEntries Code = C.WAGTENIB_OTHER_ENTRIES
 	// ErrWrongIndex means that the extensions of an entry of the data tile do not contain exactly its own index.
 	ErrWrongIndex Code = C.WAGTENIB_WRONG_INDEX
+	// ErrNotASubtree means that the range of leaves is not a subtree.
+	ErrNotASubtree Code = C.WAGTENIB_NOT_A_SUBTREE
+	// ErrBeyondTree means that the subtree ends beyond the tree.
+	ErrBeyondTree Code = C.WAGTENIB_BEYOND_TREE
+	// ErrEmptyRange means that the range has no leaves.
+	ErrEmptyRange Code = C.WAGTENIB_EMPTY_RANGE
 )
 
 // The errors of a node's commands and of a lock's text, and the reasons why a node must not continue when it starts.
@@ -269,6 +275,9 @@ var texts = map[Code]string{
 	ErrTileBefore:          "the data tile ends before the next entry",
 	ErrOtherEntries:        "the data tile has another number of entries than its name says",
 	ErrWrongIndex:          "an entry of the data tile does not name its own index in its extensions",
+	ErrNotASubtree:         "the range of leaves is not a subtree",
+	ErrBeyondTree:          "the subtree ends beyond the tree",
+	ErrEmptyRange:          "the range has no leaves",
 	ErrCommand:             "no command of a node has this number",
 	ErrOutcome:             "no outcome of a command has this number",
 	ErrLockText:            "the bytes are not the text of a lock",

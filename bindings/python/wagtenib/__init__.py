@@ -12,6 +12,7 @@ from ._monitor import EntryReport, Judgement, Verdict, compare_heads, monitor_be
 from ._names import Name, NameKind, Place, certificate_names, names_in_bytes, watch_list, watched_names
 from ._node import NodeCommand, NodeDoes, NodeFound, NodeOutcome, NodeState, NodeTold, batch_name, batch_state, lock_state, lock_text, node_accept, node_next, node_start
 from ._step import Object, Published, Receipt, Step, Submission, step, step_begin, step_claim, step_needs, step_resume
+from ._subtrees import check_subtree, cover_range, evaluate_subtree_path, verify_subtree
 from ._texts import Checkpoint, checkpoint_text, cosignature_message, log_id, note_key_id, read_checkpoint, tree_head_signature, version
 from ._tiles import path_of_tiles, path_tiles, proof_of_tiles, proof_tiles, root_of_tiles, root_tiles
 from ._tree import Leaf, decode_leaf, leaf_hash, push, root, subtrees_root, verify_consistency, verify_inclusion
@@ -52,11 +53,15 @@ __all__ = [
     "batch_state",
     "certificate_names",
     "check_promise",
+    "check_subtree",
     "checkpoint_text",
-    "cosignature_message",
     "compare_data_tile",
+    "compare_heads",
+    "cosignature_message",
+    "cover_range",
     "data_tile_leaves",
     "decode_leaf",
+    "evaluate_subtree_path",
     "guard_first_head",
     "guard_head",
     "guard_receipt",
@@ -66,11 +71,10 @@ __all__ = [
     "lock_state",
     "lock_text",
     "log_id",
-    "compare_heads",
     "monitor_begin",
     "monitor_entries",
-    "monitor_head",
     "monitor_entry",
+    "monitor_head",
     "monitor_older",
     "monitor_proof",
     "monitor_start",
@@ -99,6 +103,7 @@ __all__ = [
     "tree_head_signature",
     "verify_consistency",
     "verify_inclusion",
+    "verify_subtree",
     "version",
     "watch_list",
     "watched_names",

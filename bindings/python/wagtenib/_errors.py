@@ -87,6 +87,9 @@ class Code(enum.IntEnum):
     TILE_BEFORE = 148
     OTHER_ENTRIES = 149
     WRONG_INDEX = 150
+    NOT_A_SUBTREE = 160
+    BEYOND_TREE = 161
+    EMPTY_RANGE = 162
 
 
 class Field(enum.IntEnum):

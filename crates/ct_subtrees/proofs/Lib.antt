@@ -2,6 +2,7 @@ pub mod Blocks
 pub mod Whole
 pub mod Length
 pub mod Down
+pub mod Depths
 pub mod Halves
 pub mod Covered
 pub mod Defined

@@ -1,19 +1,23 @@
 -- Two kinds of subtree have the proofs of RFC 6962: the first leaves, and one leaf.
-use Rattle.std.proofs.Common.{◌≡◌, ℕ, ◌+◌, ◌-◌, ◌<◌, ◌≤◌, Bool, true, false, refl, sym, ◌∙◌, ap, arith, List, [], ◌∷◌, ◌++◌, length, take, drop, reverse, Option, Some, None, length-drop}
+use Rattle.std.proofs.Common.{◌≡◌, ℕ, suc, ◌+◌, ◌-◌, ◌<◌, ◌≤◌, Bool, true, false, refl, sym, ◌∙◌, ap, arith, List, [], ◌∷◌, ◌++◌, length, take, drop, reverse, Option, Some, None, length-drop}
 use Rattle.std.specs.Option.{option_map}
 use Rattle.std.proofs.lemmas.List.{length-take-le}
+use Rattle.ct_tree.proofs.Length.{path_length-one, path_length-left, path_length-right}
 use Rattle.ct_tree.proofs.Path.{path-small, path-left, path-right}
 use Rattle.ct_tree.proofs.Split.{split_pos, split_lt, split_induct}
 use Rattle.ct_tree.proofs.Subproof.{subproof-whole, subproof-left, subproof-right}
+use Rattle.ct_tree.specs.Lengths.{path_length}
 use Rattle.ct_tree.specs.Tree.{split, hash_node, mth, path, subproof}
 use Rattle.ct_verify.proofs.Both.{both-left, both-right, both-end, both-end_whole, both-whole}
+use Rattle.ct_verify.proofs.Options.{mapped}
 use Rattle.ct_verify.proofs.Rebuild.{rebuild_left, rebuild_right, rebuild_past, rebuild_short, rebuild_leaf}
 use Rattle.ct_verify.specs.Climb.{pair_left, pair_right}
 use Rattle.ct_verify.specs.Rebuild.{rebuild, rebuild_down, both_roots, both_down}
-use Rattle.ct_subtrees.specs.Subtrees.{subtree_subproof, is_whole}
+use Rattle.ct_subtrees.specs.Subtrees.{subtree_subproof, subtree_length, is_whole}
 use Rattle.ct_subtrees.specs.Roots.{subtree_roots, subtree_down}
 use Rattle.ct_subtrees.proofs.Whole.{Part, all, first_part, second_part, both_parts, part, whole_is, first_ends}
 use Rattle.ct_subtrees.proofs.Down.{pair_beyond, down-end, down-end_whole, down-whole, down-left, down-right, down-both}
+use Rattle.ct_subtrees.proofs.Length.{length-whole, length-left, length-right}
 use Rattle.ct_subtrees.proofs.Subproof.{subtree-whole, subtree-left, subtree-right, subtree-both}
 
 map_twice : {X Y Z : Type 0} (f : Y → Z) (g : X → Y) (h : X → Z) (o : Option X) → ((x : X) → f (g x) ≡ h x) → option_map f (option_map g o) ≡ option_map h o
@@ -153,3 +157,38 @@ module _ (H : List ℕ → List ℕ) where
       (λ i D j l. leaf_case 1 (λ m. absurd (omega arith)) (λ m. absurd (omega arith)) i D j l (part i (i + 1) 1 (omega arith) (omega arith)))
       (λ n m below_left below_right i D j l.
       leaf_case n (λ _. below_left) (λ _. below_right) i D j l (part i (i + 1) n (omega arith) (omega arith)))
+
+-- ---- the length of the proof of one leaf
+abbrev LeafLength : ℕ → Type 0
+LeafLength n = (i : ℕ) → i < n → subtree_length i (i + 1) n true ≡ path_length i n
+
+length_case : (n : ℕ) → (1 < n → LeafLength (split n)) → (1 < n → LeafLength (n - split n)) → (i : ℕ) → i < n → Part i (i + 1) n
+    → subtree_length i (i + 1) n true ≡ path_length i n
+length_case n below_left below_right i l (all z f) =
+    let one : n ≡ 1 = omega arith in
+    length-whole i (i + 1) n true (omega arith) z f ∙ sym (rw one (path_length-one i))
+length_case n below_left below_right i l (first_part m w low) =
+    length-left i (i + 1) n true (omega arith) (omega arith) m w low
+    ∙ ap suc (below_left m i (omega arith))
+    ∙ sym (path_length-left i n m (omega arith))
+length_case n below_left below_right i l (second_part m w high) =
+    let k = split n in
+    let f : i + 1 - k ≡ i - k + 1 = omega arith in
+    length-right i (i + 1) n true (omega arith) (omega arith) m w high
+    ∙ ap suc (ap (λ v. subtree_length (i - k) v (n - k) true) f ∙ below_right m (i - k) (omega (arith, split_lt n m)))
+    ∙ sym (path_length-right i n m high)
+length_case n below_left below_right i l (both_parts m w before over) = absurd (omega arith)
+
+pub leaf_length : (n : ℕ) → LeafLength n
+leaf_length =
+    split_induct LeafLength
+    (λ i l. absurd (omega arith))
+    (λ i l. length_case 1 (λ m. absurd (omega arith)) (λ m. absurd (omega arith)) i l (part i (i + 1) 1 (omega arith) (omega arith)))
+    (λ n m below_left below_right i l. length_case n (λ _. below_left) (λ _. below_right) i l (part i (i + 1) n (omega arith) (omega arith)))
+
+-- ---- a path that yields a root as the proof of one leaf yields it
+pub leaf_rebuilt : (H : List ℕ → List ℕ) (i n : ℕ) (h x y : List ℕ) (p : List (List ℕ)) → i < n → subtree_roots H i (i + 1) n true h p ≡ Some (x, y)
+    → rebuild H i n h p ≡ Some y
+leaf_rebuilt H i n h x y p l e =
+    let z = mapped (λ (y : List ℕ). (h, y)) (rebuild H i n h p) (x, y) (sym (leaf_roots H i n h p l) ∙ e) in
+    z.1 ∙ ap Some (ap (λ (t : List ℕ × List ℕ). t.1) z.2)

@@ -1,22 +1,14 @@
 //! Consistency proofs between a subtree and a tree.
-ghost use Rattle.std.specs.Prelude.{◌≡◌, ◌<◌, ◌≤◌, ◌↔◌, ℕ, List, length, true, IsTrue, MatchResult};
+ghost use Rattle.std.specs.Prelude.{◌≡◌, ◌<◌, ◌≤◌, ℕ, List, [], ◌∷◌, ◌++◌, length, true, false, Some, MatchResult};
 ghost use Rattle.ct_subtrees.specs.Roots.{subtree_roots};
-ghost use Rattle.ct_subtrees.specs.Subtrees.{is_whole, subtree_length};
+ghost use Rattle.ct_subtrees.specs.Subtrees.{subtree_length};
 ghost use Rattle.ct_subtrees.specs.Verdict.{AcceptsSubtree, RefusesSubtree};
-ghost use Rattle.ct_subtrees.specs.Walk.{HasOtherLength};
+ghost use Rattle.ct_subtrees.specs.Walk.{HasOtherLength, PartYields, is_split, part_below, part_at};
 
-use crate::element::last_and_rest;
+use crate::descent::{Part, Place};
 use crate::fault::SubtreeFault;
 use crate::range::is_subtree;
 use ct_tree::{NodeHash, largest_power_below, node_hash};
-
-// The range of a subtree in a tree of `size` leaves.
-#[derive(Clone, Copy)]
-pub(crate) struct Place {
-    pub(crate) start: usize,
-    pub(crate) end: usize,
-    pub(crate) size: usize,
-}
 
 // The hash of the subtree and the root of the tree, as far as they are rebuilt.
 #[derive(Clone, Copy)]
@@ -25,43 +17,67 @@ pub(crate) struct Hashes {
     pub(crate) root: [u8; 32],
 }
 
-impl Place {
-    // Reports whether the range is all leaves of the tree.
-    pub(crate) fn is_all(self) -> bool
-        ensures { IsTrue result ↔ (is_whole self.start self.end self.size ≡ true) }
-    {
-        self.start == 0 && self.end >= self.size
+// Joins an element of a proof to the hashes that the elements below it yield. An element beside the part with the subtree joins only the root.
+fn joined<H: NodeHash>(h: &H, part: Part, below: Hashes, element: &[u8; 32]) -> Hashes
+    requires some { part.place.start < part.place.end }
+    requires inside { part.place.end ≤ part.place.size }
+    requires split { is_split part ≡ true }
+    ensures { (r : List ℕ) (q : List (List ℕ)) → PartYields H.digest (part_below part) r q (below.subtree, below.root)
+        → PartYields H.digest part r (q ++ element.now ∷ []) (result.subtree, result.root) }
+{
+    let middle = largest_power_below(part.place.size);
+    if part.place.end <= middle {
+        return Hashes {
+            subtree: below.subtree,
+            root: node_hash(h, &below.root, element),
+        };
+    }
+    let root = node_hash(h, element, &below.root);
+    if part.place.start >= middle {
+        return Hashes {
+            subtree: below.subtree,
+            root,
+        };
+    }
+    Hashes {
+        subtree: node_hash(h, element, &below.subtree),
+        root,
     }
 }
 
-// The two hashes if the subtree is the whole tree: both are the known hash, or otherwise the proof's only element.
-fn whole(known: bool, subtree_hash: &[u8; 32], proof: &[[u8; 32]]) -> Result<Hashes, SubtreeFault>
-    ensures { (s e n : ℕ) → s < e → s ≡ 0 → e ≡ n → MatchResult result
-        (λ z. (H : List ℕ → List ℕ) → subtree_roots H s e n known subtree_hash.now proof.now ≡ Some (z.subtree, z.root))
-        (HasOtherLength (subtree_length s e n known) (length proof.now)) }
+// Joins the elements of a path to the hash with which both hashes begin, from the part at a depth up to the whole tree.
+fn climb<H: NodeHash>(
+    h: &H,
+    tree: Part,
+    depth: usize,
+    lowest: &[u8; 32],
+    path: &[[u8; 32]],
+) -> Result<Hashes, SubtreeFault>
+    requires some { tree.place.start < tree.place.end }
+    requires inside { tree.place.end ≤ tree.place.size }
+    requires split { (d : ℕ) → d < depth → is_split (part_at d tree) ≡ true }
+    ensures { MatchResult result
+        (λ z. (r : List ℕ) (q : List (List ℕ)) → PartYields H.digest (part_at depth tree) r q (lowest.now, lowest.now)
+        → PartYields H.digest tree r (q ++ path.now) (z.subtree, z.root))
+        (HasOtherLength depth (length path.now)) }
 {
-    if known {
-        return if proof.is_empty() {
-            Ok(Hashes {
-                subtree: *subtree_hash,
-                root: *subtree_hash,
-            })
-        } else {
-            Err(SubtreeFault::PathTooLong)
-        };
+    if path.len() > depth {
+        return Err(SubtreeFault::PathTooLong);
     }
-    if proof.is_empty() {
+    if path.len() < depth {
         return Err(SubtreeFault::PathTooShort);
     }
-    let (element, rest) = last_and_rest(proof);
-    if rest.is_empty() {
-        Ok(Hashes {
-            subtree: element,
-            root: element,
-        })
-    } else {
-        Err(SubtreeFault::PathTooLong)
+    let mut hashes = Hashes {
+        subtree: *lowest,
+        root: *lowest,
+    };
+    let mut level = depth;
+    for element in path {
+        level -= 1;
+        // The part is found again from the root for each element, because a list of the parts would need 2 KB of stack.
+        hashes = joined(h, tree.at(level), hashes, element);
     }
+    Ok(hashes)
 }
 
 // The two hashes that a proof yields. If `known` is true, the hash of the subtree is known.
@@ -78,48 +94,15 @@ pub(crate) fn rebuilt<H: NodeHash>(
         (λ z. subtree_roots H.digest place.start place.end place.size known subtree_hash.now proof.now ≡ Some (z.subtree, z.root))
         (HasOtherLength (subtree_length place.start place.end place.size known) (length proof.now)) }
 {
-    if place.is_all() {
-        return whole(known, subtree_hash, proof);
+    let tree = Part { place, known };
+    let depth = tree.depth();
+    if tree.at(depth).known {
+        return climb(h, tree, depth, subtree_hash, proof);
     }
-    if proof.is_empty() {
-        return Err(SubtreeFault::PathTooShort);
+    match proof.split_first() {
+        Some((first, path)) => climb(h, tree, depth, first, path),
+        None => Err(SubtreeFault::PathTooShort),
     }
-    let (element, rest) = last_and_rest(proof);
-    let middle = largest_power_below(place.size);
-    if place.end <= middle {
-        let part = Place {
-            start: place.start,
-            end: place.end,
-            size: middle,
-        };
-        let below = rebuilt(h, part, known, subtree_hash, rest)?;
-        return Ok(Hashes {
-            subtree: below.subtree,
-            root: node_hash(h, &below.root, &element),
-        });
-    }
-    if place.start >= middle {
-        let part = Place {
-            start: place.start - middle,
-            end: place.end - middle,
-            size: place.size - middle,
-        };
-        let below = rebuilt(h, part, known, subtree_hash, rest)?;
-        return Ok(Hashes {
-            subtree: below.subtree,
-            root: node_hash(h, &element, &below.root),
-        });
-    }
-    let part = Place {
-        start: 0,
-        end: place.end - middle,
-        size: place.size - middle,
-    };
-    let below = rebuilt(h, part, false, subtree_hash, rest)?;
-    Ok(Hashes {
-        subtree: node_hash(h, &element, &below.subtree),
-        root: node_hash(h, &element, &below.root),
-    })
 }
 
 /// Checks a consistency proof between the subtree `[start, end)` and the tree of the first `size` leaves of one list: it must lead to the

@@ -7,7 +7,8 @@ ghost use Rattle.ct_subtrees.specs.Roots.{subtree_roots};
 ghost use Rattle.ct_subtrees.specs.Subtrees.{IsSubtree};
 ghost use Rattle.ct_subtrees.specs.declared.explained.SubtreeEvidenceFault.TheVariants.{ProofRefused, Memory};
 
-use crate::consistency::{Place, rebuilt, verify_subtree_consistency};
+use crate::consistency::{rebuilt, verify_subtree_consistency};
+use crate::descent::Place;
 use crate::element::last_and_rest;
 use crate::fault::SubtreeFault;
 use ct_tree::reference::root;

@@ -11,9 +11,9 @@
 //! - [`explain_subtree`] compares an accepted proof with the list. It reports that the proof is true of the list, or returns two strings
 //!   that differ and have the same hash.
 //!
-//! They work for every hash function with digests of 32 bytes, every range and size of 64 bits, and every proof. The first
-//! three take no memory from an allocator, and hash at most two nodes for each element of a proof. All of them go from the root of the tree
-//! down, so they call themselves at most 64 times.
+//! They work for every hash function with digests of 32 bytes, every range and size of 64 bits, and every proof. The first three take no
+//! memory from an allocator, hash at most two nodes for each element of a proof, and are loops: their stack does not grow with the tree.
+//! [`explain_subtree`] calls itself at most 64 times.
 //!
 //! The meaning of a result is defined from the root of the tree down (`specs/Subtrees.antt`, `specs/Roots.antt`). A refusal names the first
 //! fault in a fixed order ([`SubtreeFault`], `specs/Verdict.antt`). The module [`laws`] shows the equations of the definitions, and that
@@ -34,6 +34,7 @@
 
 mod consistency;
 mod covering;
+mod descent;
 mod element;
 mod explained;
 mod fault;

@@ -164,3 +164,9 @@ pub const TILE_BEFORE: u32 = 148;
 pub const OTHER_ENTRIES: u32 = 149;
 /// An entry of the data tile does not name its own index in its extensions.
 pub const WRONG_INDEX: u32 = 150;
+/// The range of leaves is not a subtree.
+pub const NOT_A_SUBTREE: u32 = 160;
+/// The subtree ends beyond the tree.
+pub const BEYOND_TREE: u32 = 161;
+/// The range has no leaves.
+pub const EMPTY_RANGE: u32 = 162;

@@ -87,6 +87,9 @@ pub mod code {
     pub const TILE_BEFORE: u32 = 148;
     pub const OTHER_ENTRIES: u32 = 149;
     pub const WRONG_INDEX: u32 = 150;
+    pub const NOT_A_SUBTREE: u32 = 160;
+    pub const BEYOND_TREE: u32 = 161;
+    pub const EMPTY_RANGE: u32 = 162;
     pub const ACCEPTED: u32 = 128;
     pub const PENDING: u32 = 129;
     pub const AGAIN: u32 = 130;
@@ -195,6 +198,10 @@ extern "C" {
     pub fn wagtenib_leaf_hash(leaf: *const u8, leaf_length: usize, out: *mut u8);
     pub fn wagtenib_verify_inclusion(leaf_hash: *const u8, leaf_index: u64, tree_size: u64, path: *const u8, path_length: usize, root: *const u8) -> u32;
     pub fn wagtenib_verify_consistency(first: u64, second: u64, first_root: *const u8, second_root: *const u8, path: *const u8, path_length: usize) -> u32;
+    pub fn wagtenib_check_subtree(start: u64, end: u64) -> u32;
+    pub fn wagtenib_verify_subtree(start: u64, end: u64, tree_size: u64, subtree_hash: *const u8, root: *const u8, proof: *const u8, proof_length: usize) -> u32;
+    pub fn wagtenib_evaluate_subtree_path(leaf_hash: *const u8, leaf_index: u64, start: u64, end: u64, path: *const u8, path_length: usize, hash: *mut u8) -> u32;
+    pub fn wagtenib_cover_range(start: u64, end: u64, first: *mut u64, middle: *mut u64) -> u32;
     pub fn wagtenib_root(leaf_hashes: *const u8, count: usize, out: *mut u8) -> u32;
     pub fn wagtenib_decode_leaf(leaf: *const u8, leaf_length: usize, out: *mut wagtenib_leaf_info) -> u32;
     pub fn wagtenib_push(size: u64, count: usize, subtrees: *mut u8, places: usize, leaf_hash: *const u8, new_count: *mut usize) -> u32;

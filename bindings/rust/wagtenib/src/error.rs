@@ -115,6 +115,9 @@ errors! {
     TileBefore = TILE_BEFORE, "the data tile ends before the next entry";
     OtherEntries = OTHER_ENTRIES, "the data tile has another number of entries than its name says";
     WrongIndex = WRONG_INDEX, "an entry of the data tile does not name its own index in its extensions";
+    NotASubtree = NOT_A_SUBTREE, "the range of leaves is not a subtree";
+    BeyondTree = BEYOND_TREE, "the subtree ends beyond the tree";
+    EmptyRange = EMPTY_RANGE, "the range has no leaves";
 }
 
 impl std::fmt::Display for Error {

@@ -1,6 +1,7 @@
 //! Proved functions for Certificate Transparency logs (RFC 6962, RFC 9162), in safe Rust.
 //!
 //! - [`tree`]: hashes of leaves, roots, audit paths and consistency proofs.
+//! - [`subtrees`]: proofs of subtrees, as Merkle Tree Certificates use them.
 //! - [`leaf`]: the fields of a leaf.
 //! - [`tiles`]: roots and proofs out of the tiles of a log.
 //! - [`data_tiles`]: the entries of a data tile.
@@ -28,6 +29,7 @@ pub mod monitor;
 pub mod names;
 pub mod node;
 pub mod step;
+pub mod subtrees;
 pub mod texts;
 pub mod tiles;
 pub mod tree;

@@ -6,6 +6,7 @@ use common::{bytes, hash, hashes, leaf_hashes, LEAVES, PATH, PROOF, ROOTS};
 use wagtenib::guard::{self, TreeHead};
 use wagtenib::leaf::{self, Entry};
 use wagtenib::node;
+use wagtenib::subtrees::{self, Range};
 use wagtenib::texts;
 use wagtenib::tree::{self, Subtrees};
 use wagtenib::Error;
@@ -36,6 +37,39 @@ fn proofs_of_the_reference_tree_are_accepted_and_damaged_ones_refused() {
     assert_eq!(tree::verify_consistency(6, 8, &first, &root, &[]), Err(Error::EmptyPath));
     assert_eq!(tree::verify_consistency(6, 8, &root, &root, &proof), Err(Error::FirstMismatch));
     assert_eq!(tree::verify_consistency(6, 8, &first, &first, &proof), Err(Error::RootMismatch));
+}
+
+#[test]
+fn subtrees_of_the_reference_tree_are_accepted_and_others_refused() {
+    let (leaves, root, proof) = (leaf_hashes(), hash(ROOTS[8]), hashes(&PROOF));
+    // The first leaves have the consistency proof of RFC 6962, and one leaf has its audit path.
+    let first = Range { start: 0, end: 6 };
+    assert_eq!(subtrees::verify(first, 8, &hash(ROOTS[6]), &root, &proof), Ok(()));
+    assert_eq!(subtrees::verify(Range { start: 5, end: 6 }, 8, &leaves[5], &root, &hashes(&PATH)), Ok(()));
+    assert_eq!(subtrees::verify(Range { start: 0, end: 8 }, 8, &root, &root, &[]), Ok(()));
+    assert_eq!(subtrees::verify(Range { start: 1, end: 3 }, 8, &root, &root, &proof), Err(Error::NotASubtree));
+    assert_eq!(subtrees::verify(Range { start: 8, end: 9 }, 8, &root, &root, &proof), Err(Error::BeyondTree));
+    assert_eq!(subtrees::verify(first, 8, &hash(ROOTS[6]), &root, &proof[1..]), Err(Error::PathTooShort));
+    assert_eq!(subtrees::verify(first, 8, &hash(ROOTS[6]), &root, &[proof.clone(), vec![root]].concat()), Err(Error::PathTooLong));
+    assert_eq!(subtrees::verify(first, 8, &root, &root, &proof), Err(Error::FirstMismatch));
+    assert_eq!(subtrees::verify(first, 8, &hash(ROOTS[6]), &hash(ROOTS[6]), &proof), Err(Error::RootMismatch));
+    // [4, 6) has two leaves, so the path of one is the other.
+    let pair = Range { start: 4, end: 6 };
+    assert_eq!(subtrees::evaluate_path(&leaves[5], 5, pair, &leaves[4..5]), tree::root(&leaves[4..6]));
+    assert_eq!(subtrees::evaluate_path(&leaves[5], 6, pair, &leaves[4..5]), Err(Error::IndexOutOfRange));
+    assert_eq!(subtrees::evaluate_path(&leaves[5], 5, pair, &[]), Err(Error::PathTooShort));
+}
+
+#[test]
+fn ranges_are_covered_by_subtrees() {
+    let range = |start, end| Range { start, end };
+    assert_eq!(subtrees::cover(range(5, 6)), Ok(vec![range(5, 6)]));
+    assert_eq!(subtrees::cover(range(3, 6)), Ok(vec![range(3, 4), range(4, 6)]));
+    // The leaves 1 to 3 are in no subtree that is smaller than [0, 4).
+    assert_eq!(subtrees::cover(range(1, 6)), Ok(vec![range(0, 4), range(4, 6)]));
+    assert_eq!(subtrees::cover(range(6, 6)), Err(Error::EmptyRange));
+    assert_eq!(subtrees::check(range(4, 7)), Ok(()));
+    assert_eq!(subtrees::check(range(1 << 62, u64::MAX)), Err(Error::NotASubtree));
 }
 
 /// A MerkleTreeLeaf of a certificate (RFC 6962, section 3.4), written out by hand.
