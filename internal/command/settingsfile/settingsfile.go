@@ -53,14 +53,23 @@ func Ends(err error, to io.Writer) (status int, ends bool) {
 }
 
 // ParseArguments sets flags from the arguments of a command line, up to the first one that is no flag. The error of a
-// value that a flag refuses names the flag, the value and what to write. The error of an unknown flag refers to --help. If help was requested it returns flag.ErrHelp.
+// value that a flag refuses names the flag, the value and what to write. The error of an unknown flag refers to --help.
+// If help was requested it returns flag.ErrHelp.
 func ParseArguments(flags *flag.FlagSet, arguments []string) error {
+	return parse(flags, arguments, nil)
+}
+
+// parse is ParseArguments for a program whose removed settings are these.
+func parse(flags *flag.FlagSet, arguments []string, removed map[string]string) error {
 	err := flags.Parse(arguments)
 	if err == nil || errors.Is(err, flag.ErrHelp) {
 		return err
 	}
 	// Package flag returns the name and the value only in its text.
 	if name, isUnknown := strings.CutPrefix(err.Error(), "flag provided but not defined: -"); isUnknown {
+		if removed[name] != "" {
+			return fmt.Errorf("there is no setting --%s any more (%s)", name, removed[name])
+		}
 		return fmt.Errorf("there is no flag --%s (see --help)", name)
 	}
 	parts := refusal.FindStringSubmatch(err.Error())
@@ -79,16 +88,10 @@ func ParseArguments(flags *flag.FlagSet, arguments []string) error {
 // reason.
 var refusal = regexp.MustCompile(`(?s)^invalid (?:boolean )?value ("(?:[^"\\]|\\.)*") for (?:flag )?-([^:]*): (.*)$`)
 
-// unknownFlag is the text with which package flag refuses a flag that is not defined. The flag's name follows.
-const unknownFlag = "flag provided but not defined: -"
-
 // Parse sets flags from the arguments of a command line, which must have nothing else. It sets the other flags from the
 // file that the flag config names, if there is one. If help was requested it returns flag.ErrHelp.
 func (r Rules) Parse(flags *flag.FlagSet, arguments []string) error {
-	if err := ParseArguments(flags, arguments); err != nil {
-		if name, isUnknown := strings.CutPrefix(err.Error(), unknownFlag); isUnknown && r.Removed[name] != "" {
-			return fmt.Errorf("there is no setting --%s any more (%s)", name, r.Removed[name])
-		}
+	if err := parse(flags, arguments, r.Removed); err != nil {
 		return err
 	}
 	if flags.NArg() > 0 {
