@@ -103,7 +103,8 @@ func readPair(certificateFile, issuerFile string) (certificate, issuer []byte, e
 
 // unreadable returns the error for a file without a certificate.
 func unreadable(file string, err error) error {
-	return fmt.Errorf("%w: %s: %w (give a file with the certificate, and that of its issuer after it, in PEM)", errUsage, file, err)
+	return fmt.Errorf("%w: %s: %w (give a file with the certificate, and that of its issuer after it, in PEM)", errUsage,
+		file, err)
 }
 
 // readSmall returns the bytes of a file, or an error if it is too long.
