@@ -51,7 +51,8 @@ func Ends(err error, to io.Writer) (status int, ends bool) {
 }
 
 // ParseArguments sets flags from the arguments of a command line, up to the first one that is no flag. The error of a
-// value that a flag refuses names the flag, the value and what to write. The error of an unknown flag refers to --help. If help was requested it returns flag.ErrHelp.
+// value that a flag refuses names the flag, the value and what to write. The error of an unknown flag refers to --help.
+// If help was requested it returns flag.ErrHelp.
 func ParseArguments(flags *flag.FlagSet, arguments []string) error {
 	err := flags.Parse(arguments)
 	if err == nil || errors.Is(err, flag.ErrHelp) {
