@@ -230,6 +230,7 @@ func TestStatus(t *testing.T) {
 		{[]string{"/absent", l.key}, statusUsage, "", "no such file"},
 		{[]string{l.folder, "/absent"}, statusUsage, "", "no such file"},
 		{[]string{l.folder, l.key, "/absent"}, statusUsage, "", "no such file"},
+		{[]string{l.folder, l.key, l.key}, statusUsage, "", "ctaudit: " + l.key + ": not an answers file of ctload: line 1: "},
 		{[]string{l.folder, file(t)}, statusUsage, "", "is not a public key in PEM"},
 		{[]string{l.folder}, statusUsage, "", "write ctaudit fsck FOLDER|s3://.. KEY.PEM [ANSWERS..];"},
 		{nil, statusUsage, "", "write ctaudit fsck FOLDER|s3://.. KEY.PEM [ANSWERS..];"},

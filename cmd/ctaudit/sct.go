@@ -48,10 +48,10 @@ func runSCT(ctx context.Context, arguments []string, out io.Writer) error {
 	var scts []ct.SCT
 	if *sctFile != "" {
 		content, err := readSmall(*sctFile)
-		if err == nil {
-			scts, err = ct.ReadSCTs(content)
-		}
 		if err != nil {
+			return err
+		}
+		if scts, err = ct.ReadSCTs(content); err != nil {
 			return fmt.Errorf("%w: --sct %s: %w", errUsage, *sctFile, err)
 		}
 	}
