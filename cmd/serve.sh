@@ -16,7 +16,7 @@ for taken in "$port" "$((port + 1))"; do
     exit 1
   fi
 done
-# A log is made once: a log whose objects are there and whose register isn't would be another one of that name.
+# A log is made once: a log whose objects exist and whose lock does not exist would be another one of that name.
 if [ ! -e "$folder/made" ] && [ -n "$(ls -A "$folder" 2>/dev/null)" ]; then
   echo "serve.sh: $folder isn't a log that serve.sh made, or is incomplete (remove it and run this again: rm -r $folder)" >&2
   exit 1

@@ -78,7 +78,7 @@ func TestRefusesPlacesWithoutHeads(t *testing.T) {
 		{nonsense, named, statusUsage, "ctaudit: " + nonsense + " has no tree head (give "},
 		{empty, named, statusUsage, "ctaudit: " + empty + " has no tree head (give "},
 		{address + "/absent", named, statusUnread, "ctaudit: " + address + "/absent: "},
-		{heads, []string{"--log", address + " " + key}, statusUnknownLog, "(name a log that has checkpoints as tiled+ADDRESS,"},
+		{heads, []string{"--log", address + " " + key}, statusUnknownLog, "(name a log that has checkpoints as tiled+"},
 	} {
 		status, out, faults := ctaudit(t, append([]string{"compare", of.place}, of.named...)...)
 		if status != of.status || !strings.Contains(faults, of.text) {

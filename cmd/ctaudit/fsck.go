@@ -170,16 +170,16 @@ func readAnswers(name string, answers []judge.Answer) ([]judge.Answer, error) {
 			err = json.Unmarshal(lines.Bytes(), &fields)
 		}
 		if err != nil {
-			return nil, fmt.Errorf("ctaudit: %s: not an answers file of ctload: line %d: %w", name, number, err)
+			return nil, fmt.Errorf("%w: %s: not an answers file of ctload: line %d: %w", errUsage, name, number, err)
 		}
 		if field := missing(fields); field != "" {
-			return nil, fmt.Errorf("ctaudit: %s: not an answers file of ctload: line %d has no field %s "+
-				"(ctaudit sct --sct checks an answer of add-chain)", name, number, field)
+			return nil, fmt.Errorf("%w: %s: not an answers file of ctload: line %d has no field %s "+
+				"(ctaudit sct --sct checks an answer of add-chain)", errUsage, name, number, field)
 		}
 		answers = append(answers, a)
 	}
 	if err := lines.Err(); err != nil {
-		return nil, fmt.Errorf("ctaudit: %s: line %d: %w (a line has at most %d bytes)", name, number, err, maxLine)
+		return nil, fmt.Errorf("%w: %s: line %d: %w (a line has at most %d bytes)", errUsage, name, number, err, maxLine)
 	}
 	return answers, nil
 }

@@ -17,6 +17,7 @@ import (
 	"wagtenib/internal/command/version"
 	"wagtenib/internal/log/chain"
 	"wagtenib/internal/logclient"
+	"wagtenib/internal/watch/logflags"
 )
 
 // probePage is what `ctaudit probe --help` prints before the flags.
@@ -126,6 +127,7 @@ func (p *probeFlags) options(address string) (options probe.Options, err error) 
 	if options.Client, err = logclient.OptionsOf("ctaudit", version.Number(), p.ca, p.contact); err != nil {
 		return options, err
 	}
+	options.Client.Retrying = logflags.PrintRetries("ctaudit", os.Stderr)
 	if p.roots != "" {
 		roots, err := chain.RootFiles{Paths: strings.Split(p.roots, ",")}.Load()
 		if err != nil {

@@ -48,10 +48,10 @@ func runSCT(ctx context.Context, arguments []string, out io.Writer) error {
 	var scts []ct.SCT
 	if *sctFile != "" {
 		content, err := readSmall(*sctFile)
-		if err == nil {
-			scts, err = ct.ReadSCTs(content)
-		}
 		if err != nil {
+			return err
+		}
+		if scts, err = ct.ReadSCTs(content); err != nil {
 			return fmt.Errorf("%w: --sct %s: %w", errUsage, *sctFile, err)
 		}
 	}
@@ -103,7 +103,8 @@ func readPair(certificateFile, issuerFile string) (certificate, issuer []byte, e
 
 // unreadable returns the error for a file without a certificate.
 func unreadable(file string, err error) error {
-	return fmt.Errorf("%w: %s: %w (give a file with the certificate, and that of its issuer after it, in PEM)", errUsage, file, err)
+	return fmt.Errorf("%w: %s: %w (give a file with the certificate, and that of its issuer after it, in PEM)", errUsage,
+		file, err)
 }
 
 // readSmall returns the bytes of a file, or an error if it is too long.

@@ -134,8 +134,11 @@ func TestRefusesToAudit(t *testing.T) {
 	for file, expected := range map[string]struct {
 		status int
 		text   string
-	}{plain: {statusUsage, "has no timestamps (SCTs) (give "}, nonsense: {statusUsage, "cannot be read (give a file "}, "/absent": {statusUsage,
-		"no such file"}} {
+	}{
+		plain:     {statusUsage, "has no timestamps (SCTs) (give "},
+		nonsense:  {statusUsage, "cannot be read (give a file "},
+		"/absent": {statusUsage, "no such file"},
+	} {
 		status, _, faults := ctaudit(t, append([]string{"sct", file}, logArguments(t, log)...)...)
 		if status != expected.status || !strings.Contains(faults, expected.text) {
 			t.Errorf("%s: status %d: %s", file, status, faults)

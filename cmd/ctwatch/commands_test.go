@@ -75,6 +75,11 @@ func TestRefusesSettings(t *testing.T) {
 			t.Errorf("%q: status %d, %q, and not %q", log, status, faults, remedy)
 		}
 	}
+	if status, _, faults := ctwatch(t, "run", "--folder", folder, "--keep", filepath.Join(folder, "mirror"), "--log",
+		"https://a.example "+key); status != statusUsage || !strings.Contains(faults, "--keep mirrors tiled logs") ||
+		!strings.Contains(faults, "write tiled+https://") {
+		t.Errorf("a mirror of a log without tiles: status %d, %q", status, faults)
+	}
 	if _, err := os.Stat(folder); !os.IsNotExist(err) {
 		t.Errorf("a run that is refused has created its folder: %v", err)
 	}

@@ -13,6 +13,7 @@ import (
 	"time"
 
 	"wagtenib/internal/command/settingsfile"
+	"wagtenib/internal/watch"
 	"wagtenib/internal/watch/logflags"
 	"wagtenib/internal/watch/namesearch"
 	"wagtenib/internal/watch/watchstore"
@@ -155,6 +156,9 @@ func (s *settings) validate() error {
 		return errors.New("--renewals needs a name that is watched exactly (write --name =www.example.org too)")
 	case s.folder == "":
 		return errors.New("--folder is empty (write the folder of the store)")
+	case s.logs.mirror != "" && s.logs.List == "" && len(s.logs.Only) > 0 &&
+		!slices.ContainsFunc(s.logs.Only, watch.Log.IsTiled):
+		return errors.New("--keep mirrors tiled logs, and no log of --log is one (write tiled+https://HOST/PATH KEY-FILE)")
 	}
 	if !slices.Contains([]watchstore.Unread{watchstore.UnreadAll, watchstore.UnreadMentioned, watchstore.UnreadNone},
 		watchstore.Unread(s.unread)) {

@@ -28,15 +28,15 @@ func LoadCertificate(certificate, key string) (*Certificate, error) {
 func (c *Certificate) Reload() error {
 	certificate, err := os.ReadFile(c.certificate)
 	if err != nil {
-		return fmt.Errorf("web: TLS certificate: %w", err)
+		return fmt.Errorf("TLS certificate: %w", err)
 	}
 	key, err := privatefile.Read(c.key, "the key of a TLS certificate", maxKeyFile)
 	if err != nil {
-		return fmt.Errorf("web: TLS certificate: %w", err)
+		return fmt.Errorf("TLS certificate: %w", err)
 	}
 	pair, err := tls.X509KeyPair(certificate, key)
 	if err != nil {
-		return fmt.Errorf("web: TLS certificate: %w", err)
+		return fmt.Errorf("TLS certificate: %w", err)
 	}
 	c.pair.Store(&pair)
 	return nil
