@@ -4,7 +4,6 @@ import (
 	"context"
 	"crypto/sha256"
 	"crypto/x509"
-	"errors"
 	"fmt"
 	"sync"
 
@@ -29,7 +28,7 @@ const (
 	Overdue                   // the deadline is over, and the newest head, which is too old, was signed before it
 	Future                    // the timestamp is later than the time at which it was seen
 	LaterEntry                // the log has the leaf, which is later than the head that covers it
-	Never                     // the log broke its promise, or did not sign it
+	Never                     // the log broke its promise, or did not sign the timestamp
 )
 
 // String returns the name of an outcome.
@@ -155,10 +154,8 @@ func (a *Auditor) one(ctx context.Context, sct ct.SCT, leafOf func(ct.SCT) ([]by
 	if err != nil {
 		return finish(NoAnswer, "%v", err)
 	}
+	// A head that the log's key did not sign is no evidence against the log.
 	head, err := reader.Head(ctx)
-	if errors.Is(err, ct.ErrSigner) {
-		return finish(Never, "the log's key did not sign the head: %v", err)
-	}
 	if err != nil {
 		return finish(NoAnswer, "%v", err)
 	}

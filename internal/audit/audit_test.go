@@ -268,6 +268,20 @@ func TestRefusesCertificates(t *testing.T) {
 	}
 }
 
+// TestForeignHeadAccusesNobody: a checkpoint of another origin is no evidence against the log, which may have been asked
+// for by a wrong name.
+func TestForeignHeadAccusesNobody(t *testing.T) {
+	a := newAuthority()
+	log := newLog(t, append(others(3), a.entry()), epoch+1)
+	watched := serve(t, log, "tiled")
+	watched.Origin = "another.example"
+	results, err := audit.New([]watch.Log{watched}, quick).Certificate(context.Background(),
+		a.issueWith(log.SCT(a.entry(), 3)), a.Root.Raw)
+	if err != nil || results[0].Outcome != audit.NoAnswer || results[0].Evidence != nil {
+		t.Errorf("%v, %v", results, err)
+	}
+}
+
 // A timestamp that a log returned is audited with the submitted certificate, in each form that ReadSCTs reads.
 func TestAuditsReturnedTimestamps(t *testing.T) {
 	a := newAuthority()
