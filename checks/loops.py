@@ -43,6 +43,7 @@ BY_NAME = {
     ("json_lines/src/lines.rt", "READS"): "it reads to the end of a line of the input",
     ("ct_subtrees/src/covering.rt", "before / 2 < node / 2"): "each turn halves both numbers",
     ("ct_subtrees/src/covering.rt", "width / 2 >= count"): "each turn halves the width",
+    ("ct_subtrees/src/descent.rt", "!part.place.is_all()"): "the result counts the turns, and the contract says that it is at most 64",
     ("ct_subtrees/src/range.rt", "count > 1"): "each turn halves the count",
     ("ct_verify/src/place.rt", "place.node % 2 == 0 && place.node > 0"): "up halves the node",
     ("ct_verify/src/place.rt", "place.node % 2 == 1"): "up halves the node",

@@ -1,11 +1,13 @@
 -- The parts of a tree on the walk from its root down to a subtree.
-use Rattle.std.proofs.Common.{◌≡◌, ℕ, zero, suc, ◌+◌, ◌-◌, ◌<◌, ◌≤◌, refl, sym, ◌∙◌, ap, arith, ⊎_elim, if◌then◌else◌, cond, Bool, true, false, List, [], ◌∷◌, subst}
+use Rattle.std.proofs.Common.{◌≡◌, ℕ, zero, suc, ◌+◌, ◌-◌, ◌^◌, ◌<◌, ◌≤◌, refl, sym, ◌∙◌, ap, arith, ⊎_elim, if◌then◌else◌, cond, Bool, true, false, List, [], ◌∷◌, subst}
+use Rattle.std.proofs.Math.Nat.{pow-le-pow_right}
 use Rattle.std.proofs.lemmas.Bool.{both_ways, cases_lt, lt-ltb, le-ltb}
+use Rattle.ct_tree.proofs.Split.{split_is, split_lt, split_half}
 use Rattle.ct_tree.specs.Tree.{split}
 use Rattle.ct_subtrees.specs.Subtrees.{is_whole, subtree_length}
 use Rattle.ct_subtrees.specs.Walk.{is_split, part_below, part_at, PartYields}
 use Rattle.ct_subtrees.specs.declared.descent.Part.{Part}
-use Rattle.ct_subtrees.proofs.Whole.{Part as Case, all, first_part, second_part, both_parts, part, whole_is, whole_means}
+use Rattle.ct_subtrees.proofs.Whole.{Part as Case, all, first_part, second_part, both_parts, part, whole_is, whole_means, many}
 use Rattle.ct_subtrees.proofs.Down.{roots-known, roots-given}
 use Rattle.ct_subtrees.proofs.Length.{length-whole, length-left, length-right, length-both}
 
@@ -115,7 +117,7 @@ length_at zero t f s = omega arith
 length_at (suc d) t f s =
     omega (arith, length_at d t f (λ i l. s i (omega arith)), length_below (part_at d t) (fits_at d t f) (s d (omega arith)))
 
--- if all parts above a depth are split and the part there is too, then so are all parts down to it
+-- all parts down to a depth are split, if the part there is split and those above it are
 pub split_next : (d : ℕ) (t : Part) → ((i : ℕ) → i < d → is_split (part_at i t) ≡ true) → is_split (part_at d t) ≡ true
     → (i : ℕ) → i < d + 1 → is_split (part_at i t) ≡ true
 split_next d t s last i l =
@@ -148,3 +150,42 @@ pub length_given : (d : ℕ) (t : Part) → Fits t → ((i : ℕ) → i < d → 
 length_given d t f s w k =
     let a = length_whole_part (part_at d t) (fits_at d t f) w ∙ ap (λ b. cond b 0 1) k in
     omega (arith, length_at d t f s, a)
+
+-- ---- each level down halves the number that a part's size does not exceed
+split_fits : (j n : ℕ) → 1 < n → n ≤ 2 ^ suc j → split n ≤ 2 ^ j
+split_fits j n m l =
+    let p = (split_is n m).power in
+    ⊎_elim
+    (λ (h : j < p.exponent).
+    let two : 0 < 2 = omega arith in
+    let i : suc j ≤ p.exponent = h in
+    absurd (omega (arith, p.is, pow-le-pow_right two i, split_lt n m)))
+    (λ (h : p.exponent ≤ j). let two : 0 < 2 = omega arith in omega (arith, p.is, pow-le-pow_right two h))
+    (cases_lt j p.exponent)
+
+size_case : (j : ℕ) (t : Part) → Fits t → whole_part t ≡ false → t.place.size ≤ 2 ^ suc j → Case t.place.start t.place.end t.place.size
+    → (part_below t).place.size ≤ 2 ^ j
+size_case j t f v l (all z g) = absurd (both_ways (whole_part t) v (whole_is t.place.start t.place.end t.place.size z (omega arith)))
+size_case j t f v l (first_part m w low) =
+    subst (λ (u : Part). u.place.size ≤ 2 ^ j) (below-left t (split t.place.size) w refl low) (split_fits j t.place.size m l)
+size_case j t f v l (second_part m w high) =
+    subst (λ (u : Part). u.place.size ≤ 2 ^ j) (below-right t (split t.place.size) w refl high f.0)
+    (omega (arith, split_half t.place.size m, split_fits j t.place.size m l))
+size_case j t f v l (both_parts m w before over) =
+    subst (λ (u : Part). u.place.size ≤ 2 ^ j) (below-both t (split t.place.size) w refl before over)
+    (omega (arith, split_half t.place.size m, split_fits j t.place.size m l))
+
+pub halves_below : (d : ℕ) (t : Part) → d ≤ 64 → t.place.size ≤ 2 ^ (64 - d) → Fits t → is_split t ≡ true
+    → (d < 64) × ((part_below t).place.size ≤ 2 ^ (64 - (d + 1)))
+halves_below d t k l f s =
+    let v = split_means t s in
+    let m = many t.place.start t.place.end t.place.size f.0 f.1 v in
+    ⊎_elim
+    (λ (h : d < 64).
+    let e : 64 - d ≡ suc (64 - (d + 1)) = omega arith in
+    (h, size_case (64 - (d + 1)) t f v (subst (λ x. t.place.size ≤ 2 ^ x) e l) (case_of t f)))
+    (λ (h : 64 ≤ d).
+    let e : 64 - d ≡ 0 = omega arith in
+    let one : t.place.size ≤ 1 = subst (λ x. t.place.size ≤ 2 ^ x) e l in
+    absurd (omega (arith, m, one)))
+    (cases_lt d 64)

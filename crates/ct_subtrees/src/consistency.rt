@@ -55,6 +55,7 @@ fn climb<H: NodeHash>(
 ) -> Result<Hashes, SubtreeFault>
     requires some { tree.place.start < tree.place.end }
     requires inside { tree.place.end ≤ tree.place.size }
+    requires few { depth ≤ 64 }
     requires split { (d : ℕ) → d < depth → is_split (part_at d tree) ≡ true }
     ensures { MatchResult result
         (λ z. (r : List ℕ) (q : List (List ℕ)) → PartYields H.digest (part_at depth tree) r q (lowest.now, lowest.now)

@@ -77,6 +77,7 @@ impl Part {
     pub(crate) fn at(self, depth: usize) -> Part
         requires some { self.place.start < self.place.end }
         requires inside { self.place.end ≤ self.place.size }
+        requires few { depth ≤ 64 }
         ensures some { result.place.start < result.place.end }
         ensures inside { result.place.end ≤ result.place.size }
         ensures part { result ≡ part_at depth self }
@@ -94,6 +95,7 @@ impl Part {
         requires inside { self.place.end ≤ self.place.size }
         ensures whole { is_split (part_at result self) ≡ false }
         ensures split { (d : ℕ) → d < result → is_split (part_at d self) ≡ true }
+        ensures few { result ≤ 64 }
     {
         let mut part = self;
         let mut depth = 0;
